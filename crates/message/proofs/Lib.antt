@@ -1,0 +1,7 @@
+pub mod Tables
+pub mod Shapes
+pub mod Headers
+pub mod Elements
+pub mod Bodies
+pub mod Readings
+pub mod Shows
