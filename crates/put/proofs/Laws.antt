@@ -75,3 +75,11 @@ copy-step d at v i h k = rw add-one (paste-suc d at v i 0 (omega arith) k)
 
 pub as-number : {d d' : List ℕ} {at x y next : ℕ} (k : ℕ) → x ≡ y → Written d at k (octetsOf k x) d' next → Written d at k (octetsOf k y) d' next
 as-number {x} {y} k e w = rw (← e) w
+
+-- the room that is left behind the fields put so far
+pub wrote-room : {d d2 : List ℕ} {vs : List (List ℕ)} {at a2 : ℕ} (n m : ℕ) → Wrote d at vs d2 a2 → length (joined vs) ≡ n → at + (n + m) ≤ length d → a2 + m ≤ length d2
+wrote-room {d} {d2} {vs} {at} n m w e h =
+    let a = wrote-after w in
+    let k : at + length (joined vs) ≤ length d = omega arith in
+    let l : length d2 ≡ length d = ap length (wrote-holds w k) ∙ length-put d at (joined vs) k in
+    omega arith
