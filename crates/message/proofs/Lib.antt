@@ -5,3 +5,4 @@ pub mod Elements
 pub mod Bodies
 pub mod Readings
 pub mod Shows
+pub mod Local

@@ -8,7 +8,7 @@ use mathlib.Core.List.{List, [], _∷_, _++_}
 use native.Mathlib.Omega.{arith}
 use Rattle.octets.proofs.Same.{both}
 use Rattle.message.specs.declared.Header.{Header}
-use Rattle.message.specs.Check.{Row, allPass, firstFailing, Verdict, read, refused, verdict}
+use Rattle.message.specs.Check.{Row, allPass, firstFailing, FirstFails, Verdict, read, refused, verdict}
 
 pub which : (b : Bool) → (b ≡ true) ⊎ (b ≡ false)
 which true = inl refl
@@ -41,11 +41,6 @@ pass-cut (x ∷ xs) ys e =
 pub pass-append : (xs ys : List Row) → allPass xs ≡ true → allPass ys ≡ true → allPass (xs ++ ys) ≡ true
 pass-append [] ys e f = f
 pass-append (x ∷ xs) ys e f = let b = both (x .test) (allPass xs) e in rw (b .0) (pass-append xs ys (b .1) f)
-
--- row n is the first of the table that fails
-abbrev pub FirstFails : ℕ → List Row → Type 0
-FirstFails n [] = ⊥
-FirstFails n (r ∷ rs) = ((r .test ≡ false) × (r .number ≡ n)) ⊎ ((r .test ≡ true) × FirstFails n rs)
 
 -- a table refuses with a number exactly when that number's row is the first to fail
 pub refuses-first : (rs : List Row) → allPass rs ≡ false → FirstFails (firstFailing rs) rs

@@ -3,6 +3,7 @@
 -- Glossary
 --   Row                 a test, with the number that refuses where it fails
 --   allPass             every test of a table holds; firstFailing: the number of the first that fails, 0 where none does
+--   FirstFails n rs     the first test of a table that fails has the number n
 --   commonRows n h      2 to 6, of a head with n octets left from the message's first on
 --   padRows             9; the one place that speaks of pads
 --   contentRows         10 to 13, of a message of `len` octets
@@ -12,6 +13,7 @@
 use Prim.Native.Nat.{ℕ, zero, suc, _+_, _≤_}
 use mathlib.Core.Path.{_≡_}
 use mathlib.Core.Bool.{Bool, true, false, cond, not, _&&_}
+use mathlib.Core.Logic.{_⊎_}
 use mathlib.Core.List.{List, [], _∷_, _++_}
 use lib.ListN.{length, getD}
 use lib.Dec.{leb, eqb}
@@ -34,6 +36,11 @@ allPass (r ∷ rs) = r .test && allPass rs
 abbrev pub firstFailing : List Row → ℕ
 firstFailing [] = 0
 firstFailing (r ∷ rs) = cond (r .test) (firstFailing rs) (r .number)
+
+-- "given exactly when": the number's test is the first that fails, in the table's order
+abbrev pub FirstFails : ℕ → List Row → Type 0
+FirstFails n [] = ⊥
+FirstFails n (r ∷ rs) = ((r .test ≡ false) × (r .number ≡ n)) ⊎ ((r .test ≡ true) × FirstFails n rs)
 
 -- "NEGOEXTS", as a little-endian number
 abbrev pub SIGNATURE : ℕ

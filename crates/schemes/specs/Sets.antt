@@ -1,0 +1,67 @@
+-- The two sets of 16 bits and the initiator's kept places. Document 01, "Who may send what, and when".
+--
+-- Glossary
+--   commonSet own peer   the acceptor's common schemes: bit k for place k of the own list
+--   left own c m         the own schemes at the bits of c less those of m, in the own order
+--   keptPlaces own l     the own places of the reply's different own schemes, in the order of their first mention
+--   ones n               the lowest n bits
+--   openPlaces ks c m    the kept places at the bits of c, less those whose own place m marks
+--   named own ks         the schemes at places of the own list
+--   below n m            the set m has no bit from n on; keptBelow: no kept place at a bit of c is n or more
+--   padTo n l            l with zeros behind it, n numbers in all
+use Prim.Native.Nat.{ℕ, zero, suc, _+_, _*_, _-_, _/_, _^_}
+use mathlib.Core.Bool.{Bool, true, false, cond, not, _&&_, _||_}
+use mathlib.Core.List.{List, [], _∷_, _++_, map}
+use lib.ListN.{length, getD, replicate}
+use lib.Dec.{eqb, ltb}
+use Rattle.schemes.specs.Lists.{Id, mem, place, bit}
+
+-- "and the common schemes: at the acceptor by the same places"
+unfoldable pub commonSet : List Id → List Id → ℕ
+commonSet [] peer = 0
+commonSet (x ∷ l) peer = cond (mem x peer) 1 0 + 2 * commonSet l peer
+
+unfoldable pub left : List Id → ℕ → ℕ → List Id
+left [] c m = []
+left (x ∷ l) c m = cond (bit c 0 && not (bit m 0)) (x ∷ left l (c / 2) (m / 2)) (left l (c / 2) (m / 2))
+
+-- a place stands among places
+unfoldable pub has : ℕ → List ℕ → Bool
+has p [] = false
+has p (q ∷ qs) = eqb p q || has p qs
+
+-- ps with p at the end, where p is one of n places and not there yet
+abbrev pub noted : ℕ → ℕ → List ℕ → List ℕ
+noted n p ps = cond (ltb p n && not (has p ps)) (ps ++ (p ∷ [])) ps
+
+-- the places in own of the ids of a list, in the order of their first mention, behind ps
+unfoldable pub mentions : List Id → List Id → List ℕ → List ℕ
+mentions own [] ps = ps
+mentions own (y ∷ ys) ps = mentions own ys (noted (length own) (place own y) ps)
+
+-- "at the initiator bit k for the k-th different own scheme of the reply, whose own places the record keeps in that order"; "A peer's list may be of
+-- any length and may repeat a scheme; the first mention counts."
+abbrev pub keptPlaces : List Id → List Id → List ℕ
+keptPlaces own reply = mentions own reply []
+
+unfoldable pub ones : ℕ → ℕ
+ones zero = 0
+ones (suc n) = 1 + 2 * ones n
+
+unfoldable pub openPlaces : List ℕ → ℕ → ℕ → List ℕ
+openPlaces [] c m = []
+openPlaces (k ∷ ks) c m = cond (bit c 0 && not (bit m k)) (k ∷ openPlaces ks (c / 2) m) (openPlaces ks (c / 2) m)
+
+abbrev pub named : List Id → List ℕ → List Id
+named own ks = map (λ k. getD own k []) ks
+
+-- "a set or a kept or chosen place goes beyond the list"
+abbrev pub below : ℕ → ℕ → Bool
+below n m = ltb m (2 ^ n)
+
+unfoldable pub keptBelow : ℕ → List ℕ → ℕ → Bool
+keptBelow n [] c = true
+keptBelow n (k ∷ ks) c = (not (bit c 0) || ltb k n) && keptBelow n ks (c / 2)
+
+abbrev pub padTo : ℕ → List ℕ → List ℕ
+padTo n l = l ++ replicate (n - length l) 0

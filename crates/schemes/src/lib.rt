@@ -1,0 +1,1 @@
+// Lists of schemes and sets of their places.
