@@ -6,15 +6,9 @@ use Prim.Native.Nat.{ℕ, _+_}
 use native.Mathlib.Omega.{arith}
 use lib.ListN.{length, length-append}
 use Rattle.put.specs.Put.{joined}
+use Rattle.encode.specs.ReadBack.{Whole}
 use Rattle.encode.specs.declared.Heading.{Heading}
 use Rattle.encode.specs.Encode.{Offer, Payload, Checksum, Pulse, Contents, ofNego, ofExchange, ofVerify, ofAlert, headFields, sizeOf, encoded}
-
--- the ids have 16 octets, and random has 32
-abbrev pub Whole : Contents → Type 0
-Whole (ofNego o) = length (o .random) ≡ 32
-Whole (ofExchange p) = length (p .scheme) ≡ 16
-Whole (ofVerify k) = length (k .scheme) ≡ 16
-Whole (ofAlert p) = length (p .scheme) ≡ 16
 
 module _ (h : Heading) (id : length (h .conversation) ≡ 16) where
   pub length-head : (n : ℕ) → length (joined (headFields h n)) ≡ 40

@@ -12,7 +12,8 @@ use borrow.Author.Tests.{le-leb, lt-leb, eq-eqb, ne-eqb, leb-true}
 use Rattle.put.specs.Put.{put, Written}
 use Rattle.encode.specs.declared.Heading.{Heading}
 use Rattle.encode.specs.Encode.{Offer, Payload, Checksum, Pulse, Contents, ofNego, ofExchange, ofVerify, ofAlert, sizeOf, encoded, encodable, Outcome, written, unwritten, storing}
-use Rattle.encode.proofs.Sizes.{Whole, length-encoded}
+use Rattle.encode.specs.ReadBack.{Whole}
+use Rattle.encode.proofs.Sizes.{length-encoded}
 
 module _ (d : List ℕ) (at : ℕ) (h : Heading) where
   unencodable : (c : Contents) → encodable h c ≡ false → unwritten d ≡ storing d at h c
