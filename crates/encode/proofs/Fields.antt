@@ -1,15 +1,21 @@
 -- Reading a number, or octets, off fields that are joined: once over the width and the place.
 -- Assumes nothing.
-use Prim.Native.Nat.{ℕ, zero, suc, _+_, _*_, _/_, _%_, _^_, _<_, _≤_}
+use Prim.Native.Nat.{ℕ, zero, suc, _+_, _-_, _*_, _/_, _%_, _^_, _<_, _≤_}
 use mathlib.Core.Path.{_≡_, refl, sym, ap, _∙_}
+use mathlib.Core.Bool.{true}
 use mathlib.Core.List.{List, [], _∷_, _++_}
 use native.Mathlib.Nat.{zero-add, pow-succ'}
 use native.Mathlib.Omega.{arith}
 use lib.ListN.{length, take, drop, getD, take-append-drop}
 use lib.Seq.{getD-drop, take-at, drop-at}
-use Rattle.octets.specs.Octets.{le, octets}
+use lib.IntN.{ℤ, pos, negsuc}
+use lib.Signed.{mag}
+use borrow.Author.Tests.{lt-ltb, le-ltb}
+use Rattle.octets.specs.Octets.{le, octets, signed32}
 use Rattle.octets.proofs.Le.{le-add}
-use Rattle.put.specs.Put.{octetsOf, joined}
+use Rattle.vector.specs.declared.Vector.{Vector}
+use Rattle.vector.specs.Vector.{extent, keepsRule, shown}
+use Rattle.put.specs.Put.{octetsOf, unsigned32, joined}
 use Rattle.put.proofs.Laws.{joined-append}
 
 le-drop : (k : ℕ) (s : List ℕ) (at : ℕ) → le k s at ≡ le k (drop at s) 0
@@ -38,7 +44,7 @@ le-octets (suc k) x t h =
       whole : x % 256 + 256 * (x / 256) ≡ x
       whole = omega arith
 
-drop-joined : (i : ℕ) (fs : List (List ℕ)) (at : ℕ) → length (joined (take i fs)) ≡ at → drop at (joined fs) ≡ joined (drop i fs)
+pub drop-joined : (i : ℕ) (fs : List (List ℕ)) (at : ℕ) → length (joined (take i fs)) ≡ at → drop at (joined fs) ≡ joined (drop i fs)
 drop-joined i fs at e =
     ap (λ (l : List (List ℕ)). drop at (joined l)) (sym (take-append-drop i fs)) ∙ ap (drop at) (joined-append (take i fs) (drop i fs))
     ∙ drop-at (joined (take i fs)) (joined (drop i fs)) at e
@@ -51,3 +57,21 @@ module _ (i at : ℕ) (fs : List (List ℕ)) (starts : length (joined (take i fs
 
   pub octets-at : (f : List ℕ) (rest : List (List ℕ)) → drop i fs ≡ f ∷ rest → (n : ℕ) → length f ≡ n → octets n (joined fs) at ≡ f
   octets-at f rest e n h = ap (take n) (drop-joined i fs at starts ∙ ap joined e) ∙ take-at f (joined rest) n h
+
+-- a vector that keeps its rule shows the octets where it lies
+pub shown-field : (header : ℕ) (m f : List ℕ) (v : Vector) → keepsRule header (length m) v ≡ true → octets (extent v) m (v .offset .0) ≡ f → shown header m v ≡ f
+unfolding shown
+shown-field header m f v k e = rw k e
+
+-- two's complement, there and back
+pub signed-back : (z : ℤ) → mag z < 2147483648 → signed32 (unsigned32 z) ≡ z
+unfolding signed32
+signed-back (pos n) f = simp (lt-ltb _ _ f)
+signed-back (negsuc n) f =
+    let a : 2147483648 ≤ 4294967295 - n = omega arith in
+    let b : 4294967295 - (4294967295 - n) ≡ n = omega arith in
+    simp (le-ltb _ _ a) (ap negsuc b)
+
+pub unsigned-small : (z : ℤ) → mag z < 2147483648 → unsigned32 z < 4294967296
+unsigned-small (pos n) f = omega arith
+unsigned-small (negsuc n) f = omega arith
