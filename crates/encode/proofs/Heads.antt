@@ -65,7 +65,6 @@ header-small alert = omega arith
 
 -- the common header, whatever fields are behind it
 module _ (h : Heading) (n : ℕ) (fs : List (List ℕ)) (known : h .kind .0 ≤ 7) (number : h .sequence < 4294967296) (small : n < 4294967296) (id : length (h .conversation) ≡ 16) where
-
   pub head-fields : headOf (joined (headFields h n ++ fs)) ≡ record { signature = SIGNATURE; kind = h .kind .0; sequence = h .sequence; header = headerOf (shapeOf (h .kind .0)); length = n; conversation = h .conversation }
   unfolding headOf
   head-fields =

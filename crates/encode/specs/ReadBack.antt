@@ -7,6 +7,8 @@
 --   headRead, contentRead   the header and the content that reading finds
 --   Shows c m            what the vector readers hand back of the message m is what was written
 --   ReadsBack h c r      the written message, followed by any octets r, reads as what was written
+--   Outgoing             a message to write; octetsOfAll gives the written messages of a list
+--   InSequence q v ms    messages to write that are numbered on from q, of the conversation v
 use Prim.Native.Nat.{ℕ, _+_, _/_, _<_}
 use mathlib.Core.Path.{_≡_}
 use mathlib.Core.Bool.{true}
@@ -85,3 +87,18 @@ pub record ReadsBack (h : Heading) (c : Contents) (r : List ℕ) : Type 0 where
   pub content : contentOf (shapeFor c) (encoded h c) ≡ contentRead c
   pub verdict : messageVerdict (encoded h c ++ r) ≡ read (fieldsOf (headRead h c))
   pub shows : Shows c (encoded h c)
+
+pub record Outgoing : Type 0 where
+  pub heading : Heading
+  pub contents : Contents
+
+abbrev pub octetsOfAll : List Outgoing → List (List ℕ)
+octetsOfAll [] = []
+octetsOfAll (m ∷ ms) = encoded (m .heading) (m .contents) ∷ octetsOfAll ms
+
+-- "Sequence numbers .. rise by one"; one conversation
+abbrev pub InSequence : ℕ → List ℕ → List Outgoing → Type 0
+InSequence q v [] = Unit {0}
+InSequence q v (m ∷ ms) =
+    Sent (m .heading) (m .contents)
+    × ((m .heading .sequence ≡ q) × ((m .heading .conversation ≡ v) × InSequence (q + 1) v ms))
