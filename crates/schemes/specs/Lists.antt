@@ -9,10 +9,11 @@
 --   marked own m s     the own list's marks m have s: bit k for place k of the own list
 --   usable, leftOver   listed by both ends and marked by neither; the acceptor's list, with those only
 --   rule2              the choice: the first of them
---   ids octets         an own list's octets as ids; listOk: what 19 asks of an own list
+--   joinIds l          the octets of the schemes, one behind the other
+--   listOk octets      what 19 asks of an own list, handed over as octets
 use Prim.Native.Nat.{ℕ, zero, suc, _+_, _/_, _%_}
 use mathlib.Core.Bool.{Bool, true, false, cond, not, _&&_}
-use mathlib.Core.List.{List, [], _∷_}
+use mathlib.Core.List.{List, [], _∷_, _++_}
 use mathlib.Core.Option.{Option, none, some}
 use lib.ListN.{length}
 use lib.Dec.{eqb, leb}
@@ -64,6 +65,11 @@ rule2 acceptor initiator acceptorMarks initiatorMarks = first (leftOver acceptor
 -- "Own lists have 1 to 16 different schemes."
 abbrev pub oneTo16 : List Id → Bool
 oneTo16 l = leb 1 (length l) && leb (length l) 16 && distinct l
+
+-- the ids, one behind the other
+abbrev pub joinIds : List Id → List ℕ
+joinIds [] = []
+joinIds (x ∷ l) = x ++ joinIds l
 
 -- 19: "own list empty, above 16 or with a repeat"; an own list is handed over as its octets, 16 a scheme
 unfoldable pub listOk : List ℕ → Bool

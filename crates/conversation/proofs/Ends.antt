@@ -1,0 +1,612 @@
+-- Demand 3: an invariant of the two ends of a run, kept by every call, and what each call then answers.
+-- Assumes nothing.
+use Prim.Native.Nat.{ℕ, zero, suc, _+_, _*_, _≤_, _<_, _/_}
+use mathlib.Core.Path.{_≡_, refl, sym, ap, subst, _∙_}
+use mathlib.Core.Bool.{Bool, true, false, cond, not, _&&_, _||_}
+use mathlib.Core.Logic.{_⊎_, inl, inr}
+use mathlib.Core.List.{List, [], _∷_, _++_, List·Memᴰ, List·Memᴰ·head, List·Memᴰ·tail, List·Memᴰ·cases-cons, List·Memᴰ·not-nil, append-nil, append-assoc}
+use mathlib.Core.Option.{Option, none, some}
+use native.Mathlib.Omega.{arith}
+use lib.ListN.{length, take, drop, length-take, length-drop, length-append}
+use lib.Seq.{take-at, drop-at}
+use lib.Dec.{eqb, leb, ltb}
+use lib.IntN.{ℤ}
+use borrow.Author.Tests.{eqb-true, eqb-false, leb-true, ne-eqb, not-true}
+use Rattle.octets.specs.Octets.{octets}
+use Rattle.message.specs.Layout.{headOf}
+use Rattle.message.specs.Show.{idsAt}
+use Rattle.message.specs.Check.{Row, FirstFails}
+use Rattle.message.proofs.Tables.{which, AllTrue}
+use Rattle.encode.specs.declared.Heading.{Heading}
+use Rattle.encode.specs.Encode.{ofNego, encoded}
+use Rattle.schemes.specs.Lists.{Id, mem, distinct, first, keep, marked, usable, leftOver, rule2, oneTo16, joinIds}
+use Rattle.schemes.specs.Sets.{commonSet, left, keptPlaces, ones, openPlaces, named, below, padTo}
+use Rattle.schemes.specs.Longer.{Longer, SameMarks, NoLater}
+use Rattle.schemes.proofs.Choice.{no-true, and-l, and-r, still-usable, still-common, longer}
+use Rattle.schemes.proofs.Replies.{replyOf, left-keep, left-of-reply}
+use Rattle.conversation.specs.declared.Record.{Record}
+use Rattle.conversation.specs.declared.Answer.{Answer}
+use Rattle.conversation.specs.declared.Scan.{Scan}
+use Rattle.conversation.specs.State.{NONE, ownOf, replied, limitRows, fresh}
+use Rattle.conversation.specs.Turns.{NEGO, METADATA, EXCHANGE, VERIFY, ALERT, writing, reading, kindOf, typeOf, afterOpening, afterFurther, after, writes, reads, placeAfter, mayWrite, mayRead}
+use Rattle.conversation.specs.Outcomes.{Outcome, zeroId, answered, refused, decide, row, room, fits, WrittenAs, unchanged, wrote, appended}
+use Rattle.conversation.specs.Writing.{heading, messageOf, stageRows, offered, offering, someLeft, firstOr, replyMessage, naming, replying, metadataAllowed, metadataMessage, writingMetadata, schemeAllowed, exchangeMessage, askedBy, writingExchange, verifyMessage, writingVerify, alertMessage, writingAlert}
+use Rattle.conversation.specs.Admitting.{listedBy}
+use Rattle.conversation.specs.Reading.{conversationOf, Judged, whole, halted, judged, commonAfter, keptAfter, taken, finish, readingToken}
+use Rattle.conversation.specs.Choosing.{openTo, mayChoose, chose, choosing}
+use Rattle.conversation.specs.Runs.{Sized, Call, offer, reply, metadata, exchange, verify, alert, read, choose, End, act, turnAfter, moved, Opening, World, world, outcomeAt, next, Entry, run, marksIn, isAccepted, isLawful, listOf, MarksKept, Replied, Choice, Demand3}
+use Rattle.conversation.proofs.Rows.{decide-out, without, fails-other, fails-one, fails-each, fails-until, true-behind, front-true}
+use Rattle.conversation.proofs.Tokens.{Heads, heads-more, heads-here, empty-judged, First, judged-first, Other, judged-number}
+
+-- 1. the turn's table
+
+zero-cond : (b : Bool) → _≡_ {A = ℕ} (cond b 0 0) 0
+zero-cond true = refl
+zero-cond false = refl
+
+positive : (n : ℕ) → not (eqb n 0) ≡ true → 1 ≤ n
+positive zero e = no-true e
+positive (suc n) e = omega arith
+
+-- nothing is written while no token is
+none-written : (position : ℕ) (v : Bool) (kind : ℕ) → after 3 position v kind ≡ 0
+unfolding after
+none-written position v kind = zero-cond (eqb kind 4 && v)
+
+no-after : (n : ℕ) → n ≡ 0 → not (eqb n 0) ≡ true → ⊥
+no-after n e h = let w = positive n h in omega arith
+
+-- a turn begins with a NEGO
+abbrev NotFirst : ℕ → Type 0
+NotFirst kind = (token : ℕ) (v : Bool) → leb token 1 ≡ true → after token 0 v kind ≡ 0
+
+metadata-not-first : NotFirst METADATA
+unfolding after afterOpening
+metadata-not-first token v e = rw e
+
+exchange-not-first : NotFirst EXCHANGE
+unfolding after afterOpening
+exchange-not-first token v e = rw e
+
+verify-not-first : NotFirst VERIFY
+unfolding after afterOpening
+verify-not-first token true e = refl
+verify-not-first token false e = rw e
+
+alert-not-first : NotFirst ALERT
+unfolding after afterOpening
+alert-not-first token v e = rw e
+
+-- a NEGO stands at the start of the first token or of the reply
+nego-start : (token position : ℕ) (v : Bool) → not (eqb (after token position v NEGO) 0) ≡ true → (leb token 1 ≡ true) × (position ≡ 0)
+unfolding after afterOpening afterFurther
+nego-start token position v e = elim (which (leb token 1)) [
+  | inl a ↦ elim (which (eqb position 0)) [
+    | inl b ↦ (a, eqb-true _ _ b)
+    | inr b ↦ no-true (rw (a, b) at e)
+  ]
+  | inr a ↦ elim (which (eqb token 2)) [
+    | inl b ↦ no-true (rw (a, b) at e)
+    | inr b ↦ no-true (rw (a, b) at e)
+  ]
+]
+
+-- 2. the invariant
+
+-- the stages in which the two ends can be at once
+pub record Together (i a : ℕ) : Type 0 where
+  opening : i ≡ 0 → a ≤ 1
+  choosing′ : i ≡ 2 → a ≡ 1
+  later : i ≡ 3 → 1 ≤ a
+
+pub ok-distinct : (l : List Id) → oneTo16 l ≡ true → distinct l ≡ true
+ok-distinct l e = and-r (leb 1 (length l) && leb (length l) 16) (distinct l) e
+
+abbrev pub no17 : Answer → Type 0
+no17 a = a .refusal ≡ 17 → ⊥
+
+module _ (o : Opening) (Q : ℕ → Type 0)
+    (heads-offer : (r : Record) (random : Sized 32) → r .acceptor ≡ false → r .list ≡ padTo 256 (joinIds (o .initiator)) → r .count ≡ length (o .initiator) → r .conversation ≡ o .conversation .0 → AllTrue (limitRows r) → Heads 0 (o .initiator) (offered r (random .0)))
+    (heads-reply : (r : Record) (m : ℕ) (random : Sized 32) → r .acceptor ≡ true → ownOf r ≡ o .acceptor → length (r .conversation) ≡ 16 → AllTrue (limitRows r) → Heads 1 (left (o .acceptor) (r .common) m) (replyMessage r m (random .0)))
+  where
+    abbrev pub reply-of : ℕ → List Id
+    reply-of m = replyOf (o .acceptor) (o .initiator) m
+
+    -- the initiator: nothing written; a turn that begins with its NEGO; the reply read, as the acceptor wrote it with the marks ma; chosen
+    pub data IniAt (r : Record) (turn : List ℕ) : Type 0 where
+      ini-fresh : r .stage ≡ 0 → r .position ≡ 0 → turn ≡ [] → IniAt r turn
+      ini-open : r .stage ≡ 0 → 1 ≤ r .position → Heads 0 (o .initiator) turn → IniAt r turn
+      ini-choosing : r .stage ≡ 2 → turn ≡ [] → (ma : ℕ) → Q ma → r .kept ≡ padTo 16 (keptPlaces (o .initiator) (reply-of ma)) → r .common ≡ ones (length (keptPlaces (o .initiator) (reply-of ma))) → IniAt r turn
+      ini-later : r .stage ≡ 3 → IniAt r turn
+
+    pub record IniOk (e : End) : Type 0 where
+      role : e .record-of .acceptor ≡ false
+      own : ownOf (e .record-of) ≡ o .initiator
+      bytes : e .record-of .list ≡ padTo 256 (joinIds (o .initiator))
+      count : e .record-of .count ≡ length (o .initiator)
+      talk : e .record-of .conversation ≡ o .conversation .0
+      at : IniAt (e .record-of) (e .turn)
+
+    -- the acceptor: nothing read; the first token read; a turn that begins with its NEGO, written with the marks ma; a later token read
+    pub data AccAt (r : Record) (turn : List ℕ) : Type 0 where
+      acc-fresh : r .stage ≡ 0 → turn ≡ [] → AccAt r turn
+      acc-read : r .stage ≡ 1 → r .position ≡ 0 → r .common ≡ commonSet (o .acceptor) (o .initiator) → length (r .conversation) ≡ 16 → turn ≡ [] → AccAt r turn
+      acc-open : r .stage ≡ 1 → 1 ≤ r .position → (ma : ℕ) → Q ma → Heads 1 (reply-of ma) turn → AccAt r turn
+      acc-later : r .stage ≡ 3 → AccAt r turn
+
+    pub record AccOk (e : End) : Type 0 where
+      role : e .record-of .acceptor ≡ true
+      own : ownOf (e .record-of) ≡ o .acceptor
+      at : AccAt (e .record-of) (e .turn)
+
+    pub record Ok (w : World) : Type 0 where
+      ini-ok : IniOk (w .i)
+      acc-ok : AccOk (w .a)
+      stages : Together (w .i .record-of .stage) (w .a .record-of .stage)
+
+    -- 3. what each call answers
+
+    abbrev pub ChooseSays : ℕ → Answer → Type 0
+    ChooseSays m a =
+        (a .refusal ≡ 17 → (ma : ℕ) × (Q ma × (leftOver (o .acceptor) (o .initiator) ma m ≡ [])))
+        × (isAccepted a ≡ true → (ma : ℕ) × (Q ma × (rule2 (o .acceptor) (o .initiator) ma m ≡ some (a .choice))))
+        × (isLawful a ≡ true → (a .refusal ≡ 17) ⊎ (isAccepted a ≡ true))
+
+    -- refused, by another number than 17, and not lawful
+    abbrev pub Barred : Answer → Type 0
+    Barred a = (a .refusal ≡ 17 → ⊥) × (isLawful a ≡ false) × (isAccepted a ≡ false)
+
+    abbrev pub IniSays : Call → Answer → Type 0
+    IniSays (offer random) a = no17 a
+    IniSays (reply m random) a = no17 a
+    IniSays (metadata id value) a = no17 a
+    IniSays (exchange value) a = no17 a
+    IniSays (verify type value) a = no17 a
+    IniSays (alert code) a = no17 a
+    IniSays read a = no17 a
+    IniSays (choose m) a = ChooseSays m a
+
+    abbrev pub AccSays : Call → Answer → Type 0
+    AccSays (offer random) a = no17 a
+    AccSays (reply m random) a = a .refusal ≡ 17 → reply-of m ≡ []
+    AccSays (metadata id value) a = no17 a
+    AccSays (exchange value) a = no17 a
+    AccSays (verify type value) a = no17 a
+    AccSays (alert code) a = no17 a
+    AccSays read a = no17 a
+    AccSays (choose m) a = Barred a
+
+    abbrev pub Fair : Bool → Call → Answer → Type 0
+    Fair false k a = IniSays k a
+    Fair true k a = AccSays k a
+
+    -- the marks of an acceptor's NEGO that is written have Q
+    abbrev pub AskAcc : Call → Answer → Type 0
+    AskAcc (offer random) a = Unit {0}
+    AskAcc (reply m random) a = isAccepted a ≡ true → Q m
+    AskAcc (metadata id value) a = Unit {0}
+    AskAcc (exchange value) a = Unit {0}
+    AskAcc (verify type value) a = Unit {0}
+    AskAcc (alert code) a = Unit {0}
+    AskAcc read a = Unit {0}
+    AskAcc (choose m) a = Unit {0}
+
+    abbrev pub Ask : Bool → Call → Answer → Type 0
+    Ask false k a = Unit {0}
+    Ask true k a = AskAcc k a
+
+    -- 4. the initiator's calls
+
+    module _ (e f : End) (ok : IniOk e) (ok′ : AccOk f) (tg : Together (e .record-of .stage) (f .record-of .stage)) where
+      abbrev r : Record
+      r = e .record-of
+
+      abbrev d : List ℕ
+      d = e .transcript
+
+      record IniGoal (k : Call) (P : Answer → Type 0) (out : Outcome) : Type 0 where
+        then-ok : IniOk (moved e k out)
+        then-together : Together (out .answer .next .stage) (f .record-of .stage)
+        fair : P (out .answer)
+
+      ini-refused : (k : Call) (P : Answer → Type 0) (n p : ℕ) → (n ≡ 0 → ⊥) → P (answered n p r) → IniGoal k P (refused r d n p)
+      ini-refused k P n p z h = record {
+        then-ok = record { role = ok .role; own = ok .own; bytes = ok .bytes; count = ok .count; talk = ok .talk; at = rw (ne-eqb n 0 z) (ok .at) };
+        then-together = tg;
+        fair = h;
+      }
+
+      -- a refusal by a table that has no 17
+      ini-stopped : (k : Call) (rows : List Row) → without 0 rows ≡ true → without 17 rows ≡ true → (n : ℕ) → FirstFails n rows → IniGoal k no17 (refused r d n 0)
+      ini-stopped k rows z s n g = ini-refused k no17 n 0 (fails-other 0 rows n z g) (λ q. fails-other 17 rows n s g q)
+
+      -- a message behind the NEGO
+      ini-more : (kind n : ℕ) (w : WrittenAs) (x : List ℕ) → NotFirst kind → mayWrite r kind ≡ true → IniAt r (e .turn) → IniAt (wrote r (placeAfter r kind) n w) (e .turn ++ x)
+      unfolding writing
+      ini-more kind n w x nf h (ini-fresh st p t) =
+          absurd (no-after _ (nf 0 (r .verified) refl) (let h′ : not (eqb (after (writing false 0) 0 (r .verified) kind) 0) ≡ true = rw (ok .role, st, p) at h in h′))
+      ini-more kind n w x nf h (ini-open st p t) = ini-open st (positive (placeAfter r kind) h) (heads-more 0 (o .initiator) (e .turn) x t)
+      ini-more kind n w x nf h (ini-choosing st t ma q ks c) =
+          absurd (no-after _ (none-written (r .position) (r .verified) kind) (let h′ : not (eqb (after (writing false 2) (r .position) (r .verified) kind) 0) ≡ true = rw (ok .role, st) at h in h′))
+      ini-more kind n w x nf h (ini-later st) = ini-later st
+
+      ini-write : (k : Call) (kind : ℕ) (more : List Row) (x : List ℕ) (w : WrittenAs) → NotFirst kind → turnAfter e k ≡ e .turn ++ x → without 0 more ≡ true → without 17 more ≡ true → IniGoal k no17 (decide (stageRows r kind ++ more) r d (appended r d (placeAfter r kind) x w))
+      ini-write k kind more x w nf t z s =
+          decide-out (IniGoal k no17) (stageRows r kind ++ more) r d (appended r d (placeAfter r kind) x w)
+          (ini-stopped k (stageRows r kind ++ more) z s)
+          (λ g. record {
+            then-ok = record { role = ok .role; own = ok .own; bytes = ok .bytes; count = ok .count; talk = ok .talk; at = rw t (ini-more kind (length x) w x nf (true-behind (limitRows r) (row 18 (mayWrite r kind)) more g) (ok .at)) };
+            then-together = tg;
+            fair = λ q. omega arith;
+          })
+
+      ini-nego : (random : Sized 32) → mayWrite r NEGO ≡ true → AllTrue (limitRows r) → IniAt r (e .turn) → IniAt (wrote r (placeAfter r NEGO) (length (offered r (random .0))) (unchanged r)) (e .turn ++ offered r (random .0))
+      unfolding writing
+      ini-nego random h l (ini-fresh st p t) = ini-open st (positive (placeAfter r NEGO) h) (rw t (heads-offer r random (ok .role) (ok .bytes) (ok .count) (ok .talk) l))
+      ini-nego random h l (ini-open st p t) = absurd (let z = nego-start (writes r) (r .position) (r .verified) h in omega (arith, z .1))
+      ini-nego random h l (ini-choosing st t ma q ks c) =
+          absurd (no-after _ (none-written (r .position) (r .verified) NEGO) (let h′ : not (eqb (after (writing false 2) (r .position) (r .verified) NEGO) 0) ≡ true = rw (ok .role, st) at h in h′))
+      ini-nego random h l (ini-later st) =
+          no-true (let z : leb (writing false 3) 1 ≡ true = rw (ok .role, st) at (nego-start (writes r) (r .position) (r .verified) h .0) in z)
+
+      ini-offer : (random : Sized 32) → IniGoal (offer random) no17 (offering r d (random .0))
+      unfolding offering
+      ini-offer random =
+          let more : List Row = row 18 (not (r .acceptor)) ∷ fits r d (length (offered r (random .0))) ∷ [] in
+          decide-out (IniGoal (offer random) no17) (stageRows r NEGO ++ more) r d (appended r d (placeAfter r NEGO) (offered r (random .0)) (unchanged r))
+          (ini-stopped (offer random) (stageRows r NEGO ++ more) refl refl)
+          (λ g. record {
+            then-ok = record { role = ok .role; own = ok .own; bytes = ok .bytes; count = ok .count; talk = ok .talk; at = ini-nego random (true-behind (limitRows r) (row 18 (mayWrite r NEGO)) more g) (front-true (limitRows r) (row 18 (mayWrite r NEGO) ∷ more) g) (ok .at) };
+            then-together = tg;
+            fair = λ q. omega arith;
+          })
+
+      ini-reply : (m : ℕ) (random : Sized 32) → IniGoal (reply m random) no17 (replying r d m (random .0))
+      unfolding replying
+      ini-reply m random =
+          let more : List Row = row 19 (below (r .count) m) ∷ row 17 (someLeft (left (ownOf r) (r .common) m)) ∷ fits r d (length (replyMessage r m (random .0))) ∷ [] in
+          decide-out (IniGoal (reply m random) no17) (stageRows r NEGO ++ (row 18 (r .acceptor) ∷ more)) r d _
+          (λ n g. ini-stopped (reply m random) (stageRows r NEGO ++ (row 18 (r .acceptor) ∷ [])) refl refl n (fails-until (stageRows r NEGO) (row 18 (r .acceptor)) more n (ok .role) g))
+          (λ g. no-true (sym (ok .role) ∙ true-behind (stageRows r NEGO) (row 18 (r .acceptor)) more g))
+
+      -- the reply, read
+      ini-conversation : (t : List ℕ) → conversationOf r t ≡ r .conversation
+      unfolding conversationOf reading
+      ini-conversation t = rw (ok .role) (go (eqb (r .stage) 0) (eqb (r .stage) 3)) where
+        go : (a b : Bool) → cond (eqb (cond a 1 (cond b 2 3)) 0) (octets 16 t 24) (r .conversation) ≡ r .conversation
+        go true b = refl
+        go false true = refl
+        go false false = refl
+
+      ini-reads : (n : ℕ) (c : Scan) → mayRead r ≡ true → judged r (f .turn) ≡ whole n c → IniAt r (e .turn) → AccAt (f .record-of) (f .turn) → IniAt (taken r (f .turn) n c) [] × Together (reads r + 1) (f .record-of .stage)
+      unfolding reading commonAfter keptAfter
+      ini-reads n c h w (ini-fresh st p t) a = no-true (rw (ok .role, st, p) at h)
+      ini-reads n c h w (ini-choosing st t ma q ks co) a = no-true (rw (ok .role, st) at h)
+      ini-reads n c h w (ini-later st) a =
+          let is : reads r + 1 ≡ 3 = rw (ok .role, st) in
+          (ini-later is, subst (λ (k : ℕ). Together k (f .record-of .stage)) (st ∙ sym is) tg)
+      ini-reads n c h w (ini-open st p t) (acc-fresh st′ t′) = absurd (empty-judged r n c (rw t′ at w))
+      ini-reads n c h w (ini-open st p t) (acc-read st′ p′ co lc t′) = absurd (empty-judged r n c (rw t′ at w))
+      ini-reads n c h w (ini-open st p t) (acc-later st′) = absurd (let z = tg .opening st in omega arith)
+      ini-reads n c h w (ini-open st p t) (acc-open st′ p′ ma q t′) =
+          let is : reads r + 1 ≡ 2 = rw (ok .role, st) in
+          let l : listedBy (f .turn) ≡ reply-of ma = heads-here 1 (reply-of ma) (f .turn) t′ .1 in (
+            ini-choosing is refl ma q (rw (ok .role, st, ok .own, l)) (rw (ok .role, st, ok .own, l)),
+            record { opening = λ z. absurd (omega arith); choosing′ = λ z. st′; later = λ z. absurd (omega arith) },
+          )
+
+      ini-read : IniGoal read no17 (readingToken r d (f .turn))
+      unfolding readingToken
+      ini-read =
+          let rows : List Row = limitRows r ++ (row 18 (mayRead r) ∷ row 1 (leb (length (f .turn)) 65535) ∷ []) in
+          decide-out (IniGoal read no17) rows r d (finish r d (f .turn) (judged r (f .turn)))
+          (ini-stopped read rows refl refl)
+          (λ g. token (judged r (f .turn)) refl (true-behind (limitRows r) (row 18 (mayRead r)) (row 1 (leb (length (f .turn)) 65535) ∷ []) g)) where
+            token : (j : Judged) → judged r (f .turn) ≡ j → mayRead r ≡ true → IniGoal read no17 (finish r d (f .turn) j)
+            token (halted n p) w h = unfold finish in (let z = judged-number r (f .turn) n p w in ini-refused read no17 n p (z .0) (z .1))
+            token (whole n c) w h = unfold finish in elim (which (leb (r .used + length (f .turn)) (room d))) [
+              | inr b ↦ rw b (ini-refused read no17 16 0 (λ z. omega arith) (λ z. omega arith))
+              | inl b ↦ rw b (let g = ini-reads n c h w (ok .at) (ok′ .at) in record {
+                then-ok = record { role = ok .role; own = ok .own; bytes = ok .bytes; count = ok .count; talk = ini-conversation (f .turn) ∙ ok .talk; at = g .0 };
+                then-together = g .1;
+                fair = λ z. omega arith;
+              })
+            ]
+
+      -- the choice
+      ini-chooses : (m : ℕ) → eqb (r .stage) 2 ≡ true → IniAt r (e .turn) → (ma : ℕ) × (Q ma × (named (ownOf r) (openTo r m) ≡ leftOver (o .acceptor) (o .initiator) ma m))
+      ini-chooses m h (ini-fresh st p t) = no-true (rw st at h)
+      ini-chooses m h (ini-open st p t) = no-true (rw st at h)
+      ini-chooses m h (ini-later st) = no-true (rw st at h)
+      ini-chooses m h (ini-choosing st t ma q ks c) =
+          (ma, (q, rw (ok .own, c, ks) (left-of-reply (o .acceptor) (o .initiator) ma (ok-distinct (o .acceptor) (o .acceptor-ok)) m)))
+
+      abbrev lawful : ℕ → Bool
+      lawful k = not (eqb k 15 || (eqb k 16 || (eqb k 18 || eqb k 19)))
+
+      only-17 : (n : ℕ) → eqb n 17 || not (lawful n) ≡ true → lawful n ≡ true → eqb n 17 ≡ true
+      only-17 n e h = elim (which (eqb n 17)) [ inl a ↦ a | inr a ↦ no-true (rw (a, h) at e) ]
+
+      not-some : (l : List Id) → someLeft l ≡ false → l ≡ []
+      not-some [] h = refl
+      not-some (x ∷ l) h = no-true (sym h)
+
+      some-first : (l : List Id) → someLeft l ≡ true → first l ≡ some (firstOr l)
+      some-first [] h = no-true h
+      some-first (x ∷ l) h = refl
+
+      ini-choose : (m : ℕ) → IniGoal (choose m) (ChooseSays m) (choosing r d m)
+      unfolding choosing
+      ini-choose m =
+          let l : List Id = named (ownOf r) (openTo r m) in
+          let before : List Row = limitRows r ++ (row 18 (mayChoose r) ∷ row 19 (below (r .count) m) ∷ []) in
+          decide-out (IniGoal (choose m) (ChooseSays m)) (before ++ (row 17 (someLeft l) ∷ [])) r d (naming l (record { answer = answered 0 0 (chose r m); transcript = d }))
+          (λ n g. ini-refused (choose m) (ChooseSays m) n 0 (fails-other 0 (before ++ (row 17 (someLeft l) ∷ [])) n refl g) (refusal-says n g))
+          (λ g.
+          let b = true-behind (limitRows r) (row 18 (mayChoose r)) (row 19 (below (r .count) m) ∷ row 17 (someLeft l) ∷ []) g in
+          let h = and-r (not (r .acceptor)) (eqb (r .stage) 2) b in
+          let s = ini-chooses m h (ok .at) in
+          record {
+            then-ok = record { role = ok .role; own = ok .own; bytes = ok .bytes; count = ok .count; talk = ok .talk; at = ini-later refl };
+            then-together = record { opening = λ z. absurd (omega arith); choosing′ = λ z. absurd (omega arith); later = λ z. (let w = tg .choosing′ (eqb-true _ _ h) in omega arith) };
+            fair = ((λ z. absurd (omega arith)), (λ z. (s .0, (s .1 .0, ap first (sym (s .1 .1)) ∙ some-first l (true-behind before (row 17 (someLeft l)) [] g)))), (λ z. inr refl));
+          }) where
+            refusal-says : (n : ℕ) → FirstFails n (limitRows r ++ (row 18 (mayChoose r) ∷ row 19 (below (r .count) m) ∷ row 17 (someLeft (named (ownOf r) (openTo r m))) ∷ [])) → ChooseSays m (answered n 0 r)
+            refusal-says n g =
+                let before : List Row = limitRows r ++ (row 18 (mayChoose r) ∷ row 19 (below (r .count) m) ∷ []) in
+                let l : List Id = named (ownOf r) (openTo r m) in
+                let rows : List Row = before ++ (row 17 (someLeft l) ∷ []) in (
+                  (λ z.
+                      let w = fails-one 17 before (someLeft l) [] n refl refl g z in
+                      let h = and-r (not (r .acceptor)) (eqb (r .stage) 2) (true-behind (limitRows r) (row 18 (mayChoose r)) (row 19 (below (r .count) m) ∷ []) (w .0)) in
+                      let s = ini-chooses m h (ok .at) in
+                      (s .0, (s .1 .0, sym (s .1 .1) ∙ not-some l (w .1)))),
+                  (λ z. absurd (fails-other 0 rows n refl g (eqb-true _ _ z))),
+                  (λ z. inl (eqb-true _ _ (only-17 n (fails-each (λ k. eqb k 17 || not (lawful k)) rows n refl g) z))),
+                )
+
+      ini-step : (k : Call) → IniGoal k (IniSays k) (act e (f .turn) k)
+      unfolding act writingMetadata writingExchange writingVerify writingAlert
+      ini-step (offer random) = ini-offer random
+      ini-step (reply m random) = ini-reply m random
+      ini-step (metadata id value) =
+          ini-write (metadata id value) METADATA (row 19 (leb 1 (length value)) ∷ row 15 (metadataAllowed r (id .0)) ∷ fits r d (length (metadataMessage r (id .0) value)) ∷ []) (metadataMessage r (id .0) value) _ metadata-not-first refl refl refl
+      ini-step (exchange value) =
+          ini-write (exchange value) EXCHANGE (row 15 (schemeAllowed r) ∷ fits r d (length (exchangeMessage r value)) ∷ []) (exchangeMessage r value) _ exchange-not-first refl refl refl
+      ini-step (verify type value) =
+          ini-write (verify type value) VERIFY (row 15 (schemeAllowed r) ∷ fits r d (length (verifyMessage r type value)) ∷ []) (verifyMessage r type value) _ verify-not-first refl refl refl
+      ini-step (alert code) =
+          ini-write (alert code) ALERT (row 15 (schemeAllowed r) ∷ fits r d (length (alertMessage r code)) ∷ []) (alertMessage r code) _ alert-not-first refl refl refl
+      ini-step read = ini-read
+      ini-step (choose m) = ini-choose m
+
+    -- 5. the acceptor's calls
+
+    module _ (e f : End) (ok : AccOk e) (ok′ : IniOk f) (tg : Together (f .record-of .stage) (e .record-of .stage)) where
+      abbrev s : Record
+      s = e .record-of
+
+      abbrev b : List ℕ
+      b = e .transcript
+
+      record AccGoal (k : Call) (P : Answer → Type 0) (out : Outcome) : Type 0 where
+        then-ok : AccOk (moved e k out)
+        then-together : Together (f .record-of .stage) (out .answer .next .stage)
+        fair : P (out .answer)
+
+      acc-refused : (k : Call) (P : Answer → Type 0) (n p : ℕ) → (n ≡ 0 → ⊥) → P (answered n p s) → AccGoal k P (refused s b n p)
+      acc-refused k P n p z h = record {
+        then-ok = record { role = ok .role; own = ok .own; at = rw (ne-eqb n 0 z) (ok .at) };
+        then-together = tg;
+        fair = h;
+      }
+
+      acc-stopped : (k : Call) (rows : List Row) → without 0 rows ≡ true → without 17 rows ≡ true → (n : ℕ) → FirstFails n rows → AccGoal k no17 (refused s b n 0)
+      acc-stopped k rows z w n g = acc-refused k no17 n 0 (fails-other 0 rows n z g) (λ q. fails-other 17 rows n w g q)
+
+      acc-more : (kind n : ℕ) (w : WrittenAs) (x : List ℕ) → NotFirst kind → mayWrite s kind ≡ true → AccAt s (e .turn) → AccAt (wrote s (placeAfter s kind) n w) (e .turn ++ x)
+      unfolding writing
+      acc-more kind n w x nf h (acc-fresh st t) =
+          absurd (no-after _ (none-written (s .position) (s .verified) kind) (let h′ : not (eqb (after (writing true 0) (s .position) (s .verified) kind) 0) ≡ true = rw (ok .role, st) at h in h′))
+      acc-more kind n w x nf h (acc-read st p c lc t) =
+          absurd (no-after _ (nf 1 (s .verified) refl) (let h′ : not (eqb (after (writing true 1) 0 (s .verified) kind) 0) ≡ true = rw (ok .role, st, p) at h in h′))
+      acc-more kind n w x nf h (acc-open st p ma q t) = acc-open st (positive (placeAfter s kind) h) ma q (heads-more 1 (reply-of ma) (e .turn) x t)
+      acc-more kind n w x nf h (acc-later st) = acc-later st
+
+      acc-write : (k : Call) (kind : ℕ) (more : List Row) (x : List ℕ) (w : WrittenAs) → NotFirst kind → turnAfter e k ≡ e .turn ++ x → without 0 more ≡ true → without 17 more ≡ true → AccGoal k no17 (decide (stageRows s kind ++ more) s b (appended s b (placeAfter s kind) x w))
+      acc-write k kind more x w nf t z v =
+          decide-out (AccGoal k no17) (stageRows s kind ++ more) s b (appended s b (placeAfter s kind) x w)
+          (acc-stopped k (stageRows s kind ++ more) z v)
+          (λ g. record {
+            then-ok = record { role = ok .role; own = ok .own; at = rw t (acc-more kind (length x) w x nf (true-behind (limitRows s) (row 18 (mayWrite s kind)) more g) (ok .at)) };
+            then-together = tg;
+            fair = λ q. omega arith;
+          })
+
+      acc-offer : (random : Sized 32) → AccGoal (offer random) no17 (offering s b (random .0))
+      unfolding offering
+      acc-offer random =
+          let more : List Row = fits s b (length (offered s (random .0))) ∷ [] in
+          let no : not (s .acceptor) ≡ false = rw (ok .role) in
+          decide-out (AccGoal (offer random) no17) (stageRows s NEGO ++ (row 18 (not (s .acceptor)) ∷ more)) s b _
+          (λ n g. acc-stopped (offer random) (stageRows s NEGO ++ (row 18 (not (s .acceptor)) ∷ [])) refl refl n (fails-until (stageRows s NEGO) (row 18 (not (s .acceptor))) more n no g))
+          (λ g. no-true (sym no ∙ true-behind (stageRows s NEGO) (row 18 (not (s .acceptor))) more g))
+
+      -- the acceptor's NEGO
+      record Listing (m : ℕ) : Type 0 where
+        stage : s .stage ≡ 1
+        lists : left (ownOf s) (s .common) m ≡ reply-of m
+        common : s .common ≡ commonSet (o .acceptor) (o .initiator)
+        talk : length (s .conversation) ≡ 16
+        none-yet : e .turn ≡ []
+
+      acc-lists : (m : ℕ) → mayWrite s NEGO ≡ true → AccAt s (e .turn) → Listing m
+      unfolding writing
+      acc-lists m h (acc-fresh st t) =
+          absurd (no-after _ (none-written (s .position) (s .verified) NEGO) (let h′ : not (eqb (after (writing true 0) (s .position) (s .verified) NEGO) 0) ≡ true = rw (ok .role, st) at h in h′))
+      acc-lists m h (acc-read st p c lc t) = record {
+        stage = st;
+        lists = rw (ok .own, c) (left-keep (o .acceptor) (o .initiator) m (ok-distinct (o .acceptor) (o .acceptor-ok)));
+        common = c;
+        talk = lc;
+        none-yet = t;
+      }
+      acc-lists m h (acc-open st p ma q t) = absurd (let z = nego-start (writes s) (s .position) (s .verified) h in omega (arith, z .1))
+      acc-lists m h (acc-later st) =
+          no-true (let z : leb (writing true 3) 1 ≡ true = rw (ok .role, st) at (nego-start (writes s) (s .position) (s .verified) h .0) in z)
+
+      empty-left : (l : List Id) → someLeft l ≡ false → l ≡ []
+      empty-left [] h = refl
+      empty-left (x ∷ l) h = no-true (sym h)
+
+      acc-reply : (m : ℕ) (random : Sized 32) → (isAccepted (replying s b m (random .0) .answer) ≡ true → Q m) → AccGoal (reply m random) (λ a. a .refusal ≡ 17 → reply-of m ≡ []) (replying s b m (random .0))
+      unfolding replying
+      acc-reply m random =
+          let l : List Id = left (ownOf s) (s .common) m in
+          let last : List Row = fits s b (length (replyMessage s m (random .0))) ∷ [] in
+          let before : List Row = stageRows s NEGO ++ (row 18 (s .acceptor) ∷ row 19 (below (s .count) m) ∷ []) in
+          let P : Answer → Type 0 = λ a. a .refusal ≡ 17 → reply-of m ≡ [] in
+          decide-out (λ out. (isAccepted (out .answer) ≡ true → Q m) → AccGoal (reply m random) P out) (before ++ (row 17 (someLeft l) ∷ last)) s b
+          (naming l (appended s b (placeAfter s NEGO) (replyMessage s m (random .0)) (record { marks = m; told = s .told; asked = s .asked; verified = s .verified })))
+          (λ n g ask. acc-refused (reply m random) P n 0 (fails-other 0 (before ++ (row 17 (someLeft l) ∷ last)) n refl g)
+          (λ z.
+          let w = fails-one 17 before (someLeft l) last n refl refl g z in
+          let h = true-behind (limitRows s) (row 18 (mayWrite s NEGO)) (row 18 (s .acceptor) ∷ row 19 (below (s .count) m) ∷ []) (w .0) in
+          sym (acc-lists m h (ok .at) .lists) ∙ empty-left l (w .1)))
+          (λ g ask.
+          let h = true-behind (limitRows s) (row 18 (mayWrite s NEGO)) (row 18 (s .acceptor) ∷ row 19 (below (s .count) m) ∷ row 17 (someLeft l) ∷ last) g in
+          let a = acc-lists m h (ok .at) in
+          let hd : Heads 1 (left (o .acceptor) (s .common) m) (replyMessage s m (random .0)) = heads-reply s m random (ok .role) (ok .own) (a .talk) (front-true (limitRows s) (row 18 (mayWrite s NEGO) ∷ row 18 (s .acceptor) ∷ row 19 (below (s .count) m) ∷ row 17 (someLeft l) ∷ last) g) in
+          let same : left (o .acceptor) (s .common) m ≡ reply-of m = ap (λ (k : List Id). left k (s .common) m) (sym (ok .own)) ∙ a .lists in
+          record {
+            then-ok = record { role = ok .role; own = ok .own; at = acc-open (a .stage) (positive (placeAfter s NEGO) h) m (ask refl) (rw (a .none-yet) (subst (λ (k : List Id). Heads 1 k (replyMessage s m (random .0))) same hd)) };
+            then-together = tg;
+            fair = λ z. absurd (omega arith);
+          })
+
+      -- a NEGO is no message of a later token
+      no-nego : (n : ℕ) (c : Scan) → judged s (f .turn) ≡ whole n c → s .stage ≡ 1 → Heads 0 (o .initiator) (f .turn) → ⊥
+      unfolding reading kindOf
+      no-nego n c w st t =
+          let k = judged-first s (f .turn) n c w in
+          let h : not (eqb (after 2 0 (s .heard) NEGO) 0) ≡ true = rw (ok .role, st, heads-here 0 (o .initiator) (f .turn) t .0) at (k .allowed) in
+          no-true (nego-start 2 0 (s .heard) h .0)
+
+      -- a token, read
+      acc-reads : (n : ℕ) (c : Scan) → mayRead s ≡ true → judged s (f .turn) ≡ whole n c → AccAt s (e .turn) → IniAt (f .record-of) (f .turn) → AccAt (taken s (f .turn) n c) [] × Together (f .record-of .stage) (reads s + 1)
+      unfolding reading commonAfter conversationOf
+      acc-reads n c h w (acc-fresh st t) (ini-fresh st′ p′ t′) = absurd (empty-judged s n c (rw t′ at w))
+      acc-reads n c h w (acc-fresh st t) (ini-choosing st′ t′ ma q ks co) = absurd (empty-judged s n c (rw t′ at w))
+      acc-reads n c h w (acc-fresh st t) (ini-later st′) = absurd (let z = tg .later st′ in omega arith)
+      acc-reads n c h w (acc-fresh st t) (ini-open st′ p′ t′) =
+          let is : reads s + 1 ≡ 1 = rw (ok .role, st) in
+          let l : listedBy (f .turn) ≡ o .initiator = heads-here 0 (o .initiator) (f .turn) t′ .1 in
+          let k = judged-first s (f .turn) n c w in (
+            acc-read is refl (rw (ok .role, st, ok .own, l)) (rw (ok .role, st) (simp (length-take, length-drop) (omega (arith, k .forty)))) refl,
+            record { opening = λ z. omega arith; choosing′ = λ z. absurd (omega arith); later = λ z. omega arith },
+          )
+      acc-reads n c h w (acc-read st p co lc t) i = no-true (rw (ok .role, st, p) at h)
+      acc-reads n c h w (acc-open st p ma q t) (ini-fresh st′ p′ t′) = absurd (empty-judged s n c (rw t′ at w))
+      acc-reads n c h w (acc-open st p ma q t) (ini-choosing st′ t′ ma′ q′ ks co) = absurd (empty-judged s n c (rw t′ at w))
+      acc-reads n c h w (acc-open st p ma q t) (ini-later st′) =
+          let is : reads s + 1 ≡ 3 = rw (ok .role, st) in
+          (acc-later is, record { opening = λ z. absurd (omega arith); choosing′ = λ z. absurd (omega arith); later = λ z. omega arith })
+      acc-reads n c h w (acc-open st p ma q t) (ini-open st′ p′ t′) = absurd (no-nego n c w st t′)
+      acc-reads n c h w (acc-later st) i =
+          let is : reads s + 1 ≡ 3 = rw (ok .role, st) in
+          (acc-later is, subst (λ (k : ℕ). Together (f .record-of .stage) k) (st ∙ sym is) tg)
+
+      acc-read-call : AccGoal read no17 (readingToken s b (f .turn))
+      unfolding readingToken
+      acc-read-call =
+          let rows : List Row = limitRows s ++ (row 18 (mayRead s) ∷ row 1 (leb (length (f .turn)) 65535) ∷ []) in
+          decide-out (AccGoal read no17) rows s b (finish s b (f .turn) (judged s (f .turn)))
+          (acc-stopped read rows refl refl)
+          (λ g. token (judged s (f .turn)) refl (true-behind (limitRows s) (row 18 (mayRead s)) (row 1 (leb (length (f .turn)) 65535) ∷ []) g)) where
+            token : (j : Judged) → judged s (f .turn) ≡ j → mayRead s ≡ true → AccGoal read no17 (finish s b (f .turn) j)
+            token (halted n p) w h = unfold finish in (let z = judged-number s (f .turn) n p w in acc-refused read no17 n p (z .0) (z .1))
+            token (whole n c) w h = unfold finish in elim (which (leb (s .used + length (f .turn)) (room b))) [
+              | inr x ↦ rw x (acc-refused read no17 16 0 (λ z. omega arith) (λ z. omega arith))
+              | inl x ↦ rw x (let g = acc-reads n c h w (ok .at) (ok′ .at) in record {
+                then-ok = record { role = ok .role; own = ok .own; at = g .0 };
+                then-together = g .1;
+                fair = λ z. omega arith;
+              })
+            ]
+
+      -- an acceptor never chooses
+      acc-choose : (m : ℕ) → AccGoal (choose m) Barred (choosing s b m)
+      unfolding choosing
+      acc-choose m =
+          let more : List Row = row 19 (below (s .count) m) ∷ row 17 (someLeft (named (ownOf s) (openTo s m))) ∷ [] in
+          let no : mayChoose s ≡ false = rw (ok .role) in
+          decide-out (AccGoal (choose m) Barred) (limitRows s ++ (row 18 (mayChoose s) ∷ more)) s b _
+          (λ n g.
+          let h = fails-until (limitRows s) (row 18 (mayChoose s)) more n no g in
+          let is : n ≡ 18 = eqb-true _ _ (fails-each (λ k. eqb k 18) (limitRows s ++ (row 18 (mayChoose s) ∷ [])) n refl h) in
+          acc-refused (choose m) Barred n 0 (λ z. omega arith) (rw is ((λ z. omega arith), refl, refl)))
+          (λ g. no-true (sym no ∙ true-behind (limitRows s) (row 18 (mayChoose s)) more g))
+
+      acc-step : (k : Call) → AskAcc k (act e (f .turn) k .answer) → AccGoal k (AccSays k) (act e (f .turn) k)
+      unfolding act writingMetadata writingExchange writingVerify writingAlert
+      acc-step (offer random) q = acc-offer random
+      acc-step (reply m random) q = acc-reply m random q
+      acc-step (metadata id value) q =
+          acc-write (metadata id value) METADATA (row 19 (leb 1 (length value)) ∷ row 15 (metadataAllowed s (id .0)) ∷ fits s b (length (metadataMessage s (id .0) value)) ∷ []) (metadataMessage s (id .0) value) _ metadata-not-first refl refl refl
+      acc-step (exchange value) q =
+          acc-write (exchange value) EXCHANGE (row 15 (schemeAllowed s) ∷ fits s b (length (exchangeMessage s value)) ∷ []) (exchangeMessage s value) _ exchange-not-first refl refl refl
+      acc-step (verify type value) q =
+          acc-write (verify type value) VERIFY (row 15 (schemeAllowed s) ∷ fits s b (length (verifyMessage s type value)) ∷ []) (verifyMessage s type value) _ verify-not-first refl refl refl
+      acc-step (alert code) q =
+          acc-write (alert code) ALERT (row 15 (schemeAllowed s) ∷ fits s b (length (alertMessage s code)) ∷ []) (alertMessage s code) _ alert-not-first refl refl refl
+      acc-step read q = acc-read-call
+      acc-step (choose m) q = acc-choose m
+
+    -- 6. a run
+
+    moved-ok : (w : World) → Ok w → (x : Bool) (k : Call) → Ask x k (outcomeAt w x k .answer) → Ok (next w x k) × Fair x k (outcomeAt w x k .answer)
+    moved-ok w h false k q =
+        let g = ini-step (w .i) (w .a) (h .ini-ok) (h .acc-ok) (h .stages) k in
+        (record { ini-ok = g .then-ok; acc-ok = h .acc-ok; stages = g .then-together }, g .fair)
+    moved-ok w h true k q =
+        let g = acc-step (w .a) (w .i) (h .acc-ok) (h .ini-ok) (h .stages) k q in
+        (record { ini-ok = h .ini-ok; acc-ok = g .then-ok; stages = g .then-together }, g .fair)
+
+    pub run-fair : (w : World) → Ok w → (cs : List (Bool × Call)) → ((x : Entry) → List·Memᴰ x (run w cs) → Ask (x .acceptor) (x .call) (x .said))
+        → (x : Entry) → List·Memᴰ x (run w cs) → Fair (x .acceptor) (x .call) (x .said)
+    run-fair w h [] ask x m = absurd (List·Memᴰ·not-nil m)
+    run-fair w h (c ∷ cs) ask x m =
+        let g = moved-ok w h (c .0) (c .1) (ask _ (List·Memᴰ·head refl)) in
+        elim (List·Memᴰ·cases-cons m) [
+          | inl e ↦ subst (λ (y : Entry). Fair (y .acceptor) (y .call) (y .said)) (sym e) (g .1)
+          | inr m′ ↦ run-fair (next w (c .0) (c .1)) (g .0) cs (λ y n. ask y (List·Memᴰ·tail n)) x m′
+        ]
+
+    pub world-ok : ownOf (world o .i .record-of) ≡ o .initiator → ownOf (world o .a .record-of) ≡ o .acceptor → world o .i .record-of .count ≡ length (o .initiator) → Ok (world o)
+    world-ok i a n = record {
+      ini-ok = record { role = refl; own = i; bytes = refl; count = n; talk = refl; at = ini-fresh refl refl refl };
+      acc-ok = record { role = refl; own = a; at = acc-fresh refl refl };
+      stages = record { opening = λ z. omega arith; choosing′ = λ z. absurd (omega arith); later = λ z. absurd (omega arith) };
+    }
+
+-- 7. opened lists
+
+mem-one : (x : Id) (l : List Id) → List·Memᴰ x (x ∷ l)
+mem-one x l = List·Memᴰ·head refl
+
+cut-joined : (l : List Id) (rest : List ℕ) → ((s : Id) → List·Memᴰ s l → length s ≡ 16) → idsAt (length l) (joinIds l ++ rest) ≡ l
+unfolding idsAt
+cut-joined [] rest h = refl
+cut-joined (x ∷ l) rest h =
+    let n : length x ≡ 16 = h x (mem-one x l) in
+    rw (append-assoc x (joinIds l) rest, take-at x (joinIds l ++ rest) 16 n, drop-at x (joinIds l ++ rest) 16 n, cut-joined l rest (λ s m. h s (List·Memᴰ·tail m)))
+
+pub length-joined : (l : List Id) → ((s : Id) → List·Memᴰ s l → length s ≡ 16) → length (joinIds l) ≡ 16 * length l
+length-joined [] h = refl
+length-joined (x ∷ l) h = length-append x (joinIds l) ∙ (let n : length x ≡ 16 = h x (mem-one x l) in let i = length-joined l (λ s m. h s (List·Memᴰ·tail m)) in omega arith)
+
+pub count-joined : (l : List Id) → ((s : Id) → List·Memᴰ s l → length s ≡ 16) → length (joinIds l) / 16 ≡ length l
+count-joined l h = let n = length-joined l h in omega arith
+
+pub own-opened : (a : Bool) (l : List Id) (c : List ℕ) → ((s : Id) → List·Memᴰ s l → length s ≡ 16) → ownOf (fresh a (joinIds l) c) ≡ l
+own-opened a l c h = rw (count-joined l h) (cut-joined l _ h)

@@ -1,0 +1,4 @@
+pub mod Rows
+pub mod Tokens
+pub mod Ends
+pub mod Demand

@@ -1,0 +1,133 @@
+-- What the runs need of a token's reading: a token that begins with a written NEGO, an empty one, and the numbers that refuse one.
+-- Assumes nothing.
+use Prim.Native.Nat.{ℕ, zero, suc, _+_, _-_, _≤_, _<_}
+use mathlib.Core.Path.{_≡_, refl, sym, ap, subst, _∙_}
+use mathlib.Core.Bool.{Bool, true, false, cond, not, _&&_, _||_}
+use mathlib.Core.Logic.{_⊎_, inl, inr}
+use mathlib.Core.List.{List, [], _∷_, _++_, append-assoc, append-nil}
+use native.Mathlib.Omega.{arith}
+use lib.ListN.{length}
+use lib.Dec.{eqb}
+use borrow.Author.Tests.{eq-eqb, ne-eqb, eqb-true, eqb-false}
+use Rattle.message.specs.Layout.{Head, headOf, size, front}
+use Rattle.message.specs.Check.{Row, FirstFails, firstFailing, commonRows, bodyRows, contentRows, frontRows}
+use Rattle.message.proofs.Tables.{which, refuses-first}
+use Rattle.token.specs.Token.{orderRows, nextRows, passes, Placed, Chain, end, refused as cutAt, message, chainOf}
+use Rattle.token.specs.Split.{Message}
+use Rattle.token.proofs.Cuts.{passes-parts, passes-sized, turn-pass, turn-fail, placed}
+use Rattle.token.proofs.Splits.{front-message}
+use Rattle.message.proofs.Local.{head-front}
+use Rattle.schemes.specs.Lists.{Id}
+use Rattle.schemes.proofs.Choice.{no-true, and-l, and-r}
+use Rattle.conversation.specs.declared.Record.{Record}
+use Rattle.conversation.specs.declared.Scan.{Scan}
+use Rattle.conversation.specs.Turns.{NEGO, kindOf, after, reads}
+use Rattle.conversation.specs.Admitting.{listedBy, schemeIn, Admitted, on, stop, orStop, schemeFits, passed, admitKind, admit}
+use Rattle.conversation.specs.Reading.{conversationOf, startOf, Judged, whole, halted, thenJudge, judge, chainFor, judged}
+use Rattle.conversation.proofs.Rows.{without, fails-other}
+use lib.ListN.{take, length-take}
+use lib.Seq.{take-take, length-take-le}
+
+-- what begins with a NEGO of a type and a list, whatever follows: all that demand 3 asks of octets
+abbrev pub Heads : ℕ → List Id → List ℕ → Type 0
+Heads type ids t = (rest : List ℕ) → (headOf (t ++ rest) .kind ≡ type) × (listedBy (t ++ rest) ≡ ids)
+
+pub heads-more : (type : ℕ) (ids : List Id) (t x : List ℕ) → Heads type ids t → Heads type ids (t ++ x)
+heads-more type ids t x h rest = rw (append-assoc t x rest) (h (x ++ rest))
+
+pub heads-here : (type : ℕ) (ids : List Id) (t : List ℕ) → Heads type ids t → (headOf t .kind ≡ type) × (listedBy t ≡ ids)
+heads-here type ids t h = rw (append-nil t) at (h [])
+
+-- an empty token is refused
+pub empty-judged : (r : Record) (n : ℕ) (c : Scan) → judged r [] ≡ whole n c → ⊥
+unfolding judged judge
+empty-judged r n c e = let z : _≡_ {A = ℕ} 0 1 = cc in omega arith
+
+-- the first message of a token that is read
+not-stop : (b : Bool) (k : ℕ) (a : Admitted) (c : Scan) → orStop b k a ≡ on c → (b ≡ true) × (a ≡ on c)
+not-stop true k a c e = (refl, e)
+not-stop false k a c e = let z : _≡_ {A = ℕ} 0 1 = cc in absurd (omega arith)
+
+then-whole : (a : Admitted) (p : ℕ) (rest : Scan → Judged) (n : ℕ) (d : Scan) → thenJudge a p rest ≡ whole n d → (c : Scan) × ((a ≡ on c) × (rest c ≡ whole n d))
+then-whole (on c) p rest n d e = (c, (refl, e))
+then-whole (stop k) p rest n d e = let z : _≡_ {A = ℕ} 0 1 = cc in absurd (omega arith)
+
+pub record First (r : Record) (t : List ℕ) : Type 0 where
+  pub forty : 40 ≤ length t
+  pub allowed : not (eqb (after (reads r) 0 (r .heard) (kindOf (not (r .acceptor)) (headOf t .kind))) 0) ≡ true
+
+chain-first : (r : Record) (t : List ℕ) (n : ℕ) (d : Scan) (q : ℕ) (v : List ℕ) → 0 < length t → judge r t 0 (startOf r) (chainOf t 0 0 q v) ≡ whole n d → First r t
+unfolding judge admit
+chain-first r t n d q v some e = go (which (passes t q v)) where
+  go : (passes t q v ≡ true) ⊎ (passes t q v ≡ false) → First r t
+  go (inr f) =
+      let w : halted (firstFailing (nextRows t q v)) 0 ≡ whole n d = sym (ap (judge r t 0 (startOf r)) (turn-fail 0 q v t some f)) ∙ e in
+      let z : _≡_ {A = ℕ} 0 1 = cc in absurd (omega arith)
+  go (inl p) =
+      let z = passes-sized t q v p in
+      let w = then-whole _ 0 _ n d (sym (ap (judge r t 0 (startOf r)) (turn-pass 0 q v t p)) ∙ e) in
+      let a = not-stop (not (eqb (after (reads r) 0 (r .heard) (kindOf (not (r .acceptor)) (headOf (front t) .kind))) 0)) 14 _ (w .0) (w .1 .0) in
+      let m : length (front t) ≡ size t = length-take-le (size t) t (z .within) in
+      let enough : size t ≤ length (front t) = omega arith in
+      let h : headOf (front t) ≡ headOf t = head-front t (front t) (passes-parts t q v p .common) enough (take-take (size t) (size t) t (omega arith)) in
+      record { forty = z .forty; allowed = subst (λ (g : Head). not (eqb (after (reads r) 0 (r .heard) (kindOf (not (r .acceptor)) (g .kind))) 0) ≡ true) h (a .0) }
+
+pub judged-first : (r : Record) (t : List ℕ) (n : ℕ) (d : Scan) → judged r t ≡ whole n d → First r t
+unfolding judged
+judged-first r [] n d e = absurd (empty-judged r n d e)
+judged-first r (x ∷ t) n d e =
+    let some : length (x ∷ t) ≡ 0 → ⊥ = λ z. omega arith in
+    chain-first r (x ∷ t) n d (r .sequence) (conversationOf r (x ∷ t)) (omega arith) (rw (ne-eqb _ _ some) at e)
+
+-- the numbers that refuse a token are those of its messages: never 0, never 17
+rows-17 : (s : List ℕ) (q : ℕ) (v : List ℕ) → without 17 (nextRows s q v) ≡ true
+unfolding nextRows commonRows orderRows frontRows bodyRows contentRows
+rows-17 s q v = refl
+
+rows-0 : (s : List ℕ) (q : ℕ) (v : List ℕ) → without 0 (nextRows s q v) ≡ true
+unfolding nextRows commonRows orderRows frontRows bodyRows contentRows
+rows-0 s q v = refl
+
+abbrev pub Other : ℕ → Type 0
+Other n = (n ≡ 0 → ⊥) × (n ≡ 17 → ⊥)
+
+-- every refusal of a chain has such a number
+abbrev Numbers : Chain → Type 0
+Numbers end = Unit {0}
+Numbers (cutAt n p) = Other n
+Numbers (message m ms) = Numbers ms
+
+chain-numbers : (xs : List ℕ) (k place q : ℕ) (v : List ℕ) → Numbers (chainOf xs k place q v)
+unfolding chainOf
+chain-numbers [] k place q v = tt
+chain-numbers (x ∷ xs) (suc k) place q v = chain-numbers xs k place q v
+chain-numbers (x ∷ xs) zero place q v = go (which (passes (x ∷ xs) q v)) (chain-numbers xs (size (x ∷ xs) - 1) (place + size (x ∷ xs)) (q + 1) v) where
+  go : (passes (x ∷ xs) q v ≡ true) ⊎ (passes (x ∷ xs) q v ≡ false) → Numbers (chainOf xs (size (x ∷ xs) - 1) (place + size (x ∷ xs)) (q + 1) v) → Numbers (chainOf (x ∷ xs) 0 place q v)
+  go (inl p) ih = rw p ih
+  go (inr p) ih =
+      let f = refuses-first (nextRows (x ∷ xs) q v) p in
+      rw p (fails-other 0 (nextRows (x ∷ xs) q v) _ (rows-0 (x ∷ xs) q v) f, fails-other 17 (nextRows (x ∷ xs) q v) _ (rows-17 (x ∷ xs) q v) f)
+
+admit-number : (r : Record) (t : List ℕ) (c : Scan) (m : List ℕ) (n : ℕ) → admit r t c m ≡ stop n → Other n
+unfolding admit
+admit-number r t c m n e = go (not (eqb (after (reads r) (c .position) (c .heard) (kindOf (not (r .acceptor)) (headOf m .kind))) 0)) (schemeFits r t c (kindOf (not (r .acceptor)) (headOf m .kind)) (schemeIn m)) e where
+  go : (a b : Bool) → orStop a 14 (orStop b 15 (on (passed r c (kindOf (not (r .acceptor)) (headOf m .kind)) (after (reads r) (c .position) (c .heard) (kindOf (not (r .acceptor)) (headOf m .kind))) (schemeIn m)))) ≡ stop n → Other n
+  go false b e = let z : 14 ≡ n = cc in ((λ w. omega arith), (λ w. omega arith))
+  go true false e = let z : 15 ≡ n = cc in ((λ w. omega arith), (λ w. omega arith))
+  go true true e = let z : _≡_ {A = ℕ} 0 1 = cc in absurd (omega arith)
+
+judge-number : (r : Record) (t : List ℕ) (k : ℕ) (c : Scan) (ch : Chain) → Numbers ch → (n p : ℕ) → judge r t k c ch ≡ halted n p → Other n
+unfolding judge
+judge-number r t k c end h n p e = let z : _≡_ {A = ℕ} 0 1 = cc in absurd (omega arith)
+judge-number r t k c (cutAt m a) h n p e = let z : m ≡ n = cc in subst Other z h
+judge-number r t k c (message m ms) h n p e = go (admit r t c (m .octets)) refl (λ d. judge-number r t (k + 1) d ms h n p) where
+  go : (a : Admitted) → admit r t c (m .octets) ≡ a → ((d : Scan) → judge r t (k + 1) d ms ≡ halted n p → Other n) → Other n
+  go (on d) is ih = ih d (rw is at e)
+  go (stop j) is ih = let w : halted j (m .place) ≡ halted n p = rw is at e in let z : j ≡ n = cc in subst Other z (admit-number r t c (m .octets) j is)
+
+pub judged-number : (r : Record) (t : List ℕ) (n p : ℕ) → judged r t ≡ halted n p → Other n
+unfolding judged judge
+judged-number r [] n p e = let z : 2 ≡ n = cc in ((λ w. omega arith), (λ w. omega arith))
+judged-number r (x ∷ t) n p e =
+    let some : length (x ∷ t) ≡ 0 → ⊥ = λ z. omega arith in
+    judge-number r (x ∷ t) 0 (startOf r) (chainOf (x ∷ t) 0 0 (r .sequence) (conversationOf r (x ∷ t))) (chain-numbers (x ∷ t) 0 0 (r .sequence) (conversationOf r (x ∷ t))) n p (rw (ne-eqb _ _ some) at e)

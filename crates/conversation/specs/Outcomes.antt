@@ -1,0 +1,79 @@
+-- What a call answers and leaves: one ordered table of refusals, then one action. Document 01, "Refusal numbers".
+--
+-- Glossary
+--   Outcome            an answer, and the lent transcript afterwards
+--   refused r d n p    "Each returns its number and the token place of the message at fault. Record and lent octets are unchanged."
+--   decide             the first row that fails refuses; where all hold, the action
+--   room d             "Its room is the smaller of the buffer's length and 65,535."
+--   fits               16: used plus the length to add is within the room
+--   WrittenAs          what a written message changes in a record beside position, sequence and used; wrote: the record behind it
+--   appended           a written message at the transcript's end
+use Prim.Native.Nat.{ℕ, _+_, min}
+use mathlib.Core.Bool.{Bool, cond}
+use mathlib.Core.List.{List, [], _∷_}
+use lib.ListN.{length, replicate}
+use lib.Dec.{leb}
+use Rattle.message.specs.Check.{Row}
+use Rattle.put.specs.Put.{put}
+use Rattle.conversation.specs.declared.Record.{Record}
+use Rattle.conversation.specs.declared.Answer.{Answer}
+
+pub record Outcome : Type 0 where
+  pub answer : Answer
+  pub transcript : List ℕ
+
+abbrev pub zeroId : List ℕ
+zeroId = replicate 16 0
+
+abbrev pub answered : ℕ → ℕ → Record → Answer
+answered number place r = record { refusal = number; place = record { 0 = place }; messages = 0; choice = zeroId; left = 0; next = r }
+
+abbrev pub refused : Record → List ℕ → ℕ → ℕ → Outcome
+refused r d number place = record { answer = answered number place r; transcript = d }
+
+abbrev pub decide : List Row → Record → List ℕ → Outcome → Outcome
+decide [] r d action = action
+decide (x ∷ xs) r d action = cond (x .test) (decide xs r d action) (refused r d (x .number) 0)
+
+abbrev pub row : ℕ → Bool → Row
+row number test = record { number = number; test = test }
+
+abbrev pub room : List ℕ → ℕ
+room d = min (length d) 65535
+
+abbrev pub fits : Record → List ℕ → ℕ → Row
+fits r d size = row 16 (leb (r .used + size) (room d))
+
+pub record WrittenAs : Type 0 where
+  pub marks : ℕ
+  pub told : ℕ
+  pub asked : ℕ
+  pub verified : Bool
+
+abbrev pub unchanged : Record → WrittenAs
+unchanged r = record { marks = r .marks; told = r .told; asked = r .asked; verified = r .verified }
+
+abbrev pub wrote : Record → ℕ → ℕ → WrittenAs → Record
+wrote r position size w = record {
+  acceptor = r .acceptor;
+  stage = r .stage;
+  position = position;
+  list = r .list;
+  count = r .count;
+  conversation = r .conversation;
+  marks = w .marks;
+  common = r .common;
+  kept = r .kept;
+  told = w .told;
+  asked = w .asked;
+  chosen = r .chosen;
+  verified = w .verified;
+  heard = r .heard;
+  sequence = r .sequence + 1;
+  used = r .used + size;
+}
+
+-- "Each written message, and each accepted token, is put at its end; no other octet changes."
+abbrev pub appended : Record → List ℕ → ℕ → List ℕ → WrittenAs → Outcome
+appended r d position message w =
+    record { answer = answered 0 0 (wrote r position (length message) w); transcript = put d (r .used) message }

@@ -1,0 +1,177 @@
+-- Runs of two ends, and demand 3. Document 01: "A run starts with a record of each role, fresh from opening, and a transcript buffer of its own for
+-- each. It is a list of calls, each at one end: writing any message, reading, choosing (the initiator's)."
+--
+-- Glossary
+--   Sized n            n octets, as an array hands them over
+--   Call               the calls, with what each is given
+--   End                an end of a run: its record, its transcript buffer, and its turn so far
+--   act                a call at an end, beside the other end's turn so far: its outcome; moved: the end behind it
+--   Opening, World     what a run starts with; the two ends
+--   Entry, run         a call with its end and its answer; those of a list of calls
+--   marksIn            the marks of a call that has some
+--   isLawful           "none of 15, 16, 18, 19 applies"
+--   MarksKept          the marks of the second run are those of the first, for the schemes that both ends listed there
+--   Replied            the marks with which the acceptor's NEGO was written in a run
+--   Choice             what a lawful choosing call answers behind a longer offer
+--   Demand3            the demand, over any two runs
+use Prim.Native.Nat.{ℕ, _+_}
+use mathlib.Core.Path.{_≡_}
+use mathlib.Core.Bool.{Bool, true, false, cond, not, _||_}
+use mathlib.Core.List.{List, [], _∷_, _++_, List·Memᴰ}
+use mathlib.Core.Option.{Option, none, some}
+use lib.ListN.{length}
+use lib.Dec.{eqb}
+use lib.IntN.{ℤ}
+use Rattle.schemes.specs.Lists.{Id, oneTo16, joinIds, rule2}
+use Rattle.schemes.specs.Longer.{Longer, SameMarks, NoLater}
+use Rattle.conversation.specs.declared.Record.{Record}
+use Rattle.conversation.specs.declared.Answer.{Answer}
+use Rattle.conversation.specs.State.{fresh}
+use Rattle.conversation.specs.Outcomes.{Outcome, zeroId}
+use Rattle.conversation.specs.Writing.{offering, replying, writingMetadata, writingExchange, writingVerify, writingAlert, offered, replyMessage, metadataMessage, exchangeMessage, verifyMessage, alertMessage}
+use Rattle.conversation.specs.Reading.{readingToken}
+use Rattle.conversation.specs.Choosing.{choosing}
+
+abbrev pub Sized : ℕ → Type 0
+Sized n = (l : List ℕ) × (length l ≡ n)
+
+pub data Call : Type 0 where
+  offer : Sized 32 → Call
+  reply : (marks : ℕ) → Sized 32 → Call
+  metadata : Sized 16 → (value : List ℕ) → Call
+  exchange : (value : List ℕ) → Call
+  verify : (type : ℤ) (value : List ℕ) → Call
+  alert : (code : ℤ) → Call
+  read : Call
+  choose : (marks : ℕ) → Call
+
+pub record End : Type 0 where
+  pub record-of : Record
+  pub transcript : List ℕ
+  pub turn : List ℕ
+
+-- "A reading gets, in a separate buffer, a copy of the other end's turn so far"
+unfoldable pub act : End → List ℕ → Call → Outcome
+act e peer (offer random) = offering (e .record-of) (e .transcript) (random .0)
+act e peer (reply m random) = replying (e .record-of) (e .transcript) m (random .0)
+act e peer (metadata id value) = writingMetadata (e .record-of) (e .transcript) (id .0) value
+act e peer (exchange value) = writingExchange (e .record-of) (e .transcript) value
+act e peer (verify type value) = writingVerify (e .record-of) (e .transcript) type value
+act e peer (alert code) = writingAlert (e .record-of) (e .transcript) code
+act e peer read = readingToken (e .record-of) (e .transcript) peer
+act e peer (choose m) = choosing (e .record-of) (e .transcript) m
+
+-- "all that this other end wrote since its own opening or the last token that it accepted itself"
+abbrev pub turnAfter : End → Call → List ℕ
+turnAfter e (offer random) = e .turn ++ offered (e .record-of) (random .0)
+turnAfter e (reply m random) = e .turn ++ replyMessage (e .record-of) m (random .0)
+turnAfter e (metadata id value) = e .turn ++ metadataMessage (e .record-of) (id .0) value
+turnAfter e (exchange value) = e .turn ++ exchangeMessage (e .record-of) value
+turnAfter e (verify type value) = e .turn ++ verifyMessage (e .record-of) type value
+turnAfter e (alert code) = e .turn ++ alertMessage (e .record-of) code
+turnAfter e read = []
+turnAfter e (choose m) = e .turn
+
+-- "Each gets the record that its end's last call returned, refused or not, and the transcript as that left it"
+abbrev pub moved : End → Call → Outcome → End
+moved e k o = record {
+  record-of = o .answer .next;
+  transcript = o .transcript;
+  turn = cond (eqb (o .answer .refusal) 0) (turnAfter e k) (e .turn);
+}
+
+pub record Opening : Type 0 where
+  pub initiator : List Id
+  pub acceptor : List Id
+  pub conversation : Sized 16
+  pub initiator-buffer : List ℕ
+  pub acceptor-buffer : List ℕ
+  pub initiator-sized : (s : Id) → List·Memᴰ s initiator → length s ≡ 16
+  pub acceptor-sized : (s : Id) → List·Memᴰ s acceptor → length s ≡ 16
+  pub initiator-ok : oneTo16 initiator ≡ true
+  pub acceptor-ok : oneTo16 acceptor ≡ true
+
+pub record World : Type 0 where
+  pub i : End
+  pub a : End
+
+abbrev pub world : Opening → World
+world o = record {
+  i = record { record-of = fresh false (joinIds (o .initiator)) (o .conversation .0); transcript = o .initiator-buffer; turn = [] };
+  a = record { record-of = fresh true (joinIds (o .acceptor)) zeroId; transcript = o .acceptor-buffer; turn = [] };
+}
+
+-- the end of a call: false the initiator's, true the acceptor's
+abbrev pub outcomeAt : World → Bool → Call → Outcome
+outcomeAt w false k = act (w .i) (w .a .turn) k
+outcomeAt w true k = act (w .a) (w .i .turn) k
+
+abbrev pub next : World → Bool → Call → World
+next w false k = record { i = moved (w .i) k (outcomeAt w false k); a = w .a }
+next w true k = record { i = w .i; a = moved (w .a) k (outcomeAt w true k) }
+
+pub record Entry : Type 0 where
+  pub acceptor : Bool
+  pub call : Call
+  pub said : Answer
+
+abbrev pub run : World → List (Bool × Call) → List Entry
+run w [] = []
+run w (c ∷ cs) = record { acceptor = c .0; call = c .1; said = outcomeAt w (c .0) (c .1) .answer } ∷ run (next w (c .0) (c .1)) cs
+
+abbrev pub ends : World → List (Bool × Call) → World
+ends w [] = w
+ends w (c ∷ cs) = ends (next w (c .0) (c .1)) cs
+
+abbrev pub marksIn : Call → Option ℕ
+marksIn (offer random) = none
+marksIn (reply m random) = some m
+marksIn (metadata id value) = none
+marksIn (exchange value) = none
+marksIn (verify type value) = none
+marksIn (alert code) = none
+marksIn read = none
+marksIn (choose m) = some m
+
+abbrev pub isAccepted : Answer → Bool
+isAccepted a = eqb (a .refusal) 0
+
+-- "A call is lawful if none of 15, 16, 18, 19 applies."
+abbrev pub isLawful : Answer → Bool
+isLawful a = not (eqb (a .refusal) 15 || (eqb (a .refusal) 16 || (eqb (a .refusal) 18 || eqb (a .refusal) 19)))
+
+abbrev pub listOf : Opening → Bool → List Id
+listOf o false = o .initiator
+listOf o true = o .acceptor
+
+-- "In demand 3's second run a call with marks has, for the schemes that both ends listed in the first, exactly the marks that its end's accepted call
+-- had there"
+abbrev pub MarksKept : Opening → List (Bool × Call) → Opening → List (Bool × Call) → Type 0
+MarksKept o cs o′ cs′ =
+    (x : Entry) (m : ℕ) → List·Memᴰ x (run (world o) cs) → isAccepted (x .said) ≡ true → marksIn (x .call) ≡ some m
+    → (k : Call) (m′ : ℕ) → List·Memᴰ (x .acceptor, k) cs′ → marksIn k ≡ some m′
+    → SameMarks (o .acceptor) (o .initiator) (listOf o (x .acceptor)) m (listOf o′ (x .acceptor)) m′
+
+pub record Replied (o : Opening) (cs : List (Bool × Call)) (m : ℕ) : Type 0 where
+  pub random : Sized 32
+  pub answered : Answer
+  pub accepted : isAccepted answered ≡ true
+  pub entry : List·Memᴰ (record { acceptor = true; call = reply m random; said = answered }) (run (world o) cs)
+
+pub record Choice (o o′ : Opening) (cs′ : List (Bool × Call)) (m′ : ℕ) (c : Id) (a : Answer) : Type 0 where
+  pub accepted : isAccepted a ≡ true
+  pub ma : ℕ
+  pub replied : Replied o′ cs′ ma
+  pub by-rule2 : rule2 (o′ .acceptor) (o′ .initiator) ma m′ ≡ some (a .choice)
+  pub no-later : NoLater (o .acceptor) (o .initiator) (o′ .acceptor) c (a .choice)
+
+-- demand 3, one claim about any two lists of calls: in the second run no call is refused with 17, and every lawful choosing call answers a choice by
+-- rule 2 that stands no later in the second acceptor's list; if it is another, not both ends listed it before
+abbrev pub Demand3 : Type 0
+Demand3 =
+    (o : Opening) (cs : List (Bool × Call)) (o′ : Opening) (cs′ : List (Bool × Call))
+    (x : Entry) (m : ℕ) → List·Memᴰ x (run (world o) cs) → x .call ≡ choose m → isAccepted (x .said) ≡ true
+    → Longer (o .acceptor) (o .initiator) (o′ .acceptor) (o′ .initiator) → MarksKept o cs o′ cs′
+    → (y : Entry) → List·Memᴰ y (run (world o′) cs′)
+    → (y .said .refusal ≡ 17 → ⊥)
+    × ((m′ : ℕ) → y .call ≡ choose m′ → isLawful (y .said) ≡ true → Choice o o′ cs′ m′ (x .said .choice) (y .said))
