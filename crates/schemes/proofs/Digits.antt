@@ -1,0 +1,69 @@
+-- Bits of a number, as shifts find them.
+-- Assumes nothing.
+use Prim.Native.Nat.{ℕ, zero, suc, _+_, _*_, _-_, _/_, _%_, _^_, _≤_, _<_}
+use mathlib.Core.Path.{_≡_, refl, sym, ap, _∙_}
+use mathlib.Core.Bool.{Bool, true, false, cond, not, _&&_}
+use mathlib.Core.Logic.{_⊎_, inl, inr}
+use native.Mathlib.Nat.{pow-suc, div-one, lt-of-lt-of-le, div-lt-iff-lt-mul}
+use native.Mathlib.Numerals.{one-add}
+use native.Mathlib.Omega.{arith}
+use lib.Dec.{eqb, ltb}
+use lib.Pow.{pow-pos, pow-mono, shr-shr}
+use Rattle.message.proofs.Tables.{which}
+use borrow.Author.Tests.{ltb-true, ltb-false, eq-eqb, ne-eqb, lt-ltb, le-ltb}
+use Rattle.schemes.specs.Lists.{bit}
+use Rattle.schemes.specs.Sets.{ones, below}
+
+pub bit-shift : (m k : ℕ) → eqb (m / 2 ^ k % 2) 1 ≡ bit m k
+bit-shift m zero = rw div-one
+bit-shift m (suc k) =
+    let e : m / 2 ^ suc k ≡ m / 2 / 2 ^ k = sym (rw one-add at (shr-shr m 1 k)) in
+    rw e (bit-shift (m / 2) k)
+
+pub bit-beyond : (m k : ℕ) → m < 2 ^ k → false ≡ bit m k
+bit-beyond m zero h = let z : m ≡ 0 = omega arith in rw z
+bit-beyond m (suc k) h = let p : 2 ^ suc k ≡ 2 ^ k * 2 = pow-suc 2 k in bit-beyond (m / 2) k (omega arith)
+
+pub ones-pow : (k : ℕ) → ones k + 1 ≡ 2 ^ k
+unfolding ones
+ones-pow zero = refl
+ones-pow (suc k) = let p : 2 ^ suc k ≡ 2 ^ k * 2 = pow-suc 2 k in omega (arith, ones-pow k)
+
+module _ (m k : ℕ) (small : m < 2 ^ 16) (wide : 16 ≤ k) where
+  fits : m < 2 ^ k
+  fits = lt-of-lt-of-le small (pow-mono {i = 16} {j = k} wide)
+
+  pub bit-none : false ≡ bit m k
+  bit-none = bit-beyond m k fits
+
+  pub within-wide : true ≡ below k m
+  within-wide = sym (lt-ltb _ _ fits)
+
+pub within-shift : (m n : ℕ) → eqb (m / 2 ^ n) 0 ≡ below n m
+within-shift m n = go (which (ltb m (2 ^ n))) where
+  go : (ltb m (2 ^ n) ≡ true) ⊎ (ltb m (2 ^ n) ≡ false) → eqb (m / 2 ^ n) 0 ≡ ltb m (2 ^ n)
+  go (inl e) =
+      let h : m / 2 ^ n < 1 = div-lt-iff-lt-mul (pow-pos n) .1 (omega (arith, ltb-true m (2 ^ n) e)) in
+      let z : m / 2 ^ n ≡ 0 = omega arith in
+      eq-eqb _ _ z ∙ sym e
+  go (inr e) = ne-eqb _ _ high ∙ sym e where
+    high : m / 2 ^ n ≡ 0 → ⊥
+    high z =
+        let l : m < 1 * 2 ^ n = div-lt-iff-lt-mul (pow-pos n) .0 (omega arith) in
+        omega (arith, ltb-false m (2 ^ n) e)
+
+-- a shifted 1, in the words of the code
+module _ (k : ℕ) (small : k ≤ 16) where
+  one-shifted : 1 * 2 ^ k % 4294967296 ≡ 2 ^ k
+  one-shifted = let h : 2 ^ k ≤ 65536 = pow-mono {i = k} {j = 16} small in omega arith
+
+  pub full-room : 1 ≤ 1 * 2 ^ k % 4294967296
+  full-room = rw one-shifted (pow-pos k)
+
+  pub full-fits : 1 * 2 ^ k % 4294967296 - 1 < 65536
+  full-fits = let h : 2 ^ k ≤ 65536 = pow-mono {i = k} {j = 16} small in rw one-shifted (omega (arith, pow-pos k))
+
+  pub full-is : 1 * 2 ^ k % 4294967296 - 1 ≡ ones k
+  full-is = rw one-shifted (omega (arith, ones-pow k))
+
+pub ruleset digits = (bit-shift, bit-none, within-wide, within-shift, full-room, full-fits, full-is)
