@@ -8,11 +8,12 @@ use native.Mathlib.Nat.{pow-suc, div-one, lt-of-lt-of-le, div-lt-iff-lt-mul}
 use native.Mathlib.Numerals.{one-add}
 use native.Mathlib.Omega.{arith}
 use lib.Dec.{eqb, ltb}
-use lib.Pow.{pow-pos, pow-mono, shr-shr}
+use lib.Pow.{pow-pos, pow-mono, pow-lt, shr-shr}
 use Rattle.message.proofs.Tables.{which}
-use borrow.Author.Tests.{ltb-true, ltb-false, eq-eqb, ne-eqb, lt-ltb, le-ltb}
+use borrow.Author.Tests.{ltb-true, ltb-false, eqb-false, eq-eqb, ne-eqb, lt-ltb, le-ltb}
 use Rattle.schemes.specs.Lists.{bit}
 use Rattle.schemes.specs.Sets.{ones, below}
+use Rattle.schemes.specs.Answers.{withBit}
 
 pub bit-shift : (m k : ℕ) → eqb (m / 2 ^ k % 2) 1 ≡ bit m k
 bit-shift m zero = rw div-one
@@ -65,5 +66,40 @@ module _ (k : ℕ) (small : k ≤ 16) where
 
   pub full-is : 1 * 2 ^ k % 4294967296 - 1 ≡ ones k
   full-is = rw one-shifted (omega (arith, ones-pow k))
+
+-- a bit that is not set has room for its power
+pub bit-room : (n m k : ℕ) → m < 2 ^ n → k < n → bit m k ≡ false → m + 2 ^ k < 2 ^ n
+bit-room zero m k h g e = absurd (omega arith)
+bit-room (suc n) m zero h g e =
+    let p : 2 ^ suc n ≡ 2 ^ n * 2 = pow-suc 2 n in
+    let d : m % 2 ≡ 1 → ⊥ = eqb-false (m % 2) 1 e in
+    even (m % 2) refl d
+  where
+    even : (r : ℕ) → m % 2 ≡ r → (r ≡ 1 → ⊥) → m + 1 < 2 ^ suc n
+    even zero f d = let p : 2 ^ suc n ≡ 2 ^ n * 2 = pow-suc 2 n in omega arith
+    even (suc zero) f d = absurd (d refl)
+    even (suc (suc r)) f d = absurd (omega arith)
+bit-room (suc n) m (suc k) h g e =
+    let p : 2 ^ suc n ≡ 2 ^ n * 2 = pow-suc 2 n in
+    let q : 2 ^ suc k ≡ 2 ^ k * 2 = pow-suc 2 k in
+    omega (arith, bit-room n (m / 2) k (omega arith) (omega arith) e)
+
+module _ (m k : ℕ) (b : Bool) (b-is : b ≡ bit m k) where
+  pub with-old : b ≡ true → m ≡ withBit m k
+  unfolding withBit
+  with-old t = rw (← b-is, t)
+
+  module _ (low : k < 16) (small : m < 2 ^ 16) (t : b ≡ false) where
+    one-bit : 1 * 2 ^ k % 65536 ≡ 2 ^ k
+    one-bit = let h : 2 ^ k < 65536 = pow-lt {i = k} {j = 16} low in omega arith
+
+    pub with-fits : m + 1 * 2 ^ k % 65536 < 65536
+    with-fits = rw one-bit (bit-room 16 m k small low (sym b-is ∙ t))
+
+    pub with-new : m + 1 * 2 ^ k % 65536 ≡ withBit m k
+    unfolding withBit
+    with-new = rw (one-bit, ← b-is, t)
+
+pub ruleset additions = (with-old, with-fits, with-new)
 
 pub ruleset digits = (bit-shift, bit-none, within-wide, within-shift, full-room, full-fits, full-is)
