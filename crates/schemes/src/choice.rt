@@ -9,13 +9,13 @@ use super::set::bit_of;
 pub fn choose_own(common: u16, marks: u16) -> Left
     ensures { λ r. ⌜ r ≡ leftOf (leftPlaces 16 common marks) ⌝ }
 {
-    let open = common & !marks;
-    if open == 0 {
+    let unmarked = common & !marks;
+    if unmarked == 0 {
         return Left { place: 0, left: 0 };
     }
     Left {
-        place: u16::trailing_zeros(open),
-        left: u16::count_ones(open),
+        place: u16::trailing_zeros(unmarked),
+        left: u16::count_ones(unmarked),
     }
 }
 
@@ -40,7 +40,8 @@ fn marked_kept(kept: [u8; 16], marks: u16) -> u16
 pub fn choose_kept(kept: [u8; 16], common: u16, marks: u16) -> Left
     ensures { λ r. ⌜ r ≡ leftOf (openPlaces kept common marks) ⌝ }
 {
-    let open = common & !marked_kept(kept, marks);
+    let marked = marked_kept(kept, marks);
+    let open = common & !marked;
     if open == 0 {
         return Left { place: 0, left: 0 };
     }
