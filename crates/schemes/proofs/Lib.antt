@@ -1,3 +1,5 @@
+pub mod Choice
+pub mod Replies
 pub mod Ids
 pub mod Digits
 pub mod Pads

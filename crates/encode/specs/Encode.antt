@@ -1,0 +1,137 @@
+-- The written messages, as octets. Document 01, "Layouts", and of "Who may send what, and when" its last paragraph: "Written messages put the
+-- payload directly after the header". Written pads and the version are zero. `Heading` is the struct of src/: what a message of any kind is written
+-- with, its kind, its sequence number and its conversation.
+--
+-- Glossary
+--   Contents             what is written besides, one value a layout: an Offer, a Payload, a Checksum or a Pulse
+--   sizeOf c             the length of a message with the contents c
+--   headFields h n       the fields of the common header of a message of n octets
+--   bodyFields c         the fields behind it; pulseFields: those of a written alert
+--   encoded h c          the message: all its fields, joined
+--   encodable h c        the type number is of the contents' layout, a scheme list is one of whole ids, and count and length fit their fields
+--   Outcome              what a writer leaves: the next place and the lent octets, or the lent octets with nothing written
+--   told, storing        the outcome of an answer of src/, and of writing a message into d at a place
+use Prim.Native.Nat.{ℕ, _+_, _/_, _%_}
+use mathlib.Core.Bool.{Bool, true, cond, _&&_}
+use mathlib.Core.List.{List, [], _∷_, _++_}
+use lib.ListN.{length}
+use lib.Dec.{leb, eqb}
+use lib.IntN.{ℤ}
+use Rattle.message.specs.Layout.{shapeOf, headerOf}
+use Rattle.put.specs.Put.{put, octetsOf, unsigned32, joined}
+use Rattle.encode.specs.declared.Heading.{Heading}
+use Rattle.encode.specs.declared.Stored.{Stored}
+use Rattle.encode.specs.declared.Stored.the-variants as answer
+
+-- INITIATOR_NEGO, ACCEPTOR_NEGO: "schemes", 16 octets an id
+pub record Offer : Type 0 where
+  pub random : List ℕ
+  pub schemes : List ℕ
+
+-- INITIATOR_META_DATA, ACCEPTOR_META_DATA, CHALLENGE, AP_REQUEST: "the exchange"
+pub record Payload : Type 0 where
+  pub scheme : List ℕ
+  pub value : List ℕ
+
+-- VERIFY: "checksum value"
+pub record Checksum : Type 0 where
+  pub scheme : List ℕ
+  pub type : ℤ
+  pub value : List ℕ
+
+-- ALERT: "alert (72) with its pulse (84)"
+pub record Pulse : Type 0 where
+  pub scheme : List ℕ
+  pub code : ℤ
+
+pub data Contents : Type 0 where
+  ofNego : Offer → Contents
+  ofExchange : Payload → Contents
+  ofVerify : Checksum → Contents
+  ofAlert : Pulse → Contents
+
+abbrev pub sizeOf : Contents → ℕ
+sizeOf (ofNego o) = 96 + length (o .schemes)
+sizeOf (ofExchange p) = 64 + length (p .value)
+sizeOf (ofVerify k) = 80 + length (k .value)
+sizeOf (ofAlert p) = 92
+
+-- "signature 0 (`4E 45 47 4F 45 58 54 53`, "NEGOEXTS")"
+abbrev pub signature : List ℕ
+signature = 0x4E ∷ 0x45 ∷ 0x47 ∷ 0x4F ∷ 0x45 ∷ 0x58 ∷ 0x54 ∷ 0x53 ∷ []
+
+-- "Common header, 40 octets: signature 0, type 8, sequence 12, header length 16, message length 20, conversation 24."
+abbrev pub headFields : Heading → ℕ → List (List ℕ)
+headFields h size =
+    signature
+    ∷ octetsOf 4 (h .kind .0)
+    ∷ octetsOf 4 (h .sequence)
+    ∷ octetsOf 4 (headerOf (shapeOf (h .kind .0)))
+    ∷ octetsOf 4 size
+    ∷ h .conversation
+    ∷ []
+
+-- "An octet vector is offset (4), length (4)."
+abbrev pub octetVectorFields : ℕ → ℕ → List (List ℕ)
+octetVectorFields offset size = octetsOf 4 offset ∷ octetsOf 4 size ∷ []
+
+-- "A scheme, extension or alert vector is offset (4), count (2), pad (2)."
+abbrev pub vectorFields : ℕ → ℕ → List (List ℕ)
+vectorFields offset count = octetsOf 4 offset ∷ octetsOf 2 count ∷ octetsOf 2 0 ∷ []
+
+-- "A written pulse alert has type 1 and an eight-octet value: length 8, reason 1.": the element at 72, and its value at 84
+abbrev pub pulseFields : List (List ℕ)
+pulseFields = octetsOf 4 1 ∷ (octetVectorFields 84 8 ++ (octetsOf 4 8 ∷ octetsOf 4 1 ∷ []))
+
+-- "Base writers add no extensions; that vector is offset 0, count 0. An empty exchange or checksum value has its header length as offset and size 0."
+-- "checksum header length 56 (is 20), checksum scheme 60 (is 1)".
+abbrev pub bodyFields : Contents → List (List ℕ)
+bodyFields (ofNego o) =
+    o .random
+    ∷ octetsOf 8 0
+    ∷ (vectorFields 96 (length (o .schemes) / 16) ++ (vectorFields 0 0 ++ (o .schemes ∷ [])))
+bodyFields (ofExchange p) = p .scheme ∷ (octetVectorFields 64 (length (p .value)) ++ (p .value ∷ []))
+bodyFields (ofVerify k) =
+    k .scheme
+    ∷ octetsOf 4 20
+    ∷ octetsOf 4 1
+    ∷ octetsOf 4 (unsigned32 (k .type))
+    ∷ (octetVectorFields 80 (length (k .value)) ++ (octetsOf 4 0 ∷ k .value ∷ []))
+bodyFields (ofAlert p) =
+    p .scheme
+    ∷ octetsOf 4 (unsigned32 (p .code))
+    ∷ (vectorFields 72 1 ++ (octetsOf 4 0 ∷ pulseFields))
+
+unfoldable pub encoded : Heading → Contents → List ℕ
+encoded h c = joined (headFields h (sizeOf c) ++ bodyFields c)
+
+-- the table's first column
+abbrev pub hasKind : Contents → ℕ → Bool
+hasKind (ofNego o) kind = leb kind 1
+hasKind (ofExchange p) kind = leb 2 kind && leb kind 5
+hasKind (ofVerify k) kind = eqb kind 6
+hasKind (ofAlert p) kind = eqb kind 7
+
+-- at most 65,535 schemes; at most 4,294,967,295 octets
+abbrev pub fitsFields : Contents → Bool
+fitsFields (ofNego o) = eqb (length (o .schemes) % 16) 0 && leb (length (o .schemes)) 1048560
+fitsFields (ofExchange p) = leb (length (p .value)) 4294967231
+fitsFields (ofVerify k) = leb (length (k .value)) 4294967215
+fitsFields (ofAlert p) = true
+
+unfoldable pub encodable : Heading → Contents → Bool
+encodable h c = hasKind c (h .kind .0) && fitsFields c
+
+pub data Outcome : Type 0 where
+  written : (next : ℕ) (octets : List ℕ) → Outcome
+  unwritten : (octets : List ℕ) → Outcome
+
+abbrev pub told : Stored → List ℕ → Outcome
+told (answer.Next n) d = written n d
+told answer.Nothing d = unwritten d
+
+unfoldable pub storing : List ℕ → ℕ → Heading → Contents → Outcome
+storing d at h c =
+    cond (encodable h c && leb (at + length (encoded h c)) (length d))
+    (written (at + length (encoded h c)) (put d at (encoded h c)))
+    (unwritten d)
