@@ -2,15 +2,15 @@
 -- Assumes nothing.
 use Prim.Native.Nat.{ℕ, zero, suc, _+_, _*_, _-_, _/_, _%_, _^_, _≤_, _<_}
 use mathlib.Core.Path.{_≡_, refl, sym, ap, _∙_}
-use mathlib.Core.Bool.{Bool, true, false, cond, not, _&&_}
+use mathlib.Core.Bool.{Bool, true, false, cond, _||_}
 use mathlib.Core.Logic.{_⊎_, inl, inr}
 use native.Mathlib.Nat.{pow-suc, div-one, lt-of-lt-of-le, div-lt-iff-lt-mul}
 use native.Mathlib.Numerals.{one-add}
 use native.Mathlib.Omega.{arith}
-use lib.Dec.{eqb, ltb}
+use lib.Dec.{eqb, ltb, eqb·suc-suc, eqb·suc-zero, eqb·zero-suc}
 use lib.Pow.{pow-pos, pow-mono, pow-lt, shr-shr}
 use Rattle.message.proofs.Tables.{which}
-use borrow.Author.Tests.{ltb-true, ltb-false, eqb-false, eq-eqb, ne-eqb, lt-ltb, le-ltb}
+use borrow.Author.Tests.{ltb-true, ltb-false, eqb-true, eqb-false, eq-eqb, ne-eqb, lt-ltb, le-ltb}
 use Rattle.schemes.specs.Lists.{bit}
 use Rattle.schemes.specs.Sets.{ones, below}
 use Rattle.schemes.specs.Answers.{withBit}
@@ -101,5 +101,47 @@ module _ (m k : ℕ) (b : Bool) (b-is : b ≡ bit m k) where
     with-new = rw (one-bit, ← b-is, t)
 
 pub ruleset additions = (with-old, with-fits, with-new)
+
+-- ---- for callers: a set of the lowest k bits, and a set with one more bit, lie within the list
+pub ones-below : (k : ℕ) → below k (ones k) ≡ true
+ones-below k = lt-ltb (ones k) (2 ^ k) (omega (arith, ones-pow k))
+
+pub with-below : (n m k : ℕ) → below n m ≡ true → k < n → below n (withBit m k) ≡ true
+unfolding withBit
+with-below n m k h low = go (bit m k) refl where
+  go : (b : Bool) → bit m k ≡ b → below n (cond b m (m + 2 ^ k)) ≡ true
+  go true e = h
+  go false e = lt-ltb _ _ (bit-room n m k (ltb-true m (2 ^ n) h) low e)
+
+-- its bits are those of the set, and the one
+even-next : (m : ℕ) → bit m 0 ≡ false → ((m + 1) / 2 ≡ m / 2) × (bit (m + 1) 0 ≡ true)
+even-next m e = go (m % 2) refl (eqb-false (m % 2) 1 e) where
+  go : (r : ℕ) → m % 2 ≡ r → (r ≡ 1 → ⊥) → ((m + 1) / 2 ≡ m / 2) × (bit (m + 1) 0 ≡ true)
+  go zero f d = (omega arith, eq-eqb ((m + 1) % 2) 1 (omega arith))
+  go (suc zero) f d = absurd (d refl)
+  go (suc (suc r)) f d = absurd (omega arith)
+
+bit-plus : (m k j : ℕ) → bit m k ≡ false → bit (m + 2 ^ k) j ≡ (eqb j k || bit m j)
+bit-plus m zero zero e = even-next m e .1
+bit-plus m zero (suc j) e = rw (even-next m e .0, eqb·suc-zero)
+bit-plus m (suc k) zero e =
+    let p : 2 ^ suc k ≡ 2 ^ k * 2 = pow-suc 2 k in
+    let q : (m + 2 ^ suc k) % 2 ≡ m % 2 = omega arith in
+    rw (q, eqb·zero-suc)
+bit-plus m (suc k) (suc j) e =
+    let p : 2 ^ suc k ≡ 2 ^ k * 2 = pow-suc 2 k in
+    let q : (m + 2 ^ suc k) / 2 ≡ m / 2 + 2 ^ k = omega arith in
+    rw (q, eqb·suc-suc) (bit-plus (m / 2) k j e)
+
+pub bit-with : (m k j : ℕ) → bit (withBit m k) j ≡ (eqb j k || bit m j)
+unfolding withBit
+bit-with m k j = go (bit m k) refl where
+  same : (b : Bool) → eqb j k ≡ b → bit m k ≡ true → bit m j ≡ (b || bit m j)
+  same true f e = let q : j ≡ k = eqb-true j k f in rw q e
+  same false f e = refl
+
+  go : (b : Bool) → bit m k ≡ b → bit (cond b m (m + 2 ^ k)) j ≡ (eqb j k || bit m j)
+  go true e = same (eqb j k) refl e
+  go false e = bit-plus m k j e
 
 pub ruleset digits = (bit-shift, bit-none, within-wide, within-shift, full-room, full-fits, full-is)

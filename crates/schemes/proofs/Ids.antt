@@ -7,7 +7,7 @@ use mathlib.Core.Logic.{_⊎_, inl, inr}
 use mathlib.Core.List.{List, [], _∷_}
 use native.Mathlib.Nat.{sub-zero, add-sub-cancel-left, le-of-eq}
 use native.Mathlib.Omega.{arith}
-use lib.ListN.{length, take, drop, length-take, length-drop}
+use lib.ListN.{length, getD, take, drop, length-take, length-drop}
 use lib.Seq.{drop-drop, take-all}
 use lib.Dec.{eqb, leb, ltb, leb·suc-suc}
 use borrow.Author.Tests.{eqb-true, eqb-false, eq-eqb, ne-eqb, le-leb, lt-leb, lt-ltb, le-ltb}
@@ -34,6 +34,15 @@ pub length-ids : (n : ℕ) (s : List ℕ) → length (idsAt n s) ≡ n
 unfolding idsAt
 length-ids zero s = refl
 length-ids (suc n) s = ap suc (length-ids n (drop 16 s))
+
+-- the id at a place of a list, where its octets stand
+pub id-at : (n : ℕ) (s : List ℕ) (k : ℕ) → k < n → getD (idsAt n s) k [] ≡ octets 16 s (16 * k)
+unfolding idsAt
+id-at zero s k h = absurd (omega arith)
+id-at (suc n) s zero h = refl
+id-at (suc n) s (suc k) h =
+    let e : 16 + 16 * k ≡ 16 * suc k = omega arith in
+    id-at n (drop 16 s) k (omega arith) ∙ simp (drop-drop, e)
 
 -- ---- what is left of the n ids of s from place k on
 abbrev pub rest : ℕ → List ℕ → ℕ → List Id

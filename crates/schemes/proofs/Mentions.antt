@@ -155,7 +155,7 @@ module _ (k : Kept) (p n : ℕ) (pre : Noting k p n) where
     note-new t =
         let ps : List ℕ = placesIn k in
         let a : set (k .places) (k .count) p ≡ padTo 16 (ps ++ (p ∷ [])) =
-            ap (λ (l : List ℕ). set l (k .count) p) padded ∙ pad-more 16 ps p (k .count) (sym counted) (note-room t) in
+        ap (λ (l : List ℕ). set l (k .count) p) padded ∙ pad-more 16 ps p (k .count) (sym counted) (note-room t) in
         let e : k .count + 1 ≡ length (ps ++ (p ∷ [])) = simp length-append (omega (arith, counted)) in
         rw (lt-ltb p n low, ← b-is, t, a, e)
 
@@ -182,7 +182,7 @@ module _ (own : List ℕ) (n : ℕ) (peer : List ℕ) where
           let f : has p (keptPlaces (idsAt n own) (idsAt j peer)) ≡ false = rw kept-in at free in
           let h : p < length (idsAt n own) = rw l low in
           let m = kept-more (idsAt n own) (idsAt j peer) p h f in
-          omega arith
+          omega arith;
     }
 
     pub kept-turn : (p : ℕ) → p ≡ place (idsAt n own) (take (j * 16 + 16 - j * 16) (drop (j * 16) peer)) → (r : Kept)

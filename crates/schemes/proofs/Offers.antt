@@ -1,6 +1,6 @@
 -- Schemes gathered into octets: one scheme more, and one turn of each loop, in the words of the code.
 -- Assumes nothing.
-use Prim.Native.Nat.{ℕ, zero, suc, _+_, _*_, _-_, _/_, _^_, _≤_, _<_}
+use Prim.Native.Nat.{ℕ, zero, suc, _+_, _*_, _-_, _/_, _%_, _^_, _≤_, _<_}
 use mathlib.Core.Path.{_≡_, refl, sym, ap, _∙_}
 use mathlib.Core.Bool.{Bool, true, false, cond, not, _&&_}
 use mathlib.Core.List.{List, [], _∷_, _++_, append-assoc, append-nil}
@@ -13,7 +13,7 @@ use Rattle.octets.specs.Octets.{octets}
 use Rattle.message.specs.Show.{idsAt}
 use Rattle.schemes.specs.declared.Schemes.{Schemes}
 use Rattle.schemes.specs.Lists.{Id, bit}
-use Rattle.schemes.specs.Sets.{left, padTo}
+use Rattle.schemes.specs.Sets.{left, ones, padTo}
 use Rattle.schemes.specs.Answers.{joinIds, schemesOf}
 use Rattle.schemes.proofs.Ids.{length-ids}
 use Rattle.schemes.proofs.Mentions.{ids-snoc}
@@ -134,9 +134,39 @@ module _ (list : List ℕ) (c : ℕ) where
           let few : length l ≤ k = omega (arith, left-few (idsAt k list) c 0, length-ids k list) in
           let o : s .octets ≡ padTo 256 (joinIds l) = ap (λ (y : Schemes). y .octets) inv in
           let a : paste (s .octets) (16 * s .count) id 16 ≡ padTo 256 (joinIds (l ++ (x ∷ []))) =
-              rw (o, counted, i, join-snoc l x) (paste-pad 256 (joinIds l) x (16 * length l) 16 g f (omega arith)) in
+          rw (o, counted, i, join-snoc l x) (paste-pad 256 (joinIds l) x (16 * length l) 16 g f (omega arith)) in
           let e : s .count + 1 ≡ length (l ++ (x ∷ [])) = simp length-append (omega (arith, counted)) in
           let w : left (idsAt (k + 1) list) c 0 ≡ l ++ (x ∷ []) = one-more ∙ rw t in
           r-is ∙ rw (a, e, w)
 
 pub ruleset gatherings = (gather-start, gather-end, gather-room, gather-skip, gather-take)
+
+-- ---- for callers: the whole list, and the gathered octets read back
+pub left-all : (l : List Id) → left l (ones (length l)) 0 ≡ l
+unfolding left ones
+left-all [] = refl
+left-all (x ∷ l) =
+    let c : ℕ = ones (length l) in
+    let e : (1 + 2 * c) % 2 ≡ 1 = omega arith in
+    let f : (1 + 2 * c) / 2 ≡ c = omega arith in
+    rw (e, f, left-all l)
+
+pub ids-gathered : (n : ℕ) (s : List ℕ) (c m : ℕ) (zs : List ℕ) → n * 16 ≤ length s
+    → idsAt (length (left (idsAt n s) c m)) (joinIds (left (idsAt n s) c m) ++ zs) ≡ left (idsAt n s) c m
+unfolding left idsAt joinIds
+ids-gathered zero s c m zs h = refl
+ids-gathered (suc n) s c m zs h =
+    let e : length (take 16 s) ≡ 16 = simp length-take (omega arith) in
+    go (bit c 0 && not (bit m 0)) (left (idsAt n (drop 16 s)) (c / 2) (m / 2)) e (ids-gathered n (drop 16 s) (c / 2) (m / 2) zs (simp length-drop (omega arith)))
+  where
+    go : (d : Bool) (l : List Id) → length (take 16 s) ≡ 16 → idsAt (length l) (joinIds l ++ zs) ≡ l
+        → idsAt (length (cond d (take 16 s ∷ l) l)) (joinIds (cond d (take 16 s ∷ l) l) ++ zs) ≡ cond d (take 16 s ∷ l) l
+    go true l e i =
+        let q : take 16 s ++ joinIds l ++ zs ≡ take 16 s ++ (joinIds l ++ zs) = append-assoc (take 16 s) (joinIds l) zs in
+        rw (q, take-at (take 16 s) (joinIds l ++ zs) 16 e, drop-at (take 16 s) (joinIds l ++ zs) 16 e, i)
+    go false l e i = i
+
+pub gathered-octets : (n : ℕ) (s : List ℕ) (c m : ℕ) → n * 16 ≤ length s
+    → take (16 * schemesOf (left (idsAt n s) c m) .count) (schemesOf (left (idsAt n s) c m) .octets) ≡ joinIds (left (idsAt n s) c m)
+unfolding schemesOf
+gathered-octets n s c m h = take-at (joinIds (left (idsAt n s) c m)) _ _ (join-length n s c m h)

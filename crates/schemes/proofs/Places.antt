@@ -17,7 +17,7 @@ use lib.Pow.{pow-pos, pow-mono, shr-shr}
 use borrow.Author.Tests.{eqb-true, eqb-false, eq-eqb, ne-eqb}
 use Rattle.message.proofs.Tables.{which}
 use Rattle.schemes.specs.Lists.{Id, bit}
-use Rattle.schemes.specs.Sets.{left, openPlaces, named}
+use Rattle.schemes.specs.Sets.{left, openPlaces, named, padTo}
 use Rattle.schemes.specs.Answers.{markedAt, placesFrom, leftPlaces, leftOf}
 use Rattle.schemes.specs.declared.Left.{Left}
 use Rattle.schemes.proofs.Digits.{bit-shift}
@@ -52,7 +52,7 @@ less-step n c w y h =
     let e : (2 ^ suc n - 1 - v) / 2 ≡ 2 ^ n - 1 - w = omega arith in
     let f : (2 ^ suc n - 1 - v) % 2 ≡ 1 - cond y 1 0 = omega arith in
     let g : min (c % 2) (1 - cond y 1 0) ≡ cond (bit c 0 && not y) 1 0 =
-        ap (λ (x : ℕ). min x (1 - cond y 1 0)) (lowest c) ∙ both-bits (bit c 0) y in
+    ap (λ (x : ℕ). min x (1 - cond y 1 0)) (lowest c) ∙ both-bits (bit c 0) y in
     and-step c (2 ^ suc n - 1 - v) ∙ rw (e, f) (ap (λ (d : ℕ). less n (c / 2) w * 2 + d) g)
 
 half : (q : ℕ) (b : Bool) → (q * 2 + cond b 1 0) / 2 ≡ q
@@ -203,6 +203,9 @@ open-append [] zs c m h = let z : c ≡ 0 = omega arith in rw z (none-open zs m)
 open-append (k ∷ ks) zs c m h =
     let p : 2 ^ suc (length ks) ≡ 2 ^ length ks * 2 = pow-suc 2 (length ks) in
     rw (open-append ks zs (c / 2) m (omega arith))
+
+pub open-padded : (ks : List ℕ) (c m : ℕ) → c < 2 ^ length ks → openPlaces (padTo 16 ks) c m ≡ openPlaces ks c m
+open-padded ks c m h = open-append ks _ c m h
 
 places-append : (k n j : ℕ) → placesFrom k (n + j) ≡ placesFrom k n ++ placesFrom (k + n) j
 unfolding placesFrom

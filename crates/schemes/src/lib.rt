@@ -1,5 +1,5 @@
 // Lists of schemes, sets of their places, and the choice. An own list is its octets, 16 a scheme.
-pub mod choice;
+pub mod choosing;
 pub mod list;
 pub mod offer;
 pub mod reply;

@@ -42,10 +42,11 @@ loop-again : tie.Need-loop-again Inv-loop μ-loop
 loop-again c =
     let l = c .before .before .before .before .before .loop in
     let a = c .before .before .before .before .before .before .args in
-    let sized : length (a .list) ≡ 256 = search needs in
-    (search needs,
-    gather-take _ _ (l .k) (l .s) (l .inv .1) _ (c .before .before .before .bit-of .ensures) (c .before .before .if1 .taken) sized (omega arith)
-    _ (c .before .id-of .ensures) _ (c .with-id .ensures))
+    let sized : length (a .list) ≡ 256 = search needs in (
+      search needs,
+      gather-take _ _ (l .k) (l .s) (l .inv .1) _ (c .before .before .before .bit-of .ensures) (c .before .before .if1 .taken) sized (omega arith)
+          _ (c .before .id-of .ensures) _ (c .with-id .ensures),
+    )
 
 loop-less-2 : tie.Need-loop-less-2 Inv-loop μ-loop
 loop-less-2 c = search needs

@@ -1,8 +1,8 @@
 -- Assumes nothing.
 use Rattle.schemes.proofs.Places.{choices}
 use borrow.Author.Needs.{needs}
-use Rattle.schemes.proofs.choice.choose_kept.Statement.{statement}
-use Rattle.schemes.proofs.choice.choose_kept.Tie as tie
+use Rattle.schemes.proofs.choosing.choose_kept.Statement.{statement}
+use Rattle.schemes.proofs.choosing.choose_kept.Tie as tie
 
 marked-kept-requires : tie.Need-marked-kept-requires
 marked-kept-requires c κs = search needs

@@ -1,8 +1,8 @@
 -- Assumes nothing.
 use borrow.Author.Needs.{needs}
 use Rattle.schemes.proofs.Places.{choices}
-use Rattle.schemes.proofs.choice.choose_own.Statement.{statement}
-use Rattle.schemes.proofs.choice.choose_own.Tie as tie
+use Rattle.schemes.proofs.choosing.choose_own.Statement.{statement}
+use Rattle.schemes.proofs.choosing.choose_own.Tie as tie
 
 returns : tie.Need-returns
 returns c = search (needs, choices)

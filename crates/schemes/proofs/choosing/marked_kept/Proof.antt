@@ -5,8 +5,8 @@ use mathlib.Core.Path.{_≡_}
 use lib.ListN.{drop}
 use Rattle.schemes.specs.Answers.{markedAt}
 use Rattle.schemes.proofs.Builds.{markings}
-use Rattle.schemes.proofs.choice.marked_kept.Statement.{statement}
-use Rattle.schemes.proofs.choice.marked_kept.Tie as tie
+use Rattle.schemes.proofs.choosing.marked_kept.Statement.{statement}
+use Rattle.schemes.proofs.choosing.marked_kept.Tie as tie
 
 abbrev Inv-loop : tie.InvT-loop
 Inv-loop marks kept set₀ k₀ set k = (k ≤ 16) × (set ≡ markedAt (drop k kept) marks)
