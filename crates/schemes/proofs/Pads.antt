@@ -1,0 +1,42 @@
+-- A list with zeros behind it: one number more, and an id that is copied out of a list.
+-- Assumes nothing.
+use Prim.Native.Nat.{ℕ, zero, suc, _+_, _*_, _-_, _≤_, _<_}
+use mathlib.Core.Path.{_≡_, refl, sym, ap, _∙_}
+use mathlib.Core.List.{List, [], _∷_, _++_, append-nil}
+use native.Mathlib.Nat.{sub-zero}
+use native.Mathlib.Numerals.{add-one}
+use native.Mathlib.Omega.{arith}
+use lib.ListN.{length, getD, set, take, drop, replicate, length-append, length-take, length-drop}
+use lib.Seq.{set-at, append-snoc, take-suc, getD-drop, length-take-le}
+use Rattle.octets.specs.Octets.{octets}
+use Rattle.schemes.specs.Sets.{padTo}
+
+pub pad-more : (n : ℕ) (l : List ℕ) (x j : ℕ) → length l ≡ j → j < n → set (padTo n l) j x ≡ padTo n (l ++ (x ∷ []))
+pad-more n l x j f h =
+    let z : List ℕ = replicate (n - length (l ++ (x ∷ []))) 0 in
+    let e : n - length l ≡ suc (n - length (l ++ (x ∷ []))) = simp length-append (omega arith) in
+    ap (λ (i : ℕ). set (l ++ replicate i 0) j x) e ∙ set-at l 0 z x j f ∙ sym (append-snoc l x z)
+
+pub pad-full : (n : ℕ) (l : List ℕ) → length l ≡ n → padTo n l ≡ l
+pad-full n l h = let e : n - length l ≡ 0 = omega arith in rw e (append-nil l)
+
+-- ---- one turn of the copy
+module _ (list : List ℕ) (k : ℕ) (sized : length list ≡ 256) (inside : k < 16) where
+  module _ (id : List ℕ) (j : ℕ) (inv : id ≡ padTo 16 (take j (drop (16 * k) list))) where
+    pub id-more : j < 16 → set id j (getD list (16 * k + j) 0) ≡ padTo 16 (take (j + 1) (drop (16 * k) list))
+    id-more h =
+        let s : List ℕ = drop (16 * k) list in
+        let l : length s ≡ 256 - 16 * k = length-drop (16 * k) list ∙ omega arith in
+        let t : length (take j s) ≡ j = length-take-le j s (omega arith) in
+        let x : ℕ = getD list (16 * k + j) 0 in
+        let q : take (j + 1) s ≡ take j s ++ (x ∷ []) = rw add-one (take-suc s j 0 (omega arith) ∙ rw getD-drop) in
+        rw (inv, q) (pad-more 16 (take j s) x j t h)
+
+    pub id-end : 16 ≤ j → j ≤ 16 → id ≡ octets 16 list (16 * k)
+    id-end h g =
+        let e : j ≡ 16 = omega arith in
+        let s : List ℕ = drop (16 * k) list in
+        let l : length (take 16 s) ≡ 16 = simp (length-take, length-drop) (omega arith) in
+        inv ∙ rw e (pad-full 16 (take 16 s) l)
+
+pub ruleset copies = (id-more, id-end)

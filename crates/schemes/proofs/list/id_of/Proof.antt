@@ -1,0 +1,59 @@
+-- Assumes nothing.
+use borrow.Author.Needs.{needs}
+use native.Mathlib.Omega.{arith}
+use Prim.Native.Nat.{_*_, _-_, _≤_}
+use mathlib.Core.Path.{_≡_, refl}
+use lib.ListN.{take, drop}
+use Rattle.schemes.specs.Sets.{padTo}
+use Rattle.schemes.proofs.Pads.{copies}
+use Rattle.schemes.proofs.list.id_of.Statement.{statement}
+use Rattle.schemes.proofs.list.id_of.Tie as tie
+
+abbrev Inv-loop : tie.InvT-loop
+Inv-loop k list at id₀ j₀ id j = (j ≤ 16) × (id ≡ padTo 16 (take j (drop (16 * k) list)))
+
+abbrev μ-loop : tie.MeasureT-loop
+μ-loop k list at id₀ j₀ id j = 16 - j
+
+mul-at : tie.Need-mul-at Inv-loop μ-loop
+mul-at c = search needs
+
+loop-holds : tie.Need-loop-holds Inv-loop μ-loop
+loop-holds c = (search needs, refl)
+
+add-id : tie.Need-add-id Inv-loop μ-loop
+add-id c = search needs
+
+array-read-id : tie.Need-array-read-id Inv-loop μ-loop
+array-read-id c = search needs
+
+array-write-id : tie.Need-array-write-id Inv-loop μ-loop
+array-write-id c = search needs
+
+add-j : tie.Need-add-j Inv-loop μ-loop
+add-j c = search needs
+
+loop-less : tie.Need-loop-less Inv-loop μ-loop
+loop-less c = search needs
+
+loop-again : tie.Need-loop-again Inv-loop μ-loop
+loop-again c = (search needs, search (needs, copies))
+
+returns : tie.Need-returns Inv-loop μ-loop
+returns c = search (needs, copies)
+
+pub id-of-spec : {M : Type 1} → statement M
+id-of-spec =
+    tie.close
+    (tie.spec
+    Inv-loop
+    μ-loop
+    mul-at
+    loop-holds
+    add-id
+    array-read-id
+    array-write-id
+    add-j
+    loop-less
+    loop-again
+    returns)

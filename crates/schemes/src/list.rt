@@ -1,0 +1,83 @@
+// Lists of schemes in octets, 16 a scheme.
+ghost use mathlib.Core.Path.{_≡_};
+ghost use Prim.Native.Nat.{_*_, _≤_, _<_};
+ghost use lib.ListN.{length};
+ghost use Rattle.octets.specs.Octets.{octets};
+ghost use Rattle.message.specs.Show.{idsAt};
+ghost use Rattle.schemes.specs.Lists.{mem, place, distinct, listOk};
+use octets::same_id;
+
+// The place of the first of the n ids of a list that is `id`, or n where none is.
+pub fn find(list: &[u8], n: usize, id: &[u8]) -> usize
+    requires { ⌜ n * 16 ≤ length (now list) ⌝ }
+    ensures { λ r. ⌜ r ≡ place (idsAt n (now (list .entry))) (now (id .entry)) ⌝ }
+{
+    let mut k: usize = 0;
+    while k < n {
+        let at = k * 16;
+        let end = at + 16;
+        if same_id(id, &list[at..end]) {
+            return k;
+        }
+        k += 1;
+    }
+    n
+}
+
+// Whether `id` is one of the n ids of a list.
+pub fn has_id(list: &[u8], n: usize, id: &[u8]) -> bool
+    requires { ⌜ n * 16 ≤ length (now list) ⌝ }
+    ensures { λ r. ⌜ r ≡ mem (now (id .entry)) (idsAt n (now (list .entry))) ⌝ }
+{
+    find(list, n, id) < n
+}
+
+// Whether the n ids of a list are all different.
+pub fn distinct_ids(list: &[u8], n: usize) -> bool
+    requires { ⌜ n * 16 ≤ length (now list) ⌝ }
+    ensures { λ r. ⌜ r ≡ distinct (idsAt n (now (list .entry))) ⌝ }
+{
+    let mut k: usize = 0;
+    while k < n {
+        let at = k * 16;
+        let end = at + 16;
+        let left = n - (k + 1);
+        if has_id(&list[end..], left, &list[at..end]) {
+            return false;
+        }
+        k += 1;
+    }
+    true
+}
+
+// Whether octets are an own list: what 19 asks of them.
+pub fn list_ok(own: &[u8]) -> bool
+    ensures { λ r. ⌜ r ≡ listOk (now (own .entry)) ⌝ }
+{
+    let n = own.len() / 16;
+    if own.len() % 16 != 0 {
+        return false;
+    }
+    if n < 1 {
+        return false;
+    }
+    if 16 < n {
+        return false;
+    }
+    distinct_ids(own, n)
+}
+
+// The id at a place of a list of 16.
+pub fn id_of(list: [u8; 256], k: u32) -> [u8; 16]
+    requires { ⌜ k < 16 ⌝ }
+    ensures { λ r. ⌜ r ≡ octets 16 list (16 * k) ⌝ }
+{
+    let at = 16 * k as usize;
+    let mut id = [0u8; 16];
+    let mut j: usize = 0;
+    while j < 16 {
+        id[j] = list[at + j];
+        j += 1;
+    }
+    id
+}
