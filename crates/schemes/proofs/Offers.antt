@@ -12,9 +12,9 @@ use lib.Seq.{paste, paste-zero, paste-suc, take-all, take-at, drop-at, drop-appe
 use Rattle.octets.specs.Octets.{octets}
 use Rattle.message.specs.Show.{idsAt}
 use Rattle.schemes.specs.declared.Schemes.{Schemes}
-use Rattle.schemes.specs.Lists.{Id, bit}
+use Rattle.schemes.specs.Lists.{Id, bit, joinIds}
 use Rattle.schemes.specs.Sets.{left, ones, padTo}
-use Rattle.schemes.specs.Answers.{joinIds, schemesOf}
+use Rattle.schemes.specs.Answers.{schemesOf}
 use Rattle.schemes.proofs.Ids.{length-ids}
 use Rattle.schemes.proofs.Mentions.{ids-snoc}
 
@@ -52,7 +52,6 @@ paste-pad n l id at k e f h =
 
 -- ---- one scheme more
 join-snoc : (l : List Id) (x : Id) → joinIds (l ++ (x ∷ [])) ≡ joinIds l ++ x
-unfolding joinIds
 join-snoc [] x = append-nil x
 join-snoc (y ∷ l) x = rw (join-snoc l x) (sym (append-assoc y (joinIds l) x))
 
@@ -74,7 +73,7 @@ left-few (x ∷ l) c m = go (bit c 0 && not (bit m 0)) (left-few l (c / 2) (m / 
 
 -- ids of a list that has their octets are 16 octets long
 pub join-length : (n : ℕ) (s : List ℕ) (c m : ℕ) → n * 16 ≤ length s → length (joinIds (left (idsAt n s) c m)) ≡ 16 * length (left (idsAt n s) c m)
-unfolding left idsAt joinIds
+unfolding left idsAt
 join-length zero s c m h = refl
 join-length (suc n) s c m h =
     let e : length (take 16 s) ≡ 16 = simp length-take (omega arith) in
@@ -93,7 +92,7 @@ bit-zero (suc k) = bit-zero k
 -- ---- one turn of the loop over the own list
 module _ (list : List ℕ) (c : ℕ) where
   pub gather-start : _≡_ {A = Schemes} (record { octets = replicate 256 0; count = 0 }) (schemesOf (left (idsAt 0 list) c 0))
-  unfolding schemesOf left idsAt joinIds
+  unfolding schemesOf left idsAt
   gather-start = refl
 
   module _ (k : ℕ) (s : Schemes) (inv : s ≡ schemesOf (left (idsAt k list) c 0)) where
@@ -153,7 +152,7 @@ left-all (x ∷ l) =
 
 pub ids-gathered : (n : ℕ) (s : List ℕ) (c m : ℕ) (zs : List ℕ) → n * 16 ≤ length s
     → idsAt (length (left (idsAt n s) c m)) (joinIds (left (idsAt n s) c m) ++ zs) ≡ left (idsAt n s) c m
-unfolding left idsAt joinIds
+unfolding left idsAt
 ids-gathered zero s c m zs h = refl
 ids-gathered (suc n) s c m zs h =
     let e : length (take 16 s) ≡ 16 = simp length-take (omega arith) in

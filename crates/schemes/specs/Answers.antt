@@ -8,14 +8,13 @@
 --   leftPlaces n c m   of the first n places of the own list, those at the bits of c less the marks m
 --   leftOf ps          the first of the places left (0 where there is none) and how many there are
 --   withBit m k        the set m and k
---   joinIds l          the octets of the ids, one behind the other
 --   schemesOf l        ids as octets with zeros behind them, and how many there are
 use Prim.Native.Nat.{ℕ, zero, suc, _+_, _*_, _^_, _≤_, _<_}
 use mathlib.Core.Path.{_≡_}
 use mathlib.Core.Bool.{false, cond}
 use mathlib.Core.List.{List, [], _∷_, _++_}
 use lib.ListN.{length, getD, take}
-use Rattle.schemes.specs.Lists.{Id, bit}
+use Rattle.schemes.specs.Lists.{Id, bit, joinIds}
 use Rattle.schemes.specs.Sets.{has, openPlaces, padTo}
 use Rattle.schemes.specs.declared.Kept.{Kept}
 use Rattle.schemes.specs.declared.Left.{Left}
@@ -52,10 +51,6 @@ leftOf ps = record { place = getD ps 0 0; left = length ps }
 
 unfoldable pub withBit : ℕ → ℕ → ℕ
 withBit m k = cond (bit m k) m (m + 2 ^ k)
-
-unfoldable pub joinIds : List Id → List ℕ
-joinIds [] = []
-joinIds (x ∷ l) = x ++ joinIds l
 
 -- "the acceptor into its own the common schemes less its marks, in its own order": a list of schemes as the octets that a NEGO lists
 unfoldable pub schemesOf : List Id → Schemes
