@@ -1,3 +1,6 @@
+pub mod Tests
+pub mod Bounds
+pub mod Places
 pub mod Rows
 pub mod Tokens
 pub mod Ends

@@ -1,5 +1,8 @@
-// One end of a conversation: its record and its calls.
+// One end of a conversation: what its record holds, its limits, and who may send what.
 use vector::TokenPlace;
+
+pub mod limits;
+pub mod turns;
 
 // What an end knows. It goes in by value with each call and comes back with the answer.
 pub struct Record {
@@ -19,6 +22,18 @@ pub struct Record {
     pub heard: bool,
     pub sequence: u32,
     pub used: usize,
+}
+
+impl Record {
+    pub const OPENING: u8 = 0;
+
+    pub const REPLY: u8 = 1;
+
+    pub const CHOOSING: u8 = 2;
+
+    pub const LATER: u8 = 3;
+
+    pub const NONE: usize = 255;
 }
 
 // What a call answers. Refusal 0 is none; a field that has no meaning in an answer is zero.
