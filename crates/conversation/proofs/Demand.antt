@@ -134,8 +134,21 @@ fair-run o cs x m =
 -- the first run: who chose, and by what
 chose-facts : (o : Opening) (cs : List (Bool × Call)) (x : Bool) (m : ℕ) (a : Answer) → isAccepted a ≡ true → FairIn o cs x (choose m) a
     → (x ≡ false) × ((ma : ℕ) × (Replied o cs ma × (rule2 (o .acceptor) (o .initiator) ma m ≡ some (a .choice))))
-chose-facts o cs false m a e h = (refl, h .1 e)
+chose-facts o cs false m a e h = let g = h .1 e in (refl, (g .0, (g .1 .0, g .1 .1 .0)))
 chose-facts o cs true m a e h = no-true (sym (h .2) ∙ e)
+
+-- rule 2, for every choosing call of every run: it is refused with 17, or answers, by what is left; the number left is exact; and a call that is
+-- lawful is one of the two
+pub record ByRule2 (o : Opening) (cs : List (Bool × Call)) (m : ℕ) (a : Answer) : Type 0 where
+  pub refuses : a .refusal ≡ 17 → (ma : ℕ) × (Replied o cs ma × (leftOver (o .acceptor) (o .initiator) ma m ≡ []))
+  pub answers : isAccepted a ≡ true → (ma : ℕ) × (Replied o cs ma × ((rule2 (o .acceptor) (o .initiator) ma m ≡ some (a .choice)) × (a .left ≡ length (leftOver (o .acceptor) (o .initiator) ma m))))
+  pub lawful : isLawful a ≡ true → (a .refusal ≡ 17) ⊎ (isAccepted a ≡ true)
+
+pub by-rule2 : (o : Opening) (cs : List (Bool × Call)) (x : Entry) (m : ℕ) → List·Memᴰ x (run (world o) cs) → x .call ≡ choose m → ByRule2 o cs m (x .said)
+by-rule2 o cs x m h call = go (x .acceptor) (rw call at (fair-run o cs x h)) where
+  go : (b : Bool) → FairIn o cs b (choose m) (x .said) → ByRule2 o cs m (x .said)
+  go false f = record { refuses = f .0; answers = f .1; lawful = f .2 }
+  go true f = record { refuses = λ e. absurd (f .0 e); answers = λ e. no-true (sym (f .2) ∙ e); lawful = λ e. no-true (sym (f .1) ∙ e) }
 
 no-mem-nil : (s : Id) (l : List Id) → l ≡ [] → mem s l ≡ true → ⊥
 unfolding mem
@@ -190,8 +203,8 @@ module _ (o : Opening) (cs : List (Bool × Call)) (o′ : Opening) (cs′ : List
       accepted = e;
       ma = g .0;
       replied = g .1 .0;
-      by-rule2 = g .1 .1;
-      no-later = longer (o .acceptor) (o .initiator) (o′ .acceptor) (o′ .initiator) up dist ma m (a .choice) before (g .0) m′ (rep-marks (g .0) (g .1 .0)) (ini-marks m′ h) (b .choice) (g .1 .1);
+      by-rule2 = g .1 .1 .0;
+      no-later = longer (o .acceptor) (o .initiator) (o′ .acceptor) (o′ .initiator) up dist ma m (a .choice) before (g .0) m′ (rep-marks (g .0) (g .1 .0)) (ini-marks m′ h) (b .choice) (g .1 .1 .0);
     }
   ]
   choice-of true m′ b h f l = no-true (sym (f .1) ∙ l)

@@ -149,7 +149,7 @@ module _ (o : Opening) (Q : ℕ → Type 0)
     abbrev pub ChooseSays : ℕ → Answer → Type 0
     ChooseSays m a =
         (a .refusal ≡ 17 → (ma : ℕ) × (Q ma × (leftOver (o .acceptor) (o .initiator) ma m ≡ [])))
-        × (isAccepted a ≡ true → (ma : ℕ) × (Q ma × (rule2 (o .acceptor) (o .initiator) ma m ≡ some (a .choice))))
+        × (isAccepted a ≡ true → (ma : ℕ) × (Q ma × ((rule2 (o .acceptor) (o .initiator) ma m ≡ some (a .choice)) × (a .left ≡ length (leftOver (o .acceptor) (o .initiator) ma m)))))
         × (isLawful a ≡ true → (a .refusal ≡ 17) ⊎ (isAccepted a ≡ true))
 
     -- refused, by another number than 17, and not lawful
@@ -349,7 +349,7 @@ module _ (o : Opening) (Q : ℕ → Type 0)
           record {
             then-ok = record { role = ok .role; own = ok .own; bytes = ok .bytes; count = ok .count; talk = ok .talk; at = ini-later refl };
             then-together = record { opening = λ z. absurd (omega arith); choosing′ = λ z. absurd (omega arith); later = λ z. (let w = tg .choosing′ (eqb-true _ _ h) in omega arith) };
-            fair = ((λ z. absurd (omega arith)), (λ z. (s .0, (s .1 .0, ap first (sym (s .1 .1)) ∙ some-first l (true-behind before (row 17 (someLeft l)) [] g)))), (λ z. inr refl));
+            fair = ((λ z. absurd (omega arith)), (λ z. (s .0, (s .1 .0, (ap first (sym (s .1 .1)) ∙ some-first l (true-behind before (row 17 (someLeft l)) [] g), ap length (s .1 .1))))), (λ z. inr refl));
           }) where
             refusal-says : (n : ℕ) → FirstFails n (limitRows r ++ (row 18 (mayChoose r) ∷ row 19 (below (r .count) m) ∷ row 17 (someLeft (named (ownOf r) (openTo r m))) ∷ [])) → ChooseSays m (answered n 0 r)
             refusal-says n g =

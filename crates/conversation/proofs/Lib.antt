@@ -5,3 +5,6 @@ pub mod Rows
 pub mod Tokens
 pub mod Ends
 pub mod Demand
+pub mod Unchanged
+pub mod Worked
+pub mod Examples

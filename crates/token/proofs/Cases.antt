@@ -1,15 +1,11 @@
--- Document 01's examples P1 to P10: one statement about a list of cases, computed over the definitions.
+-- Document 01's examples P1 to P10, as a list of cases. They are proved, with P11 to P13, in crates/conversation/proofs/Worked.antt.
 -- Assumes nothing.
 use Prim.Native.Nat.{ℕ, _+_, _*_, _/_, _%_}
 use mathlib.Core.Bool.{Bool, true, false, cond, _&&_}
 use mathlib.Core.List.{List, [], _∷_, _++_}
 use lib.ListN.{replicate, length}
-use lib.Dec.{T, eqb}
-use Rattle.octets.specs.Octets.{le, signed32, sameOctets, sameId}
-use Rattle.vector.specs.Vector.{keepsRule}
-use Rattle.message.specs.Layout.{shapeOf, headOf, elementsAt, contentOf, vectorsOf}
-use Rattle.message.specs.Check.{commonRows, zeros, padsZero, allKeepRule, noneCritical, contentRows, bodyRows, frontRows}
-use Rattle.token.specs.Token.{orderRows, nextRows, chainOf, readingOf, tokenOf, Outcome, messages, refusal, outcomeOf}
+use lib.Dec.{eqb}
+use Rattle.token.specs.Token.{tokenOf, Outcome, messages, refusal, outcomeOf}
 
 -- the little-endian octets of a number
 abbrev two : ℕ → List ℕ
@@ -63,7 +59,3 @@ same (refusal n p) (refusal k r) = eqb n k && eqb p r
 abbrev pub allRight : List Case → Bool
 allRight [] = true
 allRight (x ∷ xs) = same (outcomeOf (tokenOf (x .token))) (x .outcome) && allRight xs
-
-pub worked : T (allRight cases)
-unfolding le signed32 sameOctets sameId keepsRule shapeOf headOf elementsAt contentOf vectorsOf commonRows zeros padsZero allKeepRule noneCritical contentRows bodyRows frontRows orderRows nextRows chainOf readingOf tokenOf outcomeOf
-worked = tt
