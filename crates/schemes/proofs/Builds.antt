@@ -15,11 +15,7 @@ use Rattle.schemes.specs.Lists.{Id, mem, bit}
 use Rattle.schemes.specs.Sets.{commonSet}
 use Rattle.schemes.specs.Answers.{markedAt}
 use Rattle.schemes.proofs.Ids.{rest, rest-start, rest-step, rest-end, length-ids}
-use Rattle.schemes.proofs.Places.{marked-bound}
-
-small : (b : Bool) → cond {A = ℕ} b 1 0 < 2
-small true = omega arith
-small false = omega arith
+use Rattle.schemes.proofs.Places.{small, marked-bound}
 
 pub common-bound : (l peer : List Id) → commonSet l peer < 2 ^ length l
 unfolding commonSet

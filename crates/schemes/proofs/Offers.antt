@@ -17,6 +17,7 @@ use Rattle.schemes.specs.Sets.{left, ones, padTo}
 use Rattle.schemes.specs.Answers.{joinIds, schemesOf}
 use Rattle.schemes.proofs.Ids.{length-ids}
 use Rattle.schemes.proofs.Mentions.{ids-snoc}
+use Rattle.schemes.proofs.Replies.{odd-bit}
 
 -- ---- an id copied behind others
 module _ (d id : List ℕ) (n : ℕ) where
@@ -145,11 +146,7 @@ pub ruleset gatherings = (gather-start, gather-end, gather-room, gather-skip, ga
 pub left-all : (l : List Id) → left l (ones (length l)) 0 ≡ l
 unfolding left ones
 left-all [] = refl
-left-all (x ∷ l) =
-    let c : ℕ = ones (length l) in
-    let e : (1 + 2 * c) % 2 ≡ 1 = omega arith in
-    let f : (1 + 2 * c) / 2 ≡ c = omega arith in
-    rw (e, f, left-all l)
+left-all (x ∷ l) = let o = odd-bit (ones (length l)) in rw (o .0, o .1, left-all l)
 
 pub ids-gathered : (n : ℕ) (s : List ℕ) (c m : ℕ) (zs : List ℕ) → n * 16 ≤ length s
     → idsAt (length (left (idsAt n s) c m)) (joinIds (left (idsAt n s) c m) ++ zs) ≡ left (idsAt n s) c m
