@@ -1,6 +1,6 @@
 -- Schemes gathered into octets: one scheme more, and one turn of each loop, in the words of the code.
 -- Assumes nothing.
-use Prim.Native.Nat.{ℕ, zero, suc, _+_, _*_, _-_, _/_, _%_, _^_, _≤_, _<_}
+use Prim.Native.Nat.{ℕ, zero, suc, _+_, _*_, _-_, _/_, _≤_, _<_}
 use mathlib.Core.Path.{_≡_, refl, sym, ap, _∙_}
 use mathlib.Core.Bool.{Bool, true, false, cond, not, _&&_}
 use mathlib.Core.List.{List, [], _∷_, _++_, append-assoc, append-nil}
@@ -8,7 +8,7 @@ use native.Mathlib.Nat.{mul-comm}
 use native.Mathlib.Numerals.{add-one}
 use native.Mathlib.Omega.{arith}
 use lib.ListN.{length, getD, set, take, drop, replicate, length-append, length-take, length-drop, length-replicate, replicate-append-replicate}
-use lib.Seq.{paste, paste-zero, paste-suc, take-all, take-at, drop-at, drop-append-add, drop-drop}
+use lib.Seq.{paste, paste-zero, paste-suc, take-all, take-at, drop-at, drop-append-add}
 use Rattle.octets.specs.Octets.{octets}
 use Rattle.message.specs.Show.{idsAt}
 use Rattle.schemes.specs.declared.Schemes.{Schemes}

@@ -3,20 +3,16 @@
 use Prim.Native.Nat.{ℕ, zero, suc, _+_, _*_, _-_, _/_, _%_, _^_, _≤_, _<_, min}
 use mathlib.Core.Path.{_≡_, refl, sym, ap, _∙_}
 use mathlib.Core.Bool.{Bool, true, false, cond, not, _&&_}
-use mathlib.Core.Logic.{_⊎_, inl, inr}
 use mathlib.Core.Option.{some}
-use mathlib.Core.List.{List, [], _∷_, _++_, map}
+use mathlib.Core.List.{List, [], _∷_, _++_}
 use native.Mathlib.Nat.{pow-suc, div-one, lt-of-le-of-lt, zero-add, add-zero}
 use native.Mathlib.Numerals.{add-one}
 use native.Mathlib.Omega.{arith}
 use lib.ListN.{length, getD, drop, length-map, List·getD-eq-default}
-use lib.Seq.{drop-cons}
 use lib.Dec.{eqb}
 use lib.Bits.{bitAnd, and-step, and-le-l}
 use lib.Count.{ones, ones-step, trailingZeros, trailing-le, under}
-use lib.Pow.{pow-pos, pow-mono, shr-shr}
-use borrow.Author.Tests.{eqb-true, eqb-false, eq-eqb, ne-eqb}
-use Rattle.message.proofs.Tables.{which}
+use lib.Pow.{shr-shr}
 use Rattle.schemes.specs.Lists.{Id, first, bit}
 use Rattle.schemes.specs.Sets.{left, openPlaces, named, padTo}
 use Rattle.schemes.specs.Answers.{markedAt, placesFrom, leftPlaces, leftOf}
