@@ -1,10 +1,10 @@
 -- Sets that a loop builds from the last place to the first, in the words of the code: the common set, and the marks by the kept places.
 -- Assumes nothing.
-use Prim.Native.Nat.{ℕ, zero, suc, _+_, _*_, _-_, _/_, _^_, _≤_, _<_}
-use mathlib.Core.Path.{_≡_, refl, sym, ap, _∙_}
+use Prim.Native.Nat.{ℕ, suc, _+_, _*_, _-_, _/_, _^_, _≤_, _<_}
+use mathlib.Core.Path.{_≡_, sym, _∙_}
 use mathlib.Core.Bool.{Bool, true, false, cond}
 use mathlib.Core.List.{List, [], _∷_}
-use native.Mathlib.Nat.{pow-suc, lt-of-lt-of-le, sub-self, add-sub-cancel-left}
+use native.Mathlib.Nat.{pow-suc, sub-self, add-sub-cancel-left}
 use native.Mathlib.Omega.{arith}
 use lib.ListN.{length, getD, take, drop, length-drop, drop-of-length-le}
 use lib.Seq.{drop-cons}
@@ -14,12 +14,8 @@ use Rattle.message.specs.Show.{idsAt, idsOf}
 use Rattle.schemes.specs.Lists.{Id, mem, bit}
 use Rattle.schemes.specs.Sets.{commonSet}
 use Rattle.schemes.specs.Answers.{markedAt}
-use Rattle.schemes.proofs.Ids.{rest, rest-start, rest-step, rest-end, length-ids}
-use Rattle.schemes.proofs.Places.{marked-bound}
-
-small : (b : Bool) → cond {A = ℕ} b 1 0 < 2
-small true = omega arith
-small false = omega arith
+use Rattle.schemes.proofs.Ids.{rest, rest-start, rest-step, length-ids}
+use Rattle.schemes.proofs.Places.{small, marked-bound}
 
 pub common-bound : (l peer : List Id) → commonSet l peer < 2 ^ length l
 unfolding commonSet

@@ -2,20 +2,20 @@
 -- Assumes nothing.
 use Prim.Native.Nat.{ℕ, zero, suc, _+_, _*_, _-_, _/_, _%_, _≤_, _<_}
 use mathlib.Core.Path.{_≡_, refl, sym, ap, _∙_}
-use mathlib.Core.Bool.{Bool, true, false, cond, not, _&&_}
+use mathlib.Core.Bool.{Bool, true, false, cond}
 use mathlib.Core.Logic.{_⊎_, inl, inr}
 use mathlib.Core.List.{List, [], _∷_}
 use native.Mathlib.Nat.{sub-zero, add-sub-cancel-left, le-of-eq}
 use native.Mathlib.Omega.{arith}
 use lib.ListN.{length, getD, take, drop, length-take, length-drop}
 use lib.Seq.{drop-drop, take-all}
-use lib.Dec.{eqb, leb, ltb, leb·suc-suc}
+use lib.Dec.{eqb, ltb, leb·suc-suc}
 use borrow.Author.Tests.{eqb-true, eqb-false, eq-eqb, ne-eqb, le-leb, lt-leb, lt-ltb, le-ltb}
 use Rattle.octets.specs.Octets.{octets, sameOctets, sameId}
 use Rattle.octets.proofs.Same.{same-eq, first-no-id, ids-start}
-use Rattle.message.specs.Show.{idsAt, idsOf}
+use Rattle.message.specs.Show.{idsAt}
 use Rattle.message.proofs.Tables.{which}
-use Rattle.schemes.specs.Lists.{Id, mem, place, distinct, oneTo16, listOk}
+use Rattle.schemes.specs.Lists.{Id, mem, place, distinct, listOk}
 
 -- beside an id of 16 octets, being the same id is having the same octets
 pub same-as : (a b : List ℕ) → length b ≡ 16 → sameId a b ≡ sameOctets a b

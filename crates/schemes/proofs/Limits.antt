@@ -1,18 +1,20 @@
 -- The kept places inside the own list: one turn of the test, in the words of the code, and what runs keep.
 -- Assumes nothing.
 use Prim.Native.Nat.{ℕ, zero, suc, _+_, _*_, _-_, _/_, _%_, _^_, _≤_, _<_}
-use mathlib.Core.Path.{_≡_, refl, sym, ap, _∙_}
+use mathlib.Core.Path.{_≡_, refl, sym, _∙_}
 use mathlib.Core.Bool.{Bool, true, false, cond, not, _&&_, _||_}
 use mathlib.Core.List.{List, [], _∷_, _++_}
-use native.Mathlib.Nat.{pow-suc}
+use native.Mathlib.Nat.{pow-suc, sub-zero}
 use native.Mathlib.Numerals.{add-one}
 use native.Mathlib.Omega.{arith}
 use lib.ListN.{length, getD, drop, drop-of-length-le}
 use lib.Seq.{drop-cons}
-use lib.Dec.{eqb, ltb}
+use lib.Dec.{ltb}
 use borrow.Author.Tests.{eq-eqb, ne-eqb, lt-ltb, ltb-true}
+use Rattle.octets.proofs.Same.{both}
 use Rattle.schemes.specs.Lists.{Id, place, bit}
-use Rattle.schemes.specs.Sets.{has, noted, mentions, keptPlaces, keptBelow, padTo}
+use Rattle.schemes.specs.Sets.{has, noted, mentions, keptPlaces, openPlaces, keptBelow, padTo}
+use Rattle.schemes.specs.Answers.{placesFrom, leftPlaces, leftOf}
 
 module _ (p m n : ℕ) where
   pub asked : m % 2 ≡ 1 → ltb p n ≡ (not (bit m 0) || ltb p n)
@@ -79,3 +81,41 @@ all-kept n (k ∷ ks) zs c a h =
 pub kept-below : (own reply : List Id) (c : ℕ) → c < 2 ^ length (keptPlaces own reply)
     → keptBelow (length own) (padTo 16 (keptPlaces own reply)) c ≡ true
 kept-below own reply c h = all-kept (length own) (keptPlaces own reply) _ c (mentions-below own reply [] tt) h
+
+-- ---- for callers: a place that is chosen lies inside the list
+pub open-below : (n : ℕ) (ks : List ℕ) (c m : ℕ) → keptBelow n ks c ≡ true → (leftOf (openPlaces ks c m) .left ≡ 0 → ⊥) → leftOf (openPlaces ks c m) .place < n
+unfolding keptBelow openPlaces leftOf
+open-below n [] c m h g = absurd (g refl)
+open-below n (k ∷ ks) c m h g =
+    let (u, v) = both (not (bit c 0) || ltb k n) (keptBelow n ks (c / 2)) h in
+    go (bit c 0) (bit m k) u (open-below n ks (c / 2) m v) g
+  where
+    go : (x y : Bool) → (not x || ltb k n) ≡ true → ((length (openPlaces ks (c / 2) m) ≡ 0 → ⊥) → getD (openPlaces ks (c / 2) m) 0 0 < n)
+        → (length (cond (x && not y) (k ∷ openPlaces ks (c / 2) m) (openPlaces ks (c / 2) m)) ≡ 0 → ⊥)
+        → getD (cond (x && not y) (k ∷ openPlaces ks (c / 2) m) (openPlaces ks (c / 2) m)) 0 0 < n
+    go true true u i f = i f
+    go true false u i f = ltb-true k n u
+    go false y u i f = i f
+
+pub places-below : (n k j c : ℕ) → c < 2 ^ (n - k) → keptBelow n (placesFrom k j) c ≡ true
+unfolding keptBelow placesFrom
+places-below n k zero c h = refl
+places-below n k (suc j) c h = go (n - k) refl (places-below n (suc k) j (c / 2)) where
+  go : (d : ℕ) → n - k ≡ d → (c / 2 < 2 ^ (n - suc k) → keptBelow n (placesFrom (suc k) j) (c / 2) ≡ true)
+      → (not (bit c 0) || ltb k n) && keptBelow n (placesFrom (suc k) j) (c / 2) ≡ true
+  go zero e i =
+      let q : c < 2 ^ 0 = rw e at h in
+      let z : c ≡ 0 = omega arith in
+      rw z (none-asked n (placesFrom (suc k) j))
+  go (suc d) e i =
+      let f : n - suc k ≡ d = omega arith in
+      let p : 2 ^ suc d ≡ 2 ^ d * 2 = pow-suc 2 d in
+      let q : c < 2 ^ suc d = rw e at h in
+      rw (lt-ltb k n (omega arith)) (over (not (bit c 0)) (i (rw f (omega arith))))
+    where
+      over : (b : Bool) → keptBelow n (placesFrom (suc k) j) (c / 2) ≡ true → (b || true) && keptBelow n (placesFrom (suc k) j) (c / 2) ≡ true
+      over true r = r
+      over false r = r
+
+pub own-below : (n c m : ℕ) → c < 2 ^ n → (leftOf (leftPlaces 16 c m) .left ≡ 0 → ⊥) → leftOf (leftPlaces 16 c m) .place < n
+own-below n c m h g = open-below n (placesFrom 0 16) c m (places-below n 0 16 c (rw sub-zero h)) g

@@ -1,6 +1,6 @@
 -- The kept places: a search among places, their number, and one turn of the loop over the peer's ids, in the words of the code.
 -- Assumes nothing.
-use Prim.Native.Nat.{ℕ, zero, suc, _+_, _*_, _-_, _/_, _^_, _≤_, _<_}
+use Prim.Native.Nat.{ℕ, zero, suc, _+_, _*_, _-_, _/_, _≤_, _<_}
 use mathlib.Core.Path.{_≡_, refl, sym, ap, _∙_}
 use mathlib.Core.Bool.{Bool, true, false, cond, not, _&&_, _||_}
 use mathlib.Core.List.{List, [], _∷_, _++_}
@@ -20,6 +20,7 @@ use Rattle.schemes.specs.Sets.{has, noted, mentions, keptPlaces, padTo}
 use Rattle.schemes.specs.Answers.{keptOf, placesIn, Noting}
 use Rattle.schemes.proofs.Ids.{length-ids}
 use Rattle.schemes.proofs.Pads.{pad-more}
+use Rattle.schemes.proofs.Replies.{has-append}
 
 -- ---- one turn of the search for a place: x is what the loop began with
 module _ (s : List ℕ) (p i : ℕ) (x : Bool) (inv : x ≡ has p (drop i s)) where
@@ -43,14 +44,9 @@ or-false : (b : Bool) → (b || false) ≡ b
 or-false true = refl
 or-false false = refl
 
-or-assoc : (a b c : Bool) → (a || (b || c)) ≡ ((a || b) || c)
-or-assoc true b c = refl
-or-assoc false b c = refl
-
 pub has-snoc : (x p : ℕ) (ps : List ℕ) → has x (ps ++ (p ∷ [])) ≡ (has x ps || eqb x p)
 unfolding has
-has-snoc x p [] = or-false (eqb x p)
-has-snoc x p (q ∷ qs) = rw (has-snoc x p qs) (or-assoc (eqb x q) (has x qs) (eqb x p))
+has-snoc x p ps = has-append x ps (p ∷ []) ∙ rw (or-false (eqb x p))
 
 -- ---- how many of n places are not among ps
 abbrev free : ℕ → List ℕ → ℕ

@@ -1,6 +1,6 @@
 -- Schemes gathered into octets: one scheme more, and one turn of each loop, in the words of the code.
 -- Assumes nothing.
-use Prim.Native.Nat.{ℕ, zero, suc, _+_, _*_, _-_, _/_, _%_, _^_, _≤_, _<_}
+use Prim.Native.Nat.{ℕ, zero, suc, _+_, _*_, _-_, _/_, _≤_, _<_}
 use mathlib.Core.Path.{_≡_, refl, sym, ap, _∙_}
 use mathlib.Core.Bool.{Bool, true, false, cond, not, _&&_}
 use mathlib.Core.List.{List, [], _∷_, _++_, append-assoc, append-nil}
@@ -8,7 +8,7 @@ use native.Mathlib.Nat.{mul-comm}
 use native.Mathlib.Numerals.{add-one}
 use native.Mathlib.Omega.{arith}
 use lib.ListN.{length, getD, set, take, drop, replicate, length-append, length-take, length-drop, length-replicate, replicate-append-replicate}
-use lib.Seq.{paste, paste-zero, paste-suc, take-all, take-at, drop-at, drop-append-add, drop-drop}
+use lib.Seq.{paste, paste-zero, paste-suc, take-all, take-at, drop-at, drop-append-add}
 use Rattle.octets.specs.Octets.{octets}
 use Rattle.message.specs.Show.{idsAt}
 use Rattle.schemes.specs.declared.Schemes.{Schemes}
@@ -17,6 +17,7 @@ use Rattle.schemes.specs.Sets.{left, ones, padTo}
 use Rattle.schemes.specs.Answers.{schemesOf}
 use Rattle.schemes.proofs.Ids.{length-ids}
 use Rattle.schemes.proofs.Mentions.{ids-snoc}
+use Rattle.schemes.proofs.Replies.{odd-bit}
 
 -- ---- an id copied behind others
 module _ (d id : List ℕ) (n : ℕ) where
@@ -144,11 +145,7 @@ pub ruleset gatherings = (gather-start, gather-end, gather-room, gather-skip, ga
 pub left-all : (l : List Id) → left l (ones (length l)) 0 ≡ l
 unfolding left ones
 left-all [] = refl
-left-all (x ∷ l) =
-    let c : ℕ = ones (length l) in
-    let e : (1 + 2 * c) % 2 ≡ 1 = omega arith in
-    let f : (1 + 2 * c) / 2 ≡ c = omega arith in
-    rw (e, f, left-all l)
+left-all (x ∷ l) = let o = odd-bit (ones (length l)) in rw (o .0, o .1, left-all l)
 
 pub ids-gathered : (n : ℕ) (s : List ℕ) (c m : ℕ) (zs : List ℕ) → n * 16 ≤ length s
     → idsAt (length (left (idsAt n s) c m)) (joinIds (left (idsAt n s) c m) ++ zs) ≡ left (idsAt n s) c m

@@ -3,24 +3,22 @@
 use Prim.Native.Nat.{ℕ, zero, suc, _+_, _*_, _-_, _/_, _%_, _^_, _≤_, _<_, min}
 use mathlib.Core.Path.{_≡_, refl, sym, ap, _∙_}
 use mathlib.Core.Bool.{Bool, true, false, cond, not, _&&_}
-use mathlib.Core.Logic.{_⊎_, inl, inr}
-use mathlib.Core.List.{List, [], _∷_, _++_, map}
+use mathlib.Core.Option.{some}
+use mathlib.Core.List.{List, [], _∷_, _++_}
 use native.Mathlib.Nat.{pow-suc, div-one, lt-of-le-of-lt, zero-add, add-zero}
 use native.Mathlib.Numerals.{add-one}
 use native.Mathlib.Omega.{arith}
-use lib.ListN.{length, getD, drop, List·getD-eq-default}
-use lib.Seq.{drop-cons}
+use lib.ListN.{length, getD, drop, length-map, List·getD-eq-default}
 use lib.Dec.{eqb}
 use lib.Bits.{bitAnd, and-step, and-le-l}
 use lib.Count.{ones, ones-step, trailingZeros, trailing-le, under}
-use lib.Pow.{pow-pos, pow-mono, shr-shr}
-use borrow.Author.Tests.{eqb-true, eqb-false, eq-eqb, ne-eqb}
-use Rattle.message.proofs.Tables.{which}
-use Rattle.schemes.specs.Lists.{Id, bit}
+use lib.Pow.{shr-shr}
+use Rattle.schemes.specs.Lists.{Id, first, bit}
 use Rattle.schemes.specs.Sets.{left, openPlaces, named, padTo}
 use Rattle.schemes.specs.Answers.{markedAt, placesFrom, leftPlaces, leftOf}
 use Rattle.schemes.specs.declared.Left.{Left}
 use Rattle.schemes.proofs.Digits.{bit-shift}
+use Rattle.schemes.proofs.Replies.{open-none}
 
 -- ---- the lowest bit by itself
 pub lowest : (m : ℕ) → m % 2 ≡ cond (bit m 0) 1 0
@@ -36,7 +34,7 @@ both-bits true false = refl
 both-bits false true = refl
 both-bits false false = refl
 
-small : (b : Bool) → cond {A = ℕ} b 1 0 < 2
+pub small : (b : Bool) → cond {A = ℕ} b 1 0 < 2
 small true = omega arith
 small false = omega arith
 
@@ -192,14 +190,9 @@ zeros-fit w = omega (arith, trailing-le 16 w)
 pub ruleset choices = (zeros-fit, choice-none, choice-some, choice-inside, own-none, own-some)
 
 -- ---- for callers: what a set without bits beyond some places leaves, it leaves among them
-none-open : (zs : List ℕ) (m : ℕ) → openPlaces zs 0 m ≡ []
-unfolding openPlaces
-none-open [] m = refl
-none-open (z ∷ zs) m = none-open zs m
-
 pub open-append : (ks zs : List ℕ) (c m : ℕ) → c < 2 ^ length ks → openPlaces (ks ++ zs) c m ≡ openPlaces ks c m
 unfolding openPlaces
-open-append [] zs c m h = let z : c ≡ 0 = omega arith in rw z (none-open zs m)
+open-append [] zs c m h = let z : c ≡ 0 = omega arith in rw z (open-none zs m)
 open-append (k ∷ ks) zs c m h =
     let p : 2 ^ suc (length ks) ≡ 2 ^ length ks * 2 = pow-suc 2 (length ks) in
     rw (open-append ks zs (c / 2) m (omega arith))
@@ -245,3 +238,13 @@ named-from own k (x ∷ l) c m e =
 
 pub named-left : (own : List Id) (c m : ℕ) → named own (leftPlaces (length own) c m) ≡ left own c m
 named-left own c m = named-from own 0 own c m refl ∙ rw div-one
+
+-- ---- for callers: the first scheme at the places left, and their number
+pub count-named : (own : List Id) (ps : List ℕ) → length (named own ps) ≡ leftOf ps .left
+unfolding leftOf
+count-named own ps = length-map ps (λ k. getD own k [])
+
+pub first-named : (own : List Id) (ps : List ℕ) → (leftOf ps .left ≡ 0 → ⊥) → first (named own ps) ≡ some (getD own (leftOf ps .place) [])
+unfolding leftOf
+first-named own [] h = absurd (h refl)
+first-named own (p ∷ ps) h = refl

@@ -19,7 +19,7 @@ use Rattle.schemes.proofs.Choice.{no-true, and-l, and-r, mem-head, mem-
 even-bit : (n : ℕ) → (bit (0 + 2 * n) 0 ≡ false) × ((0 + 2 * n) / 2 ≡ n)
 even-bit n = (ne-eqb ((0 + 2 * n) % 2) 1 (λ e. omega arith), omega arith)
 
-odd-bit : (n : ℕ) → (bit (1 + 2 * n) 0 ≡ true) × ((1 + 2 * n) / 2 ≡ n)
+pub odd-bit : (n : ℕ) → (bit (1 + 2 * n) 0 ≡ true) × ((1 + 2 * n) / 2 ≡ n)
 odd-bit n = (eq-eqb ((1 + 2 * n) % 2) 1 (omega arith), omega arith)
 
 -- the acceptor: the common schemes less its marks, in its own order
@@ -59,7 +59,7 @@ getD-place (x ∷ l) s m = elim (which (sameOctets s x)) [
 ]
 
 -- places of different own schemes are all noted, in order
-has-append : (p : ℕ) (ps qs : List ℕ) → has p (ps ++ qs) ≡ has p ps || has p qs
+pub has-append : (p : ℕ) (ps qs : List ℕ) → has p (ps ++ qs) ≡ has p ps || has p qs
 unfolding has
 has-append p [] qs = refl
 has-append p (q ∷ ps) qs = elim (which (eqb p q)) [ inl e ↦ rw e | inr e ↦ rw e (has-append p ps qs) ]
@@ -85,7 +85,7 @@ mentions-all own (x ∷ l) ps d h f =
     ∙ append-assoc ps (p ∷ []) (map (place own) l))
 
 -- what is open of kept places, with anything behind them whose bit is not set
-open-none : (ks : List ℕ) (m : ℕ) → openPlaces ks 0 m ≡ []
+pub open-none : (ks : List ℕ) (m : ℕ) → openPlaces ks 0 m ≡ []
 unfolding openPlaces
 open-none [] m = refl
 open-none (k ∷ ks) m = open-none ks m
