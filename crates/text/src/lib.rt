@@ -8,7 +8,7 @@ ghost use Rattle.octets.specs.Octets.{signed32};
 ghost use Rattle.text.specs.Text.{text, written, put as Text·put, decimal, decimal64, signed as Text·signed, glyphOf, glyphs as Text·glyphs, hexOf, hexDigit, idText};
 
 // The octets v from `at` on.
-pub fn put(d: &mut [u8], at: usize, v: &[u8]) -> usize
+fn put(d: &mut [u8], at: usize, v: &[u8]) -> usize
     requires { ⌜ at + length (now v) ≤ length (now d) ⌝ }
     ensures { λ r. ⌜ text (now (d .exit)) r ≡ text (Text·put (now (d .entry)) at (now (v .entry))) (at + length (now (v .entry))) ⌝ }
 {
