@@ -1,8 +1,8 @@
 -- What the private functions promise. No contract of a public function speaks of these.
 --
 -- Glossary
---   Readable m      m has room for its header, and its vectors keep their rule: what an accepted token's messages have
---   Accepts s       the structural reading accepts s
+--   Fit h m         m, of the layout h, has room for its header, and its vectors keep their rule: as each message of an accepted token
+--   shapeIn m       the layout of the message m; linesIn h m: the lines of the content of m, of the layout h
 --   LineIs r d l    the first r octets of d are the line l
 --   State           a window at work: its progress and its buffer; state builds one
 --   step t l        the state after one more line l of the listing; steps ls t: after the lines ls
@@ -14,16 +14,21 @@ use mathlib.Core.List.{List, [], _∷_}
 use lib.ListN.{length, take}
 use lib.Dec.{leb, eqb}
 use Rattle.io.specs.Counts.{Counts}
-use Rattle.message.specs.Layout.{headOf, shapeOf, headerOf, contentOf, vectorsOf}
+use Rattle.message.specs.Layout.{Shape, headOf, shapeOf, headerOf, contentOf, vectorsOf}
 use Rattle.message.specs.Check.{allKeepRule}
-use Rattle.token.specs.Token.{Placed, Accepted, tokenOf}
 use Rattle.text.specs.Text.{joined, put}
 use Rattle.listing.specs.declared.Progress.{Progress}
+use Rattle.listing.specs.Lines.{contentLines}
 
-pub record Readable (m : List ℕ) : Type 0 where
-  pub known : headOf m .kind ≤ 7
-  pub room : headerOf (shapeOf (headOf m .kind)) ≤ length m
-  pub rule : allKeepRule (headerOf (shapeOf (headOf m .kind))) (length m) (vectorsOf (contentOf (shapeOf (headOf m .kind)) m)) ≡ true
+pub record Fit (shape : Shape) (m : List ℕ) : Type 0 where
+  pub room : headerOf shape ≤ length m
+  pub rule : allKeepRule (headerOf shape) (length m) (vectorsOf (contentOf shape m)) ≡ true
+
+abbrev pub shapeIn : List ℕ → Shape
+shapeIn m = shapeOf (headOf m .kind)
+
+abbrev pub linesIn : Shape → List ℕ → List (List (List ℕ))
+linesIn shape m = contentLines m (contentOf shape m)
 
 pub record LineIs (r : ℕ) (d : List ℕ) (l : List (List ℕ)) : Type 0 where
   pub counts : Counts r d

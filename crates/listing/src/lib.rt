@@ -1,4 +1,5 @@
 // The lines of a token, and windows of them.
+mod content;
 mod line;
 
 // How far a window is: lines to pass over, lines to show, and what is shown.
