@@ -1,3 +1,5 @@
 pub mod Chained
 pub mod Lists
 pub mod Contents
+pub mod Shorts
+pub mod Stepping

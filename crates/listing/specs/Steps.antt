@@ -3,8 +3,9 @@
 -- Glossary
 --   Fit h m         m, of the layout h, has room for its header, and its vectors keep their rule: as each message of an accepted token
 --   shapeIn m       the layout of the message m; linesIn h m: the lines of the content of m, of the layout h
+--   messagesOf r    the messages of a reading that accepts, none of one that refuses
 --   LineIs r d l    the first r octets of d are the line l
---   State           a window at work: its progress and its buffer; state builds one
+--   State           a window at work: its progress and its buffer; within and state build one
 --   step t l        the state after one more line l of the listing; steps ls t: after the lines ls
 --   Going p n       the progress p stays inside a buffer of n octets and the numbers of 64 bits
 use Prim.Native.Nat.{ℕ, _+_, _-_, _<_, _≤_}
@@ -16,6 +17,7 @@ use lib.Dec.{leb, eqb}
 use Rattle.io.specs.Counts.{Counts}
 use Rattle.message.specs.Layout.{Shape, headOf, shapeOf, headerOf, contentOf, vectorsOf}
 use Rattle.message.specs.Check.{allKeepRule}
+use Rattle.token.specs.Token.{Placed, Reading, Accepted, Refused, tokenOf}
 use Rattle.text.specs.Text.{joined, put}
 use Rattle.listing.specs.declared.Progress.{Progress}
 use Rattle.listing.specs.Lines.{contentLines}
@@ -30,6 +32,14 @@ shapeIn m = shapeOf (headOf m .kind)
 abbrev pub linesIn : Shape → List ℕ → List (List (List ℕ))
 linesIn shape m = contentLines m (contentOf shape m)
 
+abbrev pub messagesOf : Reading → List Placed
+messagesOf (Accepted ms) = ms
+messagesOf (Refused n place) = []
+
+-- the structural reading accepts s
+abbrev pub Accepts : List ℕ → Type 0
+Accepts s = tokenOf s ≡ Accepted (messagesOf (tokenOf s))
+
 pub record LineIs (r : ℕ) (d : List ℕ) (l : List (List ℕ)) : Type 0 where
   pub counts : Counts r d
   pub is : take r d ≡ joined l
@@ -37,6 +47,9 @@ pub record LineIs (r : ℕ) (d : List ℕ) (l : List (List ℕ)) : Type 0 where
 pub record State : Type 0 where
   pub progress : Progress
   pub buffer : List ℕ
+
+abbrev pub within : Progress → List ℕ → State
+within p d = record { progress = p; buffer = d }
 
 abbrev pub state : ℕ → ℕ → ℕ → ℕ → List ℕ → State
 state skip left lines octets d = record { progress = record { skip = skip; left = left; lines = lines; octets = octets }; buffer = d }

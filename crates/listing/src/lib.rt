@@ -1,11 +1,118 @@
 // The lines of a token, and windows of them.
+ghost use mathlib.Core.Path.{_≡_};
+ghost use Prim.Native.Nat.{_+_, _-_, _≤_};
+ghost use mathlib.Core.List.{[]};
+ghost use lib.ListN.{length, getD};
+ghost use Rattle.token.specs.Token.{tokenOf};
+ghost use Rattle.text.specs.Text.{joined};
+ghost use Rattle.listing.specs.Lines.{messageLines};
+ghost use Rattle.listing.specs.Listing.{endLine, refusedLine, allLines, texts, Outcome, windowOf};
+ghost use Rattle.listing.specs.Steps.{Fit, shapeIn, messagesOf, Accepts, LineIs, State, within, step, steps, Going};
+use octets::le_u32;
+use text::append;
+use token::Answer;
+use token::read_token;
+use vector::MessageOffset;
+use vector::TokenPlace;
+use vector::in_token;
+
 mod content;
 mod line;
 
-// How far a window is: lines to pass over, lines to show, and what is shown.
+// How many lines a window shows, and in how many octets.
+pub struct Shown {
+    pub lines: usize,
+    pub octets: usize,
+}
+
+// How far a window is: lines to pass over, lines still asked for, and what is shown.
 pub(crate) struct Progress {
     pub(crate) skip: usize,
     pub(crate) left: usize,
     pub(crate) lines: usize,
     pub(crate) octets: usize,
+}
+
+// One more line of the listing: passed over, shown, or the end of the window where it has no room.
+fn put_line(p: Progress, d: &mut [u8], text: &[u8]) -> Progress
+    requires { ⌜ Going p (length (now d)) ⌝ }
+    ensures { λ r. ⌜ within r (now (d .exit)) ≡ step (within p (now (d .entry))) (now (text .entry)) ⌝ }
+{
+    if p.left == 0 {
+        return p;
+    }
+    if p.skip != 0 {
+        return Progress {
+            skip: p.skip - 1,
+            left: p.left,
+            lines: p.lines,
+            octets: p.octets,
+        };
+    }
+    if d.len() - p.octets < text.len() {
+        return Progress {
+            skip: 0,
+            left: 0,
+            lines: p.lines,
+            octets: p.octets,
+        };
+    }
+    let next = append(d, p.octets, text);
+    Progress {
+        skip: 0,
+        left: p.left - 1,
+        lines: p.lines + 1,
+        octets: next,
+    }
+}
+
+// Each of the three kinds of line in an array of 128 octets, which has room for every line.
+fn message_text(out: &mut [u8; 128], place: TokenPlace, m: &[u8], index: usize) -> usize
+    requires { ⌜ Fit (shapeIn (now m)) (now m) ⌝ }
+    ensures { λ r. ⌜ LineIs r (now (out .exit)) (getD (messageLines (place .0) (now (m .entry))) index []) ⌝ }
+{
+    content::line_at(out, place, m, index)
+}
+
+fn end_text(out: &mut [u8; 128], n: u32, octets: usize) -> usize
+    ensures { λ r. ⌜ LineIs r (now (out .exit)) (endLine n octets) ⌝ }
+{
+    line::end(out, n, octets)
+}
+
+fn refused_text(out: &mut [u8; 128], n: u32, place: TokenPlace) -> usize
+    ensures { λ r. ⌜ LineIs r (now (out .exit)) (refusedLine n (place .0)) ⌝ }
+{
+    line::refused(out, n, place)
+}
+
+// The line of the message m with an index.
+fn show_line(p: Progress, d: &mut [u8], place: TokenPlace, m: &[u8], index: usize) -> Progress
+    requires { ⌜ Fit (shapeIn (now m)) (now m) ⌝ }
+    requires { ⌜ Going p (length (now d)) ⌝ }
+    ensures { λ r. ⌜ within r (now (d .exit)) ≡ step (within p (now (d .entry))) (joined (getD (messageLines (place .0) (now (m .entry))) index [])) ⌝ }
+{
+    let mut text = [0u8; 128];
+    let k = message_text(&mut text, place, m, index);
+    put_line(p, d, &text[..k])
+}
+
+// The last line of an accepted token.
+fn show_end(p: Progress, d: &mut [u8], n: u32, octets: usize) -> Progress
+    requires { ⌜ Going p (length (now d)) ⌝ }
+    ensures { λ r. ⌜ within r (now (d .exit)) ≡ step (within p (now (d .entry))) (joined (endLine n octets)) ⌝ }
+{
+    let mut text = [0u8; 128];
+    let k = end_text(&mut text, n, octets);
+    put_line(p, d, &text[..k])
+}
+
+// The only line of a refused token.
+fn show_refusal(p: Progress, d: &mut [u8], n: u32, place: TokenPlace) -> Progress
+    requires { ⌜ Going p (length (now d)) ⌝ }
+    ensures { λ r. ⌜ within r (now (d .exit)) ≡ step (within p (now (d .entry))) (joined (refusedLine n (place .0))) ⌝ }
+{
+    let mut text = [0u8; 128];
+    let k = refused_text(&mut text, n, place);
+    put_line(p, d, &text[..k])
 }

@@ -143,3 +143,8 @@ module _ (t : Text) (i order : List ℕ) where
       e ∙ ap (λ (ks : List ℕ). written (glyphs i ks) t) (ap (λ (n : ℕ). take n order) z ∙ take-length order)
 
 pub ruleset pieces = (append-long, append-late, append-put, hex-written, glyph-dash, glyph-octet, glyph-past, glyphs-start, glyphs-more, glyphs-end)
+
+-- the length of pieces behind pieces
+pub length-joined : (ps qs : List (List ℕ)) → length (joined (ps ++ qs)) ≡ length (joined ps) + length (joined qs)
+length-joined [] qs = omega arith
+length-joined (p ∷ ps) qs = omega (arith, length-append p (joined (ps ++ qs)), length-joined ps qs, length-append p (joined ps))
