@@ -3,3 +3,5 @@ pub mod Lists
 pub mod Contents
 pub mod Shorts
 pub mod Stepping
+pub mod Turns
+pub mod Windows

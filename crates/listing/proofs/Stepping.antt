@@ -15,8 +15,9 @@ use Rattle.text.specs.Text.{joined, put, Text, text, appended, written}
 use Rattle.text.proofs.Putting.{length-put}
 use Rattle.text.proofs.Pieces.{which}
 use Rattle.listing.specs.declared.Progress.{Progress}
+use Rattle.listing.specs.Lines.{messageLines}
 use Rattle.listing.specs.Listing.{texts}
-use Rattle.listing.specs.Steps.{LineIs, State, within, state, placed, stepFrom, step, steps, Going}
+use Rattle.listing.specs.Steps.{shapeIn, linesIn, LineIs, State, within, state, placed, stepFrom, step, steps, Going}
 
 -- the answers of `put_line`
 module _ (p : Progress) (d l : List ℕ) where
@@ -99,6 +100,11 @@ module _ (p q : Progress) (d d' : List ℕ) (n : ℕ) (size : length d ≡ n) (g
   steps-going-on ls e =
       subst (Going q) size (subst (λ (t : State). Going (t .progress) (length d)) (sym e) (steps-going ls (within p d) start-going))
 
+pub went : (p q : Progress) (d d' : List ℕ) (ls : List (List ℕ)) → within q d' ≡ steps ls (within p d) → Going p (length d) → Going q (length d')
+went p q d d' ls e g =
+    let n : length d ≡ length d' = sym (ap (λ (t : State). length (t .buffer)) e ∙ steps-length ls (within p d)) in
+    steps-going-on p q d d' (length d') n (subst (Going p) n g) ls e
+
 pub steps-append : (xs ys : List (List ℕ)) (t : State) → steps (xs ++ ys) t ≡ steps ys (steps xs t)
 unfolding steps
 steps-append [] ys t = refl
@@ -141,39 +147,53 @@ steps-turn ls i t h = rw (add-one, drop-cons ls i [] h)
 
 -- the texts of lines
 pub length-texts : (ls : List (List (List ℕ))) → length (texts ls) ≡ length ls
+unfolding texts
 length-texts [] = refl
 length-texts (l ∷ ls) = ap suc (length-texts ls)
 
 pub getD-texts : (ls : List (List (List ℕ))) (i : ℕ) → getD (texts ls) i [] ≡ joined (getD ls i [])
+unfolding texts
 getD-texts [] i = refl
 getD-texts (l ∷ ls) zero = refl
 getD-texts (l ∷ ls) (suc i) = getD-texts ls i
 
 pub texts-append : (xs ys : List (List (List ℕ))) → texts (xs ++ ys) ≡ texts xs ++ texts ys
+unfolding texts
 texts-append [] ys = refl
 texts-append (x ∷ xs) ys = ap (λ (ts : List (List ℕ)). joined x ∷ ts) (texts-append xs ys)
 
--- the lines of one message, in the words of `show_message`: x is what they come to
-module _ (ls : List (List (List ℕ))) (n : ℕ) (count : n ≡ length ls) (p : Progress) (d : List ℕ) where
-  pub over-all : (p .left ≡ 0 → ⊥) → n ≤ p .skip → state (p .skip - n) (p .left) (p .lines) (p .octets) d ≡ steps (texts ls) (within p d)
-  over-all more h =
-      let e : n ≡ length (texts ls) = count ∙ sym (length-texts ls) in
-      ap (λ (k : ℕ). within (at-skip p (p .skip - k)) d) e ∙ steps-over (texts ls) (p .skip) p d more (omega (arith, e))
+-- the lines of one message, in the words of `show_message` and `show_lines`: n is their number, x what they come to
+module _ (place : ℕ) (m : List ℕ) (n : ℕ) (count : n ≡ 1 + length (linesIn (shapeIn m) m)) where
+  own : List (List ℕ)
+  own = texts (messageLines place m)
 
-  pub into-all : (p .left ≡ 0 → ⊥) → p .skip < n → steps (texts ls) (within p d) ≡ steps (drop (p .skip) (texts ls)) (state 0 (p .left) (p .lines) (p .octets) d)
-  into-all more h = steps-into (texts ls) (p .skip) p d more (omega (arith, count, length-texts ls))
+  length-own : n ≡ length own
+  unfolding own messageLines
+  length-own = count ∙ sym (length-texts (messageLines place m) ∙ more) where
+    more : suc (length (linesIn (shapeIn m) m)) ≡ 1 + length (linesIn (shapeIn m) m)
+    more = omega arith
 
-module _ (ls : List (List (List ℕ))) (n : ℕ) (count : n ≡ length ls) (x : State) (i : ℕ) (q : Progress) (e : List ℕ) (inv : x ≡ steps (drop i (texts ls)) (within q e)) where
-  pub lines-done : q .left ≡ 0 → within q e ≡ x
-  lines-done z = steps-done (drop i (texts ls)) q e z ∙ sym inv
+  module _ (p : Progress) (d : List ℕ) (some : p .left ≡ 0 → ⊥) where
+    pub over-all : n ≤ p .skip → state (p .skip - n) (p .left) (p .lines) (p .octets) d ≡ steps (texts (messageLines place m)) (within p d)
+    unfolding own
+    over-all h = ap (λ (k : ℕ). within (at-skip p (p .skip - k)) d) length-own ∙ steps-over own (p .skip) p d some (omega (arith, length-own))
 
-  pub lines-end : n ≤ i → within q e ≡ x
-  unfolding steps
-  lines-end h = sym (inv ∙ ap (λ (ts : List (List ℕ)). steps ts (within q e)) (drop-of-length-le (texts ls) {i = i} (omega (arith, count, length-texts ls))))
+    pub into-all : p .skip < n → (x : State) → x ≡ steps (drop (p .skip) (texts (messageLines place m))) (state 0 (p .left) (p .lines) (p .octets) d) → x ≡ steps (texts (messageLines place m)) (within p d)
+    unfolding own
+    into-all h x e = e ∙ sym (steps-into own (p .skip) p d some (omega (arith, length-own)))
 
-  pub lines-turn : i < n → (q' : Progress) (e' : List ℕ) → within q' e' ≡ step (within q e) (joined (getD ls i [])) → x ≡ steps (drop (i + 1) (texts ls)) (within q' e')
-  lines-turn h q' e' s =
-      inv ∙ steps-turn (texts ls) i (within q e) (omega (arith, count, length-texts ls))
-      ∙ ap (steps (drop (i + 1) (texts ls))) (ap (step (within q e)) (getD-texts ls i) ∙ sym s)
+  module _ (x : State) (i : ℕ) (q : Progress) (e : List ℕ) (inv : x ≡ steps (drop i (texts (messageLines place m))) (within q e)) where
+    pub lines-done : q .left ≡ 0 → within q e ≡ x
+    lines-done z = steps-done (drop i (texts (messageLines place m))) q e z ∙ sym inv
 
-pub ruleset lines = (over-all, into-all, lines-done, lines-end, lines-turn)
+    pub lines-end : n ≤ i → within q e ≡ x
+    unfolding own steps
+    lines-end h = sym (inv ∙ ap (λ (ts : List (List ℕ)). steps ts (within q e)) (drop-of-length-le own {i = i} (omega (arith, length-own))))
+
+    pub lines-turn : i < n → (q' : Progress) (e' : List ℕ) → within q' e' ≡ step (within q e) (joined (getD (messageLines place m) i [])) → x ≡ steps (drop (i + 1) (texts (messageLines place m))) (within q' e')
+    unfolding own
+    lines-turn h q' e' s =
+        inv ∙ steps-turn own i (within q e) (omega (arith, length-own))
+        ∙ ap (steps (drop (i + 1) own)) (ap (step (within q e)) (getD-texts (messageLines place m) i) ∙ sym s)
+
+pub ruleset lines = (steps-done, over-all, into-all, lines-done, lines-end, lines-turn)

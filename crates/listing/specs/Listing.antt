@@ -5,7 +5,7 @@
 --   tokenLines s                   the lines of the token s; linesOf s: their texts
 --   fitting r ls                   as many whole lines from the front of ls as fit into r octets
 --   range a b ls                   the lines of ls with the places from a up to, not including, b
---   Outcome                        what a window answers, with the buffer as it leaves it
+--   Outcome                        what a window answers, with the buffer as it leaves it; outcome gives it for the answer of src/
 --   windowOf s a b d               the outcome of the window from line a up to line b of s, in the buffer d
 use Prim.Native.Nat.{ℕ, _-_}
 use mathlib.Core.Bool.{cond}
@@ -14,6 +14,7 @@ use lib.ListN.{length, take, drop}
 use lib.Dec.{leb}
 use Rattle.token.specs.Token.{Placed, Reading, Accepted, Refused, tokenOf}
 use Rattle.text.specs.Text.{quoted, decimal, decimal64, joined, put}
+use Rattle.listing.specs.declared.Shown.{Shown}
 use Rattle.listing.specs.Lines.{messageLines}
 
 -- "the last line has the number of messages and the file's length"
@@ -36,7 +37,7 @@ readingLines (Refused n place) octets = refusedLine n place ∷ []
 abbrev pub tokenLines : List ℕ → List (List (List ℕ))
 tokenLines s = readingLines (tokenOf s) (length s)
 
-abbrev pub texts : List (List (List ℕ)) → List (List ℕ)
+unfoldable pub texts : List (List (List ℕ)) → List (List ℕ)
 texts [] = []
 texts (l ∷ ls) = joined l ∷ texts ls
 
@@ -54,6 +55,9 @@ pub record Outcome : Type 0 where
   pub lines : ℕ
   pub octets : ℕ
   pub buffer : List ℕ
+
+abbrev pub outcome : Shown → List ℕ → Outcome
+outcome r d = record { lines = r .lines; octets = r .octets; buffer = d }
 
 -- lines at the buffer's front
 abbrev pub shownIn : List ℕ → List (List ℕ) → Outcome

@@ -6,6 +6,7 @@
 --   messagesOf r    the messages of a reading that accepts, none of one that refuses
 --   LineIs r d l    the first r octets of d are the line l
 --   State           a window at work: its progress and its buffer; within and state build one
+--   startOf a b     the progress of a window that is to show the lines from a up to b
 --   step t l        the state after one more line l of the listing; steps ls t: after the lines ls
 --   Going p n       the progress p stays inside a buffer of n octets and the numbers of 64 bits
 use Prim.Native.Nat.{ℕ, _+_, _-_, _<_, _≤_}
@@ -53,6 +54,10 @@ within p d = record { progress = p; buffer = d }
 
 abbrev pub state : ℕ → ℕ → ℕ → ℕ → List ℕ → State
 state skip left lines octets d = record { progress = record { skip = skip; left = left; lines = lines; octets = octets }; buffer = d }
+
+-- nothing is shown yet of the lines from `first` up to, not including, `end`
+abbrev pub startOf : ℕ → ℕ → Progress
+startOf first end = record { skip = first; left = end - first; lines = 0; octets = 0 }
 
 -- a line that fits is put behind those before it; the first that does not fit is the end
 abbrev pub placed : ℕ → ℕ → ℕ → List ℕ → List ℕ → State
