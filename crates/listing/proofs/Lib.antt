@@ -5,3 +5,4 @@ pub mod Shorts
 pub mod Stepping
 pub mod Turns
 pub mod Windows
+pub mod Covers
