@@ -6,3 +6,4 @@ pub mod Stepping
 pub mod Turns
 pub mod Windows
 pub mod Covers
+pub mod Bounds

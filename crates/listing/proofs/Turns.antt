@@ -30,7 +30,7 @@ pub record Left (rest : List ℕ) : Type 0 where
   pub numbered : Numbered q v ms
 
 -- a message that passed has room for its header, and its vectors keep their rule
-message-fit : (q : ℕ) (v m : List ℕ) → Message q v m → Fit (shapeIn m) m
+pub message-fit : (q : ℕ) (v m : List ℕ) → Message q v m → Fit (shapeIn m) m
 unfolding frontRows bodyRows contentRows
 message-fit q v m e =
     let z = passes-sized m q v (e .pass) in
