@@ -1,7 +1,7 @@
 -- The loop of windows over a listing: it gets on while there are lines, and stops behind the last. Counts of octets that are read.
 -- Assumes nothing.
 use Prim.Native.Nat.{ℕ, _+_, _-_, _<_, _≤_}
-use mathlib.Core.Path.{_≡_, refl, sym, ap, _∙_}
+use mathlib.Core.Path.{_≡_, refl, sym, ap, subst, _∙_}
 use mathlib.Core.Bool.{true, false}
 use mathlib.Core.Logic.{_⊎_, inl, inr}
 use mathlib.Core.List.{List, _++_}
@@ -16,6 +16,9 @@ use Rattle.listing.specs.declared.Shown.{Shown}
 use Rattle.listing.specs.Listing.{linesOf, range, Outcome, outcome, windowOf}
 use Rattle.listing.proofs.Covers.{gets-on, window-octets, window-lines}
 use Rattle.listing.proofs.Bounds.{few-lines}
+use Rattle.console.specs.declared.Loaded.{Loaded}
+use Rattle.console.specs.declared.Loaded.the-variants as answer
+use Rattle.console.specs.Console.{holds}
 
 -- the end of every range that is asked for
 abbrev END : ℕ
@@ -46,3 +49,7 @@ counted n d h = (h, sym (length-take-le n d h))
 -- the same, where what stands behind was read into
 pub counted-front : (n : ℕ) (d e : List ℕ) → n ≤ length d → Counts n (take n d ++ e)
 counted-front n d e h = counted n (take n d ++ e) (omega (arith, length-append (take n d) e, length-take-le n d h))
+
+-- the octets of a file that was loaded
+pub loaded : (r : Loaded) (d : List ℕ) (k : ℕ) → holds r d → r ≡ answer.Octets k → Counts k d
+loaded r d k h e = subst (λ (x : Loaded). holds x d) e h

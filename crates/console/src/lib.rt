@@ -58,3 +58,20 @@ pub fn print(fd: i32, token: &[u8]) -> usize
         first += w.lines;
     }
 }
+
+// Lists the token in the file with a name, by way of a buffer that the caller lends.
+pub fn list_file(fd: i32, name: &[u8], buf: &mut [u8]) -> Loaded
+    ensures { λ r. ⌜ holds r (now (buf .exit)) ⌝ }
+{
+    let loaded = load(name, buf);
+    match loaded {
+        Loaded::Octets(n) => {
+            print(fd, &buf[..n]);
+            Loaded::Octets(n)
+        }
+        Loaded::Nothing => {
+            io::write_all(fd, b"no file\n");
+            Loaded::Nothing
+        }
+    }
+}
