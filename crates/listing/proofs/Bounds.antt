@@ -1,11 +1,11 @@
 -- A listing has at most one line more than its token has octets.
 -- Assumes nothing.
-use Prim.Native.Nat.{ℕ, zero, suc, _+_, _/_, _≤_}
-use mathlib.Core.Path.{_≡_, refl, sym, ap, subst, _∙_}
+use Prim.Native.Nat.{ℕ, _+_, _≤_}
+use mathlib.Core.Path.{_≡_, refl, sym, ap}
 use mathlib.Core.Bool.{Bool, true, false, cond}
-use mathlib.Core.List.{List, [], _∷_, _++_}
+use mathlib.Core.List.{List, [], _∷_}
 use native.Mathlib.Omega.{arith}
-use lib.ListN.{length, take, drop, length-append, length-take, length-drop}
+use lib.ListN.{length, drop, length-append, length-take, length-drop}
 use Rattle.vector.specs.declared.Vector.{Vector}
 use Rattle.vector.specs.Vector.{extent, keepsRule, part, shown}
 use Rattle.message.specs.Layout.{headOf, Shape, nego, exchange, verify, alert, contentOf, schemeVector, extensionVector, alertVector}
@@ -15,7 +15,7 @@ use Rattle.token.proofs.Splits.{accepted-splits}
 use Rattle.listing.specs.Lines.{messageLines}
 use Rattle.listing.specs.Listing.{endLine, allLines, readingLines, tokenLines, linesOf}
 use Rattle.listing.specs.Steps.{Fit, shapeIn, linesIn}
-use Rattle.listing.proofs.Contents.{nego-count, alert-count, fit-head}
+use Rattle.listing.proofs.Contents.{nego-count, alert-count}
 use Rattle.listing.proofs.Stepping.{length-texts}
 use Rattle.listing.proofs.Turns.{message-fit}
 

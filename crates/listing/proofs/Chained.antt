@@ -1,8 +1,8 @@
 -- Each form of line as the calls that write it, one behind the other, in the words of the code: t is the text before, u the text after.
 -- Assumes nothing.
 use Prim.Native.Nat.{ℕ, _+_}
-use mathlib.Core.Path.{_≡_, refl, sym, ap, subst, _∙_}
-use mathlib.Core.List.{List, [], _∷_, _++_}
+use mathlib.Core.Path.{_≡_, ap, _∙_}
+use mathlib.Core.List.{List, [], _∷_}
 use Rattle.octets.specs.Octets.{le, signed32}
 use Rattle.vector.specs.declared.Vector.{Vector}
 use Rattle.message.specs.Layout.{headOf, octetVector, elementAt, exchangeVector, checksumVector}

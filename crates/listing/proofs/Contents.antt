@@ -1,8 +1,8 @@
 -- The lines of a message's content by their index, in the words of the code: t is the text before, x the text after.
 -- Assumes nothing.
-use Prim.Native.Nat.{ℕ, zero, suc, _+_, _*_, _-_, _/_, _<_, _≤_}
+use Prim.Native.Nat.{ℕ, suc, _+_, _*_, _-_, _/_, _<_, _≤_}
 use mathlib.Core.Path.{_≡_, refl, sym, ap, subst, _∙_}
-use mathlib.Core.Bool.{Bool, true, false, cond, _&&_}
+use mathlib.Core.Bool.{true}
 use mathlib.Core.List.{List, [], _∷_, _++_}
 use native.Mathlib.Nat.{add-sub-cancel-left}
 use native.Mathlib.Omega.{arith}
@@ -15,9 +15,9 @@ use Rattle.octets.specs.Octets.{le, octets}
 use Rattle.octets.proofs.Same.{both}
 use Rattle.vector.specs.declared.Vector.{Vector}
 use Rattle.vector.specs.Vector.{keepsRule, part, shown}
-use Rattle.message.specs.Layout.{Shape, nego, exchange, verify, alert, headOf, shapeOf, headerOf, Element, elementAt, elementsAt, elementsOf, contentOf, vectorsOf, valuesOf, schemeVector, extensionVector, exchangeVector, checksumVector, alertVector}
+use Rattle.message.specs.Layout.{Shape, nego, exchange, verify, alert, headOf, shapeOf, Element, elementAt, elementsOf, contentOf, vectorsOf, schemeVector, extensionVector, exchangeVector, checksumVector, alertVector}
 use Rattle.message.specs.Check.{allKeepRule}
-use Rattle.message.specs.Show.{idAt, idsAt, idsOf}
+use Rattle.message.specs.Show.{idAt, idsOf}
 use Rattle.message.proofs.Shapes.{shape-nego, shape-exchange, shape-verify, shape-alert, header-least}
 use Rattle.text.specs.Text.{Text, text, written}
 use Rattle.listing.specs.Lines.{messageLine, schemeLine, extensionLine, exchangeLine, checksumLine, errorLine, alertLine, numbered, messageLines}

@@ -1,21 +1,21 @@
 -- Windows put one behind the other hold all lines, and a window whose buffer has 128 octets gets on. What a window answers lies in its range.
 -- Assumes nothing.
 use Prim.Native.Nat.{ℕ, zero, suc, _+_, _-_, _<_, _≤_}
-use mathlib.Core.Path.{_≡_, refl, sym, ap, subst, _∙_}
+use mathlib.Core.Path.{_≡_, refl, sym, ap, _∙_}
 use mathlib.Core.Bool.{Bool, true, false, cond}
 use mathlib.Core.Logic.{_⊎_, inl, inr}
-use mathlib.Core.List.{List, [], _∷_, _++_, append-assoc}
+use mathlib.Core.List.{List, [], _∷_, _++_}
 use native.Mathlib.Omega.{arith}
-use lib.ListN.{length, take, drop, getD, length-append, length-take, length-drop, take-append-drop}
+use lib.ListN.{length, take, drop, getD, length-take, length-drop, take-append-drop}
 use lib.Seq.{drop-drop, getD-take, getD-drop, take-all}
 use lib.Dec.{leb}
 use borrow.Author.Tests.{le-leb, leb-true, leb-false}
-use Rattle.text.specs.Text.{joined, put}
-use Rattle.text.proofs.Putting.{take-put}
-use Rattle.text.proofs.Pieces.{which}
+use Rattle.put.specs.Put.{joined, put}
+use Rattle.put.proofs.Laws.{joined-append}
+use Rattle.text.proofs.Pieces.{which, take-put}
 use Rattle.listing.specs.declared.Shown.{Shown}
-use Rattle.listing.specs.Listing.{tokenLines, texts, linesOf, fitting, range, Outcome, outcome, shownIn, windowOf}
-use Rattle.listing.proofs.Shorts.{Shorts, short-at, shorts-token}
+use Rattle.listing.specs.Listing.{tokenLines, texts, linesOf, fitting, range, Outcome, outcome, windowOf}
+use Rattle.listing.proofs.Shorts.{short-at, shorts-token}
 use Rattle.listing.proofs.Stepping.{getD-texts}
 use Rattle.listing.proofs.Windows.{fitting-room}
 
@@ -93,10 +93,6 @@ range-behind ls first end k =
     ap (λ (n : ℕ). take n (drop (first + k) ls)) e
     ∙ ap (take (end - first - k)) (sym (drop-drop k first ls))
     ∙ sym (drop-take k (end - first) (drop first ls))
-
-joined-append : (xs ys : List (List ℕ)) → joined (xs ++ ys) ≡ joined xs ++ joined ys
-joined-append [] ys = refl
-joined-append (x ∷ xs) ys = ap (λ (z : List ℕ). x ++ z) (joined-append xs ys) ∙ sym (append-assoc x (joined xs) (joined ys))
 
 -- the texts of `most` windows up to line `end`, each from the line behind the one before, in the buffers b
 unfoldable pub following : ℕ → List ℕ → ℕ → ℕ → (ℕ → List ℕ) → List ℕ

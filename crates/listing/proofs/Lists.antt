@@ -1,11 +1,10 @@
 -- Ids, elements and lines by their place in a list.
 -- Assumes nothing.
-use Prim.Native.Nat.{ℕ, zero, suc, _+_, _*_, _-_, _/_, _<_, _≤_}
-use mathlib.Core.Path.{_≡_, refl, sym, ap, _∙_}
+use Prim.Native.Nat.{ℕ, zero, suc, _+_, _*_, _-_, _<_, _≤_}
+use mathlib.Core.Path.{_≡_, refl, ap, _∙_}
 use mathlib.Core.List.{List, [], _∷_, _++_}
-use native.Mathlib.Nat.{add-zero, mul-zero}
 use native.Mathlib.Omega.{arith}
-use lib.ListN.{length, take, drop, getD, length-append, List·getD-append, List·getD-eq-default}
+use lib.ListN.{length, take, drop, getD, List·getD-append}
 use lib.Seq.{getD-append-add, drop-drop}
 use Rattle.message.specs.Layout.{Element, elementAt, elementsAt}
 use Rattle.message.specs.Show.{idsAt}

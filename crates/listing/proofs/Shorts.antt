@@ -1,18 +1,18 @@
 -- Every line of a message, and of a token, has fewer than 128 octets.
 -- Assumes nothing.
 use Prim.Native.Nat.{ℕ, zero, suc, _+_, _<_, _≤_}
-use mathlib.Core.Path.{_≡_, refl, sym, ap, _∙_}
+use mathlib.Core.Path.{_≡_, sym, ap, _∙_}
 use mathlib.Core.List.{List, [], _∷_, _++_}
 use native.Mathlib.Omega.{arith}
-use lib.ListN.{length, getD, take, length-append}
-use Rattle.io.specs.Counts.{Counts}
+use lib.ListN.{length, getD, length-append}
 use Rattle.octets.specs.Octets.{signed32}
 use Rattle.vector.specs.declared.Vector.{Vector}
 use Rattle.vector.specs.Vector.{part}
 use Rattle.message.specs.Show.{idsOf}
 use Rattle.message.specs.Layout.{Head, headOf, shapeOf, Element, Content, Nego, Exchange, Verify, Alert, contentOf}
 use Rattle.token.specs.Token.{Placed, Reading, Accepted, Refused, tokenOf}
-use Rattle.text.specs.Text.{quoted, signed, idText, idOrder, joined, Text, text, written}
+use Rattle.put.specs.Put.{joined}
+use Rattle.text.specs.Text.{idOrder, text, written}
 use Rattle.text.proofs.Pieces.{length-glyphs, length-joined, front-is, same-room}
 use Rattle.text.proofs.Digits.{length-decimal, length-signed}
 use Rattle.listing.specs.Lines.{lengths, messageLine, schemeLine, span, extensionLine, exchangeLine, checksumLine, errorLine, alertLine, numberedFrom, numbered, contentLines, messageLines}

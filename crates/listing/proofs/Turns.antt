@@ -1,6 +1,6 @@
 -- One turn of the walk through an accepted token: the message at the front, and the rest. In the words of `show_messages`.
 -- Assumes nothing.
-use Prim.Native.Nat.{ℕ, zero, suc, _+_, _-_, _<_, _≤_}
+use Prim.Native.Nat.{ℕ, _+_, _-_, _<_, _≤_}
 use mathlib.Core.Path.{_≡_, refl, sym, ap, subst, _∙_}
 use mathlib.Core.Bool.{true}
 use mathlib.Core.List.{List, [], _∷_, _++_}
@@ -8,17 +8,16 @@ use native.Mathlib.Omega.{arith}
 use lib.ListN.{length, take, drop, length-append, length-drop}
 use lib.Seq.{take-at, drop-at, take-all, length-take-le}
 use Rattle.octets.specs.Octets.{le}
-use Rattle.message.specs.Layout.{Head, headOf, shapeOf, headerOf, contentOf, vectorsOf, size, front}
-use Rattle.message.specs.Check.{allPass, allKeepRule, commonRows, bodyRows, contentRows, frontRows}
+use Rattle.message.specs.Layout.{Head, headOf, headerOf, contentOf, vectorsOf, size, front}
+use Rattle.message.specs.Check.{allKeepRule, bodyRows, contentRows, frontRows}
 use Rattle.message.proofs.Tables.{given}
-use Rattle.token.specs.Token.{Placed, Accepted, tokenOf}
-use Rattle.token.specs.Split.{Message, Numbered, join, placedFrom, Split}
+use Rattle.token.specs.Token.{Placed, tokenOf}
+use Rattle.token.specs.Split.{Message, Numbered, join, placedFrom}
 use Rattle.token.proofs.Cuts.{passes-parts, passes-sized}
 use Rattle.token.proofs.Splits.{message-head, message-length, accepted-splits}
-use Rattle.listing.specs.declared.Progress.{Progress}
 use Rattle.listing.specs.Lines.{messageLines}
 use Rattle.listing.specs.Listing.{allLines, texts}
-use Rattle.listing.specs.Steps.{Fit, shapeIn, messagesOf, Accepts, State, within, steps}
+use Rattle.listing.specs.Steps.{Fit, shapeIn, messagesOf, Accepts, State, steps}
 use Rattle.listing.proofs.Stepping.{texts-append, steps-append}
 
 -- the messages that are left of a token, numbered on from q

@@ -2,25 +2,25 @@
 -- Assumes nothing.
 use Prim.Native.Nat.{ℕ, zero, suc, _+_, _-_, _<_, _≤_}
 use mathlib.Core.Path.{_≡_, refl, sym, ap, subst, _∙_}
-use mathlib.Core.Bool.{Bool, true, false, cond}
+use mathlib.Core.Bool.{true, false, cond}
 use mathlib.Core.Logic.{_⊎_, inl, inr}
 use mathlib.Core.List.{List, [], _∷_, _++_}
 use native.Mathlib.Nat.{add-zero, zero-add}
 use native.Mathlib.Omega.{arith}
 use lib.ListN.{length, take, drop, length-append}
 use lib.Seq.{take-nil, drop-nil}
-use lib.Dec.{leb, eqb}
-use borrow.Author.Tests.{le-leb, lt-leb, eq-eqb, ne-eqb, leb-true, leb-false}
+use lib.Dec.{leb}
+use borrow.Author.Tests.{le-leb, lt-leb, ne-eqb, leb-true, leb-false}
 use Rattle.vector.specs.declared.TokenPlace.{TokenPlace}
 use Rattle.token.specs.declared.Answer.{Answer}
 use Rattle.token.specs.declared.Answer.the-variants as answer
-use Rattle.token.specs.Token.{Placed, Reading, Accepted, Refused, tokenOf, Outcome as Token·Outcome, messages, refusal, outcomeOf, told}
-use Rattle.text.specs.Text.{joined, put}
-use Rattle.text.proofs.Putting.{length-put, put-more, put-none}
+use Rattle.token.specs.Token.{Reading, Accepted, Refused, tokenOf, messages, refusal, outcomeOf, told}
+use Rattle.put.specs.Put.{joined, put}
+use Rattle.put.proofs.Laws.{length-put, put-more, put-none}
 use Rattle.text.proofs.Pieces.{which}
 use Rattle.listing.specs.declared.Progress.{Progress}
 use Rattle.listing.specs.declared.Shown.{Shown}
-use Rattle.listing.specs.Listing.{endLine, refusedLine, allLines, readingLines, tokenLines, texts, linesOf, fitting, range, Outcome, outcome, shownIn, windowOf}
+use Rattle.listing.specs.Listing.{endLine, refusedLine, allLines, readingLines, texts, linesOf, fitting, range, Outcome, outcome, windowOf}
 use Rattle.listing.specs.Steps.{messagesOf, Accepts, State, within, state, startOf, stepFrom, step, steps, Going}
 use Rattle.listing.proofs.Stepping.{steps-done, steps-append, texts-append}
 

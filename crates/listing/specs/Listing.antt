@@ -13,7 +13,8 @@ use mathlib.Core.List.{List, [], _∷_, _++_}
 use lib.ListN.{length, take, drop}
 use lib.Dec.{leb}
 use Rattle.token.specs.Token.{Placed, Reading, Accepted, Refused, tokenOf}
-use Rattle.text.specs.Text.{quoted, decimal, decimal64, joined, put}
+use Rattle.put.specs.Put.{joined, put}
+use Rattle.text.specs.Text.{quoted, decimal, decimal64}
 use Rattle.listing.specs.declared.Shown.{Shown}
 use Rattle.listing.specs.Lines.{messageLines}
 

@@ -19,7 +19,7 @@ use Rattle.io.specs.Counts.{Counts}
 use Rattle.message.specs.Layout.{Shape, headOf, shapeOf, headerOf, contentOf, vectorsOf}
 use Rattle.message.specs.Check.{allKeepRule}
 use Rattle.token.specs.Token.{Placed, Reading, Accepted, Refused, tokenOf}
-use Rattle.text.specs.Text.{joined, put}
+use Rattle.put.specs.Put.{joined, put}
 use Rattle.listing.specs.declared.Progress.{Progress}
 use Rattle.listing.specs.Lines.{contentLines}
 

@@ -1,10 +1,10 @@
 // The lines of a token, and windows of them.
 ghost use mathlib.Core.Path.{_≡_};
-ghost use Prim.Native.Nat.{_+_, _-_, _≤_};
+ghost use Prim.Native.Nat.{_+_, _-_};
 ghost use mathlib.Core.List.{[]};
 ghost use lib.ListN.{length, drop, getD};
 ghost use Rattle.token.specs.Token.{tokenOf};
-ghost use Rattle.text.specs.Text.{joined};
+ghost use Rattle.put.specs.Put.{joined};
 ghost use Rattle.listing.specs.Lines.{messageLines};
 ghost use Rattle.listing.specs.Listing.{endLine, refusedLine, allLines, texts, outcome, windowOf};
 ghost use Rattle.listing.specs.Steps.{Fit, shapeIn, messagesOf, Accepts, LineIs, within, startOf, step, steps, Going};

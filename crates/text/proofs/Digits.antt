@@ -1,9 +1,8 @@
 -- The digits that the kit's `io` writes are the decimal text: once over the width.
 -- Assumes nothing.
 use Prim.Native.Nat.{ℕ, zero, suc, _+_, _-_, _*_, _/_, _%_, _^_, _<_, _≤_}
-use mathlib.Core.Path.{_≡_, refl, sym, ap, _∙_}
-use mathlib.Core.Bool.{Bool, true, false, cond}
-use mathlib.Core.Logic.{_⊎_, inl, inr}
+use mathlib.Core.Path.{_≡_, ap, _∙_}
+use mathlib.Core.Logic.{inl, inr}
 use mathlib.Core.List.{List, [], _∷_, _++_}
 use native.Mathlib.Nat.{pow-suc, mod-lt, mod-eq-of-lt, pow-le-pow-right}
 use native.Mathlib.Omega.{arith}
@@ -13,7 +12,8 @@ use lib.ListN.{length, take, length-append}
 use borrow.Author.Tests.{lt-ltb, le-ltb, ltb-true, ltb-false}
 use Rattle.io.specs.Digits.{digits, Fewest}
 use Rattle.octets.specs.Octets.{signed32}
-use Rattle.text.specs.Text.{quoted, decimalTo, decimal, decimal64, signed, joined, Text, written}
+use Rattle.text.specs.Text.{quoted, decimalTo, decimal, decimal64, signed, Text, written}
+use Rattle.put.specs.Put.{joined}
 use Rattle.text.proofs.Pieces.{which}
 
 -- k + 1 digits, none of them needless

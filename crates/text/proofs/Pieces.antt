@@ -1,23 +1,31 @@
 -- Pieces of text written one behind the other.
 -- Assumes nothing.
-use Prim.Native.Nat.{ℕ, zero, suc, _+_, _-_, _/_, _%_, _<_, _≤_}
-use mathlib.Core.Path.{_≡_, refl, sym, ap, subst, _∙_}
+use Prim.Native.Nat.{ℕ, _+_, _-_, _/_, _%_, _<_, _≤_}
+use mathlib.Core.Path.{_≡_, refl, sym, ap, _∙_}
 use mathlib.Core.Bool.{Bool, true, false, cond}
 use mathlib.Core.Logic.{_⊎_, inl, inr}
-use mathlib.Core.List.{List, [], _∷_, _++_, append-assoc, append-nil}
+use mathlib.Core.List.{List, [], _∷_, _++_}
 use native.Mathlib.Nat.{add-zero}
 use native.Mathlib.Numerals.{add-one}
 use native.Mathlib.Omega.{arith}
 use lib.ListN.{length, drop, take, getD, length-append, List·getD-eq-default}
-use lib.Seq.{take-suc, take-length}
+use lib.Seq.{take-suc, take-length, take-at, length-take-le}
 use lib.Dec.{leb, eqb}
-use borrow.Author.Tests.{le-leb, lt-leb, eq-eqb, ne-eqb, leb-true}
-use Rattle.text.specs.Text.{quoted, hexDigit, hexOf, glyphOf, glyphs, joined, put, Text, text, appended, written}
-use Rattle.text.proofs.Putting.{put-none, length-put, put-more, take-put}
+use borrow.Author.Tests.{le-leb, eq-eqb, ne-eqb, leb-true}
+use Rattle.text.specs.Text.{quoted, hexDigit, hexOf, glyphOf, glyphs, Text, text, appended, written}
+use Rattle.put.specs.Put.{put, joined, Written}
+use Rattle.put.proofs.Laws.{put-none, length-put, put-more, joined-append}
 
 pub which : (b : Bool) → (b ≡ true) ⊎ (b ≡ false)
 which true = inl refl
 which false = inr refl
+
+-- what stands in front of a place, once v is put there
+pub take-put : (d : List ℕ) (at : ℕ) (v : List ℕ) → at + length v ≤ length d → take (at + length v) (put d at v) ≡ take at d ++ v
+unfolding put
+take-put d at v h =
+    let e : length (take at d ++ v) ≡ at + length v = simp (length-append, length-take-le at d (omega arith)) in
+    take-at (take at d ++ v) (drop (at + length v) d) (at + length v) e
 
 -- the slice keeps its length
 length-appended : (t : Text) (v : List ℕ) → length (appended t v .octets) ≡ length (t .octets)
@@ -91,9 +99,9 @@ module _ (d v : List ℕ) (at : ℕ) where
     pub append-late : length d - length v < at → text d at ≡ written (v ∷ []) (text d at)
     append-late h = left-out (λ z. omega arith)
 
-    pub append-put : at ≤ length d - length v → (x : Text) → x ≡ text (put d at v) (at + length v) → x ≡ written (v ∷ []) (text d at)
+    pub append-put : at ≤ length d - length v → (d' : List ℕ) (next : ℕ) → Written d at (length v) v d' next → text d' next ≡ written (v ∷ []) (text d at)
     unfolding written
-    append-put h x e = e ∙ sym (fits (text d at) v (omega arith))
+    append-put h d' next w = rw (w .holds, w .after) (sym (fits (text d at) v (omega arith)))
 
 -- an octet's two digits, and an id's glyph
 module _ (t x : Text) where
@@ -146,5 +154,4 @@ pub ruleset pieces = (append-long, append-late, append-put, hex-written, glyph-d
 
 -- the length of pieces behind pieces
 pub length-joined : (ps qs : List (List ℕ)) → length (joined (ps ++ qs)) ≡ length (joined ps) + length (joined qs)
-length-joined [] qs = omega arith
-length-joined (p ∷ ps) qs = omega (arith, length-append p (joined (ps ++ qs)), length-joined ps qs, length-append p (joined ps))
+length-joined ps qs = ap length (joined-append ps qs) ∙ length-append (joined ps) (joined qs)

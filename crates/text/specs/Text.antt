@@ -7,20 +7,19 @@
 --   signed z          a signed number in decimal, as pieces of text: its minus sign, where it has one, and its digits
 --   hexOf x           an octet as two hexadecimal digits
 --   idText i          the usual text of the id i, as pieces of text: its octets in order, and dashes
---   joined ps         the pieces ps, one behind the other
---   put d at v        the list d with v from `at` on, and every other octet as it was
 --   Text              a slice, with the place behind what is written in it; text d at is that of slice and place
 --   appended t v      t with the piece v behind it, where there is room; as it was where there is none
 --   written ps t      t with the pieces ps appended in order
 use Prim.Native.Nat.{ℕ, zero, suc, _+_, _/_, _%_}
-use Prim.Native.Char.{Char, code}
+use Prim.Native.Char.{code}
 use Prim.Native.String.{String}
 use Prim.Native.String as string
 use mathlib.Core.Bool.{cond}
 use mathlib.Core.List.{List, [], _∷_, _++_}
-use lib.ListN.{length, take, drop, getD}
+use lib.ListN.{length, getD}
 use lib.Dec.{ltb, leb, eqb}
 use lib.IntN.{ℤ, pos, negsuc}
+use Rattle.put.specs.Put.{put}
 
 abbrev pub quoted : String → List ℕ
 quoted string.[] = []
@@ -64,13 +63,6 @@ glyphs i (k ∷ ks) = glyphOf i k ∷ glyphs i ks
 
 abbrev pub idText : List ℕ → List (List ℕ)
 idText i = glyphs i idOrder
-
-abbrev pub joined : List (List ℕ) → List ℕ
-joined [] = []
-joined (p ∷ ps) = p ++ joined ps
-
-unfoldable pub put : List ℕ → ℕ → List ℕ → List ℕ
-put d at v = take at d ++ v ++ drop (at + length v) d
 
 pub record Text : Type 0 where
   pub octets : List ℕ

@@ -1,25 +1,11 @@
 // Pieces of text appended in a lent slice. Each writer is given the place behind what is written already, and answers the next one. A piece that
 // has no room is left out.
 ghost use mathlib.Core.Path.{_≡_};
-ghost use Prim.Native.Nat.{_+_, _≤_, _<_};
+ghost use Prim.Native.Nat.{_<_};
 ghost use mathlib.Core.List.{_∷_, []};
-ghost use lib.ListN.{length};
 ghost use Rattle.octets.specs.Octets.{signed32};
-ghost use Rattle.text.specs.Text.{text, written, put as Text·put, decimal, decimal64, signed as Text·signed, glyphOf, glyphs as Text·glyphs, hexOf, hexDigit, idText};
-
-// The octets v from `at` on.
-fn put(d: &mut [u8], at: usize, v: &[u8]) -> usize
-    requires { ⌜ at + length (now v) ≤ length (now d) ⌝ }
-    ensures { λ r. ⌜ text (now (d .exit)) r ≡ text (Text·put (now (d .entry)) at (now (v .entry))) (at + length (now (v .entry))) ⌝ }
-{
-    let mut i = 0;
-    while i < v.len() {
-        let k = at + i;
-        d[k] = v[i];
-        i += 1;
-    }
-    at + v.len()
-}
+ghost use Rattle.text.specs.Text.{text, written, decimal, decimal64, signed as Text·signed, glyphOf, glyphs as Text·glyphs, hexOf, hexDigit, idText};
+use put::put_octets;
 
 // The octets v.
 pub fn append(d: &mut [u8], at: usize, v: &[u8]) -> usize
@@ -31,7 +17,7 @@ pub fn append(d: &mut [u8], at: usize, v: &[u8]) -> usize
     if d.len() - v.len() < at {
         return at;
     }
-    put(d, at, v)
+    put_octets(d, at, v)
 }
 
 // A number in decimal.

@@ -2,7 +2,6 @@
 use borrow.Author.Needs.{needs}
 use Prim.Native.Nat.{_-_, _≤_}
 use mathlib.Core.Path.{_≡_, refl}
-use native.Mathlib.Omega.{arith}
 use lib.ListN.{length}
 use Rattle.console.proofs.Printing.{counted, counted-front}
 use Rattle.console.proofs.fill.Statement.{statement}

@@ -1,5 +1,4 @@
 -- Assumes nothing.
-use native.Mathlib.Omega.{arith}
 use Rattle.listing.proofs.Stepping.{puts}
 use borrow.Author.Needs.{needs}
 use Rattle.listing.proofs.put_line.Statement.{statement}

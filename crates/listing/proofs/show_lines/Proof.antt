@@ -1,8 +1,7 @@
 -- Assumes nothing.
 use borrow.Author.Needs.{needs}
-use Prim.Native.Nat.{_+_, _-_, _≤_}
+use Prim.Native.Nat.{_-_}
 use mathlib.Core.Path.{_≡_, refl}
-use native.Mathlib.Omega.{arith}
 use lib.ListN.{length, drop}
 use Rattle.listing.specs.Lines.{messageLines}
 use Rattle.listing.specs.Listing.{texts}

@@ -13,8 +13,8 @@ sub-if2 c = search needs
 returns-2 : tie.Need-returns-2
 returns-2 c = search pieces
 
-put-requires : tie.Need-put-requires
-put-requires c κs = search needs
+put-octets-requires : tie.Need-put-octets-requires
+put-octets-requires c κs = search needs
 
 same-length : tie.Need-same-length
 same-length c = search needs
@@ -23,4 +23,4 @@ returns-3 : tie.Need-returns-3
 returns-3 c = search pieces
 
 pub append-spec : {M : Type 1} → statement M
-append-spec = tie.close (tie.spec returns sub-if2 returns-2 put-requires same-length returns-3)
+append-spec = tie.close (tie.spec returns sub-if2 returns-2 put-octets-requires same-length returns-3)
