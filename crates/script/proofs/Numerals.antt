@@ -9,7 +9,7 @@ use lib.ListN.{length, drop, getD, drop-of-length-le}
 use lib.Seq.{drop-cons}
 use lib.Dec.{eqb, ltb, leb}
 use borrow.Author.Tests.{eq-eqb, ne-eqb, lt-ltb, le-ltb, le-leb, lt-leb}
-use Rattle.script.specs.Script.{digitOf, pairOf, Numeral, is, none, numeralFrom, numeral, hexadecimalOf, roomOf}
+use Rattle.script.specs.Script.{digitOf, pairOf, Numeral, is, nothing, numeralFrom, numeral, hexadecimalOf, roomOf}
 
 pub ruleset tests = (le-leb, lt-leb, lt-ltb, le-ltb, eq-eqb, ne-eqb)
 
@@ -36,12 +36,12 @@ module _ (base most : ℕ) (s : List ℕ) (n i : ℕ) (x : Numeral) (inv : x ≡
     step : x ≡ numeralFrom base most n (getD s i 0 ∷ drop (suc i) s)
     step = inv ∙ rw (drop-cons s i 0)
 
-    pub numeral-digit : base ≤ v → none ≡ x
+    pub numeral-digit : base ≤ v → nothing ≡ x
     unfolding numeralFrom
     numeral-digit h = sym (step ∙ rw (← v-is, le-leb _ _ h))
 
     module _ (valued : v < base) where
-      pub numeral-most : most < n * base + v → none ≡ x
+      pub numeral-most : most < n * base + v → nothing ≡ x
       unfolding numeralFrom
       numeral-most h = sym (step ∙ rw (← v-is, lt-leb _ _ valued, lt-ltb _ _ h))
 
@@ -50,7 +50,7 @@ module _ (base most : ℕ) (s : List ℕ) (n i : ℕ) (x : Numeral) (inv : x ≡
       numeral-more h = step ∙ simp (sym v-is, lt-leb _ _ valued, le-ltb _ _ h, add-one)
 
 module _ (s : List ℕ) where
-  pub hexadecimal-size : (digits most : ℕ) → (length s ≡ digits → ⊥) → none ≡ hexadecimalOf digits most s
+  pub hexadecimal-size : (digits most : ℕ) → (length s ≡ digits → ⊥) → nothing ≡ hexadecimalOf digits most s
   unfolding hexadecimalOf
   hexadecimal-size digits most h = rw (ne-eqb _ _ h)
 
@@ -58,12 +58,12 @@ module _ (s : List ℕ) where
   unfolding hexadecimalOf
   hexadecimal-numeral digits most h x e = rw (eq-eqb _ _ h) e
 
-  pub room-empty : length s < 1 → none ≡ roomOf s
+  pub room-empty : length s < 1 → nothing ≡ roomOf s
   unfolding roomOf
   room-empty h = rw (lt-ltb _ _ h)
 
   module _ (some : 1 ≤ length s) where
-    pub room-long : 5 < length s → none ≡ roomOf s
+    pub room-long : 5 < length s → nothing ≡ roomOf s
     unfolding roomOf
     room-long h = rw (le-ltb _ _ some, lt-ltb _ _ h)
 

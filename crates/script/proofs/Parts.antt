@@ -46,7 +46,3 @@ pub end-found : (s : List ℕ) (from r : ℕ) → from ≤ length s → r ≡ fr
 end-found s from r h e = rw (le-ltb _ _ h) e
 
 pub ruleset parts = (part-none, part-some, end-past, end-found)
-
--- what is false is not true
-pub untrue : {A : Type 0} → false ≡ true → A
-untrue e = let z : _≡_ {A = ℕ} 0 1 = cc in absurd (omega arith)

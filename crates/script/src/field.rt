@@ -1,10 +1,10 @@
 // The fields of a line. A field starts at a place of the line and ends before the next space or at the line's end; a place behind the line's end starts
 // none.
 ghost use mathlib.Core.Path.{_≡_};
-ghost use Prim.Native.Nat.{_≤_, _<_, min};
+ghost use Prim.Native.Nat.{min};
 ghost use lib.ListN.{length};
 ghost use Rattle.octets.specs.Octets.{sameOctets};
-ghost use Rattle.script.specs.Script.{part as Script·part, endOf, FieldEnd};
+ghost use Rattle.script.specs.Script.{part as Script·part, endOf, FieldEnd, Behind};
 use bytes::scan::find;
 
 fn least(a: usize, b: usize) -> usize
@@ -22,14 +22,6 @@ pub fn part(s: &[u8], from: usize, end: usize) -> &[u8]
         return &s[..0];
     }
     &s[from..to]
-}
-
-// The first n octets of d, or all where there are fewer.
-pub fn front(d: &mut [u8], n: usize) -> &mut [u8] {
-    if d.len() < n {
-        return d;
-    }
-    &mut d[..n]
 }
 
 // Where the field that starts at `from` ends.
@@ -52,7 +44,7 @@ pub fn field(s: &[u8], from: usize) -> &[u8]
 
 // Where the next field starts: behind the line's end, where there is none.
 pub fn behind(s: &[u8], from: usize) -> usize
-    ensures { λ r. ⌜ (from ≤ length (now (s .entry)) → from < r) ⌝ }
+    ensures { λ r. ⌜ Behind (now (s .entry)) from r ⌝ }
 {
     field_end(s, from) + 1
 }

@@ -1,11 +1,9 @@
-// Octets and ids in hexadecimal.
+// Octets, ids and random values in hexadecimal.
 ghost use mathlib.Core.Path.{_≡_};
-ghost use mathlib.Core.Bool.{true};
-ghost use Prim.Native.Nat.{_+_, _≤_};
-ghost use lib.ListN.{length};
-ghost use Rattle.script.specs.Script.{pairOf};
-use super::field::behind;
-use super::field::field;
+ghost use Prim.Native.Nat.{_+_};
+ghost use lib.ListN.{length, getD};
+ghost use Rattle.script.specs.Script.{pairOf, within, octetsOf, decodedAs, octetsAt, dashed, idOf, idAs};
+use super::field::is_word;
 use super::number::digit;
 
 // What a field of octets says: how many stand at the front of the lent slice, or that it is none.
@@ -14,8 +12,14 @@ pub enum Decoded {
     Bad,
 }
 
+// What a field with an id says.
+pub struct IdText {
+    pub ok: bool,
+    pub octets: [u8; 16],
+}
+
 // The octet that two digits stand for, 256 where either is none.
-pub fn pair(a: u8, b: u8) -> u16
+fn pair(a: u8, b: u8) -> u16
     ensures { λ r. ⌜ r ≡ pairOf a b ⌝ }
 {
     let high = digit(a);
@@ -29,15 +33,10 @@ pub fn pair(a: u8, b: u8) -> u16
     16 * high as u16 + low as u16
 }
 
-// The place that an octet of a table stands for.
-fn wide(x: u8) -> usize
-    ensures { λ r. ⌜ r ≤ 255 ⌝ }
-{
-    x as usize
-}
-
 // The octet of s at a place, 0 where it has none.
-fn octet(s: &[u8], at: usize) -> u8 {
+fn octet(s: &[u8], at: usize) -> u8
+    ensures { λ r. ⌜ r ≡ getD (now (s .entry)) at 0 ⌝ }
+{
     if at < s.len() {
         return s[at];
     }
@@ -45,12 +44,11 @@ fn octet(s: &[u8], at: usize) -> u8 {
 }
 
 // Two digits for each octet, in order.
-pub fn decode(s: &[u8], d: &mut [u8]) -> Decoded {
+fn decode(s: &[u8], d: &mut [u8]) -> Decoded
+    ensures { λ r. ⌜ decodedAs r (now (d .exit)) ≡ within (now (s .entry)) (now (d .entry)) ⌝ }
+{
     let n = s.len() / 2;
-    if s.len() % 2 == 1 {
-        return Decoded::Bad;
-    }
-    if d.len() < n {
+    if d.len() < s.len() - n {
         return Decoded::Bad;
     }
     let mut i = 0;
@@ -62,24 +60,29 @@ pub fn decode(s: &[u8], d: &mut [u8]) -> Decoded {
         d[i] = v as u8;
         i += 1;
     }
+    if s.len() % 2 == 1 {
+        return Decoded::Bad;
+    }
     Decoded::Octets(n)
 }
 
-// OCTETS: two digits or more, or `-` for none.
-pub fn octets(s: &[u8], d: &mut [u8]) -> Decoded {
+// OCTETS, at the front of d.
+pub fn octets(s: &[u8], d: &mut [u8]) -> Decoded
+    ensures { λ r. ⌜ decodedAs r (now (d .exit)) ≡ octetsOf (now (s .entry)) (now (d .entry)) ⌝ }
+{
     if s.len() == 0 {
         return Decoded::Bad;
     }
-    if s.len() == 1 {
-        if s[0] == 45 {
-            return Decoded::Octets(0);
-        }
+    if is_word(s, b"-") {
+        return Decoded::Octets(0);
     }
     decode(s, d)
 }
 
 // Whether the dashes of an id's text stand where they should.
-fn has_dashes(s: &[u8]) -> bool {
+fn has_dashes(s: &[u8]) -> bool
+    ensures { λ r. ⌜ r ≡ dashed (now (s .entry)) ⌝ }
+{
     if octet(s, 8) != 45 {
         return false;
     }
@@ -92,65 +95,48 @@ fn has_dashes(s: &[u8]) -> bool {
     octet(s, 23) == 45
 }
 
-// Puts the id whose usual text is s into d, from `at` on; false where s is no such text or d has no room.
-pub fn id(s: &[u8], d: &mut [u8], at: usize) -> bool
-    ensures { λ r. ⌜ (r ≡ true → at + 16 ≤ length (now (d .exit))) ⌝ }
+// The two digits of an octet, from a place on.
+fn pair_at(s: &[u8], k: u8) -> u16
+    ensures { λ r. ⌜ r ≡ pairOf (getD (now (s .entry)) k 0) (getD (now (s .entry)) (k + 1) 0) ⌝ }
 {
-    if s.len() != 36 {
-        return false;
-    }
-    if has_dashes(s) {} else {
-        return false;
-    }
-    if d.len() < at {
-        return false;
-    }
-    if d.len() - at < 16 {
-        return false;
-    }
-    id_octets(s, d, at)
+    let at = k as usize;
+    pair(octet(s, at), octet(s, at + 1))
 }
 
-// The id's octets, each from its two digits. The first three groups are turned round.
-fn id_octets(s: &[u8], d: &mut [u8], at: usize) -> bool
-    requires { ⌜ at + 16 ≤ length (now d) ⌝ }
+// The octets whose digits stand at 16 places.
+fn octets_at(s: &[u8], places: &[u8]) -> IdText
+    requires { ⌜ length (now places) ≡ 16 ⌝ }
+    ensures { λ r. ⌜ idAs r ≡ octetsAt (now (s .entry)) (now (places .entry)) ⌝ }
 {
-    let places = b"\x06\x04\x02\x00\x0B\x09\x10\x0E\x13\x15\x18\x1A\x1C\x1E\x20\x22";
+    let mut octets = [0u8; 16];
     let mut i = 0;
     while i < 16 {
-        let k = wide(places[i]);
-        let v = pair(octet(s, k), octet(s, k + 1));
+        let v = pair_at(s, places[i]);
         if 255 < v {
-            return false;
+            return IdText { ok: false, octets };
         }
-        d[at + i] = v as u8;
+        octets[i] = v as u8;
         i += 1;
     }
-    true
+    IdText { ok: true, octets }
 }
 
-// Puts the ids of the fields from `from` on into d, one behind the other.
-pub fn ids(line: &[u8], from: usize, d: &mut [u8]) -> Decoded {
-    let mut at = from;
-    let mut n = 0;
-    while at <= line.len() {
-        if id(field(line, at), d, n) {} else {
-            return Decoded::Bad;
-        }
-        n += 16;
-        at = behind(line, at);
+// The id whose usual text is s.
+pub fn id(s: &[u8]) -> IdText
+    ensures { λ r. ⌜ idAs r ≡ idOf (now (s .entry)) ⌝ }
+{
+    if s.len() != 36 {
+        return IdText {
+            ok: false,
+            octets: [0u8; 16],
+        };
     }
-    Decoded::Octets(n)
-}
-
-// A random value of 32 octets.
-pub fn random(s: &[u8], d: &mut [u8]) -> bool {
-    if s.len() != 64 {
-        return false;
+    if has_dashes(s) {} else {
+        return IdText {
+            ok: false,
+            octets: [0u8; 16],
+        };
     }
-    let r = decode(s, d);
-    match r {
-        Decoded::Octets(n) => true,
-        Decoded::Bad => false,
-    }
+    let places = b"\x06\x04\x02\x00\x0B\x09\x10\x0E\x13\x15\x18\x1A\x1C\x1E\x20\x22";
+    octets_at(s, places)
 }

@@ -11,7 +11,7 @@ add-result : tie.Need-add-result
 add-result c = search needs
 
 returns : tie.Need-returns
-returns c = λ h. let u = c .field-end .ensures .onward h in omega arith
+returns c = record { place = search needs; onward = λ h. let u = c .field-end .ensures .onward h in omega arith }
 
 pub behind-spec : {M : Type 1} → statement M
 behind-spec = tie.close (tie.spec field-end-requires add-result returns)
