@@ -84,6 +84,7 @@ abbrev pub pulseFields : List (List ℕ)
 pulseFields = octetsOf 4 1 ∷ (octetVectorFields 84 8 ++ (octetsOf 4 8 ∷ octetsOf 4 1 ∷ []))
 
 -- "Base writers add no extensions; that vector is offset 0, count 0. An empty exchange or checksum value has its header length as offset and size 0."
+-- So has an empty scheme list: offset 96, count 0.
 -- "checksum header length 56 (is 20), checksum scheme 60 (is 1)".
 abbrev pub bodyFields : Contents → List (List ℕ)
 bodyFields (ofNego o) =
