@@ -4,7 +4,7 @@
 --   Whole c, InRange c   the ids of the contents have 16 octets and random has 32; a signed number is one of 32 bits
 --   Sent h c             a message that can be written: encodable, with a sequence number and signed numbers of 32 bits and whole ids
 --   shapeFor c           the layout of the contents
---   headRead, contentRead   the header and the content that reading finds
+--   headRead, contentRead   the header and the content that reading finds; vectorOf: a vector with its stored offset
 --   Shows c m            what the vector readers hand back of the message m is what was written
 --   ReadsBack h c r      the written message, followed by any octets r, reads as what was written
 --   Stands d at h c next d'   the written message stands at `at` in d', which else is d; `next` is the place behind it
@@ -61,7 +61,6 @@ headRead h c = record {
   conversation = h .conversation;
 }
 
--- a vector with its stored offset
 abbrev vectorOf : ℕ → ℕ → ℕ → Vector
 vectorOf size offset count = record { size = size; offset = record { 0 = offset }; count = count }
 
