@@ -1,27 +1,25 @@
 -- The header of a written message, and its checks from what its layout says.
 -- Assumes nothing.
-use Prim.Native.Nat.{ℕ, zero, suc, _+_, _*_, _/_, _%_, _^_, _<_, _≤_}
+use Prim.Native.Nat.{ℕ, zero, _%_, _<_, _≤_}
 use mathlib.Core.Path.{_≡_, refl, sym, ap, _∙_}
-use mathlib.Core.Bool.{Bool, true, false, cond, _&&_}
+use mathlib.Core.Bool.{true}
 use mathlib.Core.List.{List, [], _∷_, _++_, append-nil}
 use native.Mathlib.Omega.{arith}
-use lib.ListN.{length, take, drop, length-append}
+use lib.ListN.{length, take, length-append}
 use lib.Seq.{take-at}
 use lib.Dec.{leb, eqb}
 use borrow.Author.Tests.{le-leb, eq-eqb, leb-true, eqb-true}
-use Rattle.octets.specs.Octets.{le, octets}
 use Rattle.octets.proofs.Same.{both, id-refl}
-use Rattle.vector.specs.declared.Vector.{Vector}
-use Rattle.message.specs.Layout.{Shape, nego, exchange, verify, alert, shapeOf, headerOf, padsOf, Head, headOf, size, front, Content, contentOf, vectorsOf}
-use Rattle.message.specs.Check.{Row, allPass, SIGNATURE, commonRows, padsZero, allKeepRule, contentRows, bodyRows, frontRows, messageRows, padRows, versionOk, criticalOk, checksumOk, noneCritical, verdict, read, refused, fieldsOf, messageVerdict}
+use Rattle.message.specs.Layout.{Shape, nego, exchange, verify, alert, shapeOf, headerOf, padsOf, Head, headOf, front, Content, contentOf, vectorsOf}
+use Rattle.message.specs.Check.{allPass, SIGNATURE, commonRows, padsZero, allKeepRule, contentRows, bodyRows, frontRows, messageRows, padRows, versionOk, criticalOk, checksumOk, noneCritical, read, fieldsOf, messageVerdict}
 use Rattle.message.proofs.Tables.{giving, pass-append, verdict-is}
 use Rattle.message.proofs.Shapes.{header-least, shape-nego, shape-exchange, shape-verify, shape-alert}
 use Rattle.token.specs.Token.{orderRows, nextRows, passes}
-use Rattle.put.specs.Put.{octetsOf, joined}
+use Rattle.put.specs.Put.{joined}
 use Rattle.put.proofs.Laws.{joined-append}
 use Rattle.encode.specs.declared.Heading.{Heading}
 use Rattle.encode.specs.Encode.{Contents, ofNego, ofExchange, ofVerify, ofAlert, sizeOf, headFields, bodyFields, hasKind, fitsFields, encodable, encoded}
-use Rattle.encode.specs.ReadBack.{Whole, InRange, Sent, shapeFor, headRead, contentRead}
+use Rattle.encode.specs.ReadBack.{Sent, shapeFor, headRead, contentRead}
 use Rattle.encode.proofs.Sizes.{length-encoded}
 use Rattle.encode.proofs.Fields.{number-at, octets-at}
 

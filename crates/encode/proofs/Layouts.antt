@@ -1,65 +1,65 @@
 -- What reading finds behind the header of a written message, a layout at a time: its content, zero pads, vectors that keep their rule, and what
 -- they show.
 -- Assumes nothing.
-use Prim.Native.Nat.{ℕ, zero, suc, _+_, _*_, _/_, _%_, _^_, _<_, _≤_}
+use Prim.Native.Nat.{ℕ, _+_, _*_, _/_, _%_, _<_, _≤_}
 use mathlib.Core.Path.{_≡_, refl, sym, ap, _∙_}
-use mathlib.Core.Bool.{Bool, true, false, cond, _&&_}
+use mathlib.Core.Bool.{true}
 use mathlib.Core.List.{List, [], _∷_, _++_}
 use native.Mathlib.Omega.{arith}
-use lib.ListN.{length, take, drop, length-append}
+use lib.ListN.{length, take, length-append}
 use lib.Signed.{mag}
 use Rattle.octets.specs.Octets.{le, octets}
 use Rattle.vector.specs.declared.Vector.{Vector}
-use Rattle.vector.specs.Vector.{extent, keepsRule, part, shown}
+use Rattle.vector.specs.Vector.{keepsRule, part, shown}
 use Rattle.vector.proofs.Rule.{inside-rule}
-use Rattle.message.specs.Layout.{nego, exchange, verify, alert, padsOf, contentOf, vectorsOf, schemeVector, extensionVector, exchangeVector, checksumVector, alertVector, elementsAt, elementsOf}
-use Rattle.message.specs.Check.{zeros, padsZero, allKeepRule}
+use Rattle.message.specs.Layout.{nego, exchange, verify, alert, padsOf, contentOf, vectorsOf, schemeVector, exchangeVector, checksumVector, alertVector, elementsAt, elementsOf}
+use Rattle.message.specs.Check.{padsZero, allKeepRule}
 use Rattle.message.specs.Show.{idsOf, schemesIn, nestedOf}
 use Rattle.message.proofs.Bodies.{zeros-le}
 use Rattle.put.specs.Put.{octetsOf, unsigned32, joined}
 use Rattle.encode.specs.declared.Heading.{Heading}
 use Rattle.encode.specs.Encode.{Offer, Payload, Checksum, Pulse, Contents, ofNego, ofExchange, ofVerify, ofAlert, sizeOf, headFields, bodyFields, octetVectorFields, encoded}
-use Rattle.encode.specs.ReadBack.{shapeFor, contentRead, Shows}
+use Rattle.encode.specs.ReadBack.{contentRead, Shows}
 use Rattle.encode.proofs.Sizes.{length-encoded}
 use Rattle.encode.proofs.Fields.{number-at, octets-at, drop-joined, shown-field, signed-back, unsigned-small}
 
 module _ (h : Heading) (id : length (h .conversation) ≡ 16) where
-  abbrev fieldsOf : Contents → List (List ℕ)
-  fieldsOf c = headFields h (sizeOf c) ++ bodyFields c
+  abbrev fields : Contents → List (List ℕ)
+  fields c = headFields h (sizeOf c) ++ bodyFields c
 
   -- NEGO
   module _ (o : Offer) (whole : length (o .random) ≡ 32) (ids : length (o .schemes) % 16 ≡ 0) (count : length (o .schemes) ≤ 1048560) where
     nego-random : octets 32 (encoded h (ofNego o)) 40 ≡ o .random
     unfolding encoded
-    nego-random = octets-at 6 40 (fieldsOf (ofNego o)) (simp (length-append, id)) (o .random) _ refl 32 whole
+    nego-random = octets-at 6 40 (fields (ofNego o)) (simp (length-append, id)) (o .random) _ refl 32 whole
 
     nego-version : le 8 (encoded h (ofNego o)) 72 ≡ 0
     unfolding encoded
-    nego-version = number-at 7 72 (fieldsOf (ofNego o)) (simp (length-append, id, whole)) 8 0 _ refl (omega arith)
+    nego-version = number-at 7 72 (fields (ofNego o)) (simp (length-append, id, whole)) 8 0 _ refl (omega arith)
 
     nego-offset : le 4 (encoded h (ofNego o)) 80 ≡ 96
     unfolding encoded
-    nego-offset = number-at 8 80 (fieldsOf (ofNego o)) (simp (length-append, id, whole)) 4 96 _ refl (omega arith)
+    nego-offset = number-at 8 80 (fields (ofNego o)) (simp (length-append, id, whole)) 4 96 _ refl (omega arith)
 
     nego-count : le 2 (encoded h (ofNego o)) 84 ≡ length (o .schemes) / 16
     unfolding encoded
-    nego-count = number-at 9 84 (fieldsOf (ofNego o)) (simp (length-append, id, whole)) 2 (length (o .schemes) / 16) _ refl (omega arith)
+    nego-count = number-at 9 84 (fields (ofNego o)) (simp (length-append, id, whole)) 2 (length (o .schemes) / 16) _ refl (omega arith)
 
     nego-pad : le 2 (encoded h (ofNego o)) 86 ≡ 0
     unfolding encoded
-    nego-pad = number-at 10 86 (fieldsOf (ofNego o)) (simp (length-append, id, whole)) 2 0 _ refl (omega arith)
+    nego-pad = number-at 10 86 (fields (ofNego o)) (simp (length-append, id, whole)) 2 0 _ refl (omega arith)
 
     nego-extensions : le 4 (encoded h (ofNego o)) 88 ≡ 0
     unfolding encoded
-    nego-extensions = number-at 11 88 (fieldsOf (ofNego o)) (simp (length-append, id, whole)) 4 0 _ refl (omega arith)
+    nego-extensions = number-at 11 88 (fields (ofNego o)) (simp (length-append, id, whole)) 4 0 _ refl (omega arith)
 
     nego-no-extension : le 2 (encoded h (ofNego o)) 92 ≡ 0
     unfolding encoded
-    nego-no-extension = number-at 12 92 (fieldsOf (ofNego o)) (simp (length-append, id, whole)) 2 0 _ refl (omega arith)
+    nego-no-extension = number-at 12 92 (fields (ofNego o)) (simp (length-append, id, whole)) 2 0 _ refl (omega arith)
 
     nego-pad-2 : le 2 (encoded h (ofNego o)) 94 ≡ 0
     unfolding encoded
-    nego-pad-2 = number-at 13 94 (fieldsOf (ofNego o)) (simp (length-append, id, whole)) 2 0 _ refl (omega arith)
+    nego-pad-2 = number-at 13 94 (fields (ofNego o)) (simp (length-append, id, whole)) 2 0 _ refl (omega arith)
 
     pub nego-content : contentOf nego (encoded h (ofNego o)) ≡ contentRead (ofNego o)
     unfolding contentOf elementsAt
@@ -71,7 +71,7 @@ module _ (h : Heading) (id : length (h .conversation) ≡ 16) where
 
     nego-schemes : (n : ℕ) → n ≡ length (o .schemes) → octets n (encoded h (ofNego o)) 96 ≡ o .schemes
     unfolding encoded
-    nego-schemes n e = octets-at 14 96 (fieldsOf (ofNego o)) (simp (length-append, id, whole)) (o .schemes) _ refl n (sym e)
+    nego-schemes n e = octets-at 14 96 (fields (ofNego o)) (simp (length-append, id, whole)) (o .schemes) _ refl n (sym e)
 
     nego-rule : keepsRule 96 (96 + length (o .schemes)) (record { size = 16; offset = record { 0 = 96 }; count = length (o .schemes) / 16 }) ≡ true
     nego-rule = inside-rule _ _ _ (record { behind = omega arith; before = omega arith })
@@ -93,19 +93,19 @@ module _ (h : Heading) (id : length (h .conversation) ≡ 16) where
   module _ (p : Payload) (whole : length (p .scheme) ≡ 16) (size : length (p .value) ≤ 4294967231) where
     exchange-scheme : octets 16 (encoded h (ofExchange p)) 40 ≡ p .scheme
     unfolding encoded
-    exchange-scheme = octets-at 6 40 (fieldsOf (ofExchange p)) (simp (length-append, id)) (p .scheme) _ refl 16 whole
+    exchange-scheme = octets-at 6 40 (fields (ofExchange p)) (simp (length-append, id)) (p .scheme) _ refl 16 whole
 
     exchange-offset : le 4 (encoded h (ofExchange p)) 56 ≡ 64
     unfolding encoded
-    exchange-offset = number-at 7 56 (fieldsOf (ofExchange p)) (simp (length-append, id, whole)) 4 64 _ refl (omega arith)
+    exchange-offset = number-at 7 56 (fields (ofExchange p)) (simp (length-append, id, whole)) 4 64 _ refl (omega arith)
 
     exchange-length : le 4 (encoded h (ofExchange p)) 60 ≡ length (p .value)
     unfolding encoded
-    exchange-length = number-at 8 60 (fieldsOf (ofExchange p)) (simp (length-append, id, whole)) 4 (length (p .value)) _ refl (omega arith)
+    exchange-length = number-at 8 60 (fields (ofExchange p)) (simp (length-append, id, whole)) 4 (length (p .value)) _ refl (omega arith)
 
     exchange-value : (n : ℕ) → n ≡ length (p .value) → octets n (encoded h (ofExchange p)) 64 ≡ p .value
     unfolding encoded
-    exchange-value n e = octets-at 9 64 (fieldsOf (ofExchange p)) (simp (length-append, id, whole)) (p .value) _ refl n (sym e)
+    exchange-value n e = octets-at 9 64 (fields (ofExchange p)) (simp (length-append, id, whole)) (p .value) _ refl n (sym e)
 
     pub exchange-content : contentOf exchange (encoded h (ofExchange p)) ≡ contentRead (ofExchange p)
     unfolding contentOf
@@ -132,35 +132,35 @@ module _ (h : Heading) (id : length (h .conversation) ≡ 16) where
   module _ (k : Checksum) (whole : length (k .scheme) ≡ 16) (range : mag (k .type) < 2147483648) (size : length (k .value) ≤ 4294967215) where
     verify-scheme : octets 16 (encoded h (ofVerify k)) 40 ≡ k .scheme
     unfolding encoded
-    verify-scheme = octets-at 6 40 (fieldsOf (ofVerify k)) (simp (length-append, id)) (k .scheme) _ refl 16 whole
+    verify-scheme = octets-at 6 40 (fields (ofVerify k)) (simp (length-append, id)) (k .scheme) _ refl 16 whole
 
     verify-header : le 4 (encoded h (ofVerify k)) 56 ≡ 20
     unfolding encoded
-    verify-header = number-at 7 56 (fieldsOf (ofVerify k)) (simp (length-append, id, whole)) 4 20 _ refl (omega arith)
+    verify-header = number-at 7 56 (fields (ofVerify k)) (simp (length-append, id, whole)) 4 20 _ refl (omega arith)
 
     verify-checksum : le 4 (encoded h (ofVerify k)) 60 ≡ 1
     unfolding encoded
-    verify-checksum = number-at 8 60 (fieldsOf (ofVerify k)) (simp (length-append, id, whole)) 4 1 _ refl (omega arith)
+    verify-checksum = number-at 8 60 (fields (ofVerify k)) (simp (length-append, id, whole)) 4 1 _ refl (omega arith)
 
     verify-type : le 4 (encoded h (ofVerify k)) 64 ≡ unsigned32 (k .type)
     unfolding encoded
-    verify-type = number-at 9 64 (fieldsOf (ofVerify k)) (simp (length-append, id, whole)) 4 (unsigned32 (k .type)) _ refl (unsigned-small (k .type) range)
+    verify-type = number-at 9 64 (fields (ofVerify k)) (simp (length-append, id, whole)) 4 (unsigned32 (k .type)) _ refl (unsigned-small (k .type) range)
 
     verify-offset : le 4 (encoded h (ofVerify k)) 68 ≡ 80
     unfolding encoded
-    verify-offset = number-at 10 68 (fieldsOf (ofVerify k)) (simp (length-append, id, whole)) 4 80 _ refl (omega arith)
+    verify-offset = number-at 10 68 (fields (ofVerify k)) (simp (length-append, id, whole)) 4 80 _ refl (omega arith)
 
     verify-length : le 4 (encoded h (ofVerify k)) 72 ≡ length (k .value)
     unfolding encoded
-    verify-length = number-at 11 72 (fieldsOf (ofVerify k)) (simp (length-append, id, whole)) 4 (length (k .value)) _ refl (omega arith)
+    verify-length = number-at 11 72 (fields (ofVerify k)) (simp (length-append, id, whole)) 4 (length (k .value)) _ refl (omega arith)
 
     verify-pad : le 4 (encoded h (ofVerify k)) 76 ≡ 0
     unfolding encoded
-    verify-pad = number-at 12 76 (fieldsOf (ofVerify k)) (simp (length-append, id, whole)) 4 0 _ refl (omega arith)
+    verify-pad = number-at 12 76 (fields (ofVerify k)) (simp (length-append, id, whole)) 4 0 _ refl (omega arith)
 
     verify-value : (n : ℕ) → n ≡ length (k .value) → octets n (encoded h (ofVerify k)) 80 ≡ k .value
     unfolding encoded
-    verify-value n e = octets-at 13 80 (fieldsOf (ofVerify k)) (simp (length-append, id, whole)) (k .value) _ refl n (sym e)
+    verify-value n e = octets-at 13 80 (fields (ofVerify k)) (simp (length-append, id, whole)) (k .value) _ refl n (sym e)
 
     pub verify-content : contentOf verify (encoded h (ofVerify k)) ≡ contentRead (ofVerify k)
     unfolding contentOf
@@ -187,35 +187,35 @@ module _ (h : Heading) (id : length (h .conversation) ≡ 16) where
   module _ (p : Pulse) (whole : length (p .scheme) ≡ 16) (range : mag (p .code) < 2147483648) where
     alert-scheme : octets 16 (encoded h (ofAlert p)) 40 ≡ p .scheme
     unfolding encoded
-    alert-scheme = octets-at 6 40 (fieldsOf (ofAlert p)) (simp (length-append, id)) (p .scheme) _ refl 16 whole
+    alert-scheme = octets-at 6 40 (fields (ofAlert p)) (simp (length-append, id)) (p .scheme) _ refl 16 whole
 
     alert-code : le 4 (encoded h (ofAlert p)) 56 ≡ unsigned32 (p .code)
     unfolding encoded
-    alert-code = number-at 7 56 (fieldsOf (ofAlert p)) (simp (length-append, id, whole)) 4 (unsigned32 (p .code)) _ refl (unsigned-small (p .code) range)
+    alert-code = number-at 7 56 (fields (ofAlert p)) (simp (length-append, id, whole)) 4 (unsigned32 (p .code)) _ refl (unsigned-small (p .code) range)
 
     alert-offset : le 4 (encoded h (ofAlert p)) 60 ≡ 72
     unfolding encoded
-    alert-offset = number-at 8 60 (fieldsOf (ofAlert p)) (simp (length-append, id, whole)) 4 72 _ refl (omega arith)
+    alert-offset = number-at 8 60 (fields (ofAlert p)) (simp (length-append, id, whole)) 4 72 _ refl (omega arith)
 
     alert-count : le 2 (encoded h (ofAlert p)) 64 ≡ 1
     unfolding encoded
-    alert-count = number-at 9 64 (fieldsOf (ofAlert p)) (simp (length-append, id, whole)) 2 1 _ refl (omega arith)
+    alert-count = number-at 9 64 (fields (ofAlert p)) (simp (length-append, id, whole)) 2 1 _ refl (omega arith)
 
     alert-pad : le 2 (encoded h (ofAlert p)) 66 ≡ 0
     unfolding encoded
-    alert-pad = number-at 10 66 (fieldsOf (ofAlert p)) (simp (length-append, id, whole)) 2 0 _ refl (omega arith)
+    alert-pad = number-at 10 66 (fields (ofAlert p)) (simp (length-append, id, whole)) 2 0 _ refl (omega arith)
 
     alert-pad-2 : le 4 (encoded h (ofAlert p)) 68 ≡ 0
     unfolding encoded
-    alert-pad-2 = number-at 11 68 (fieldsOf (ofAlert p)) (simp (length-append, id, whole)) 4 0 _ refl (omega arith)
+    alert-pad-2 = number-at 11 68 (fields (ofAlert p)) (simp (length-append, id, whole)) 4 0 _ refl (omega arith)
 
     alert-array : octets 12 (encoded h (ofAlert p)) 72 ≡ joined (octetsOf 4 1 ∷ octetVectorFields 84 8)
     unfolding encoded
-    alert-array = ap (take 12) (drop-joined 12 (fieldsOf (ofAlert p)) 72 (simp (length-append, id, whole)))
+    alert-array = ap (take 12) (drop-joined 12 (fields (ofAlert p)) 72 (simp (length-append, id, whole)))
 
     alert-value : octets 8 (encoded h (ofAlert p)) 84 ≡ joined (octetsOf 4 8 ∷ octetsOf 4 1 ∷ [])
     unfolding encoded
-    alert-value = ap (take 8) (drop-joined 15 (fieldsOf (ofAlert p)) 84 (simp (length-append, id, whole)))
+    alert-value = ap (take 8) (drop-joined 15 (fields (ofAlert p)) 84 (simp (length-append, id, whole)))
 
     alert-vector : alertVector (encoded h (ofAlert p)) ≡ record { size = 12; offset = record { 0 = 72 }; count = 1 }
     alert-vector = simp (alert-offset, alert-count)

@@ -1,8 +1,8 @@
 -- Demand 2's round trip: what is written reads back, whatever follows it; by itself, where a writer put it, and in a token.
 -- Assumes nothing.
-use Prim.Native.Nat.{ℕ, zero, suc, _+_, _*_, _/_, _%_, _≤_, _<_}
+use Prim.Native.Nat.{ℕ, _+_, _*_, _/_, _%_, _≤_, _<_}
 use mathlib.Core.Path.{_≡_, refl, sym, ap, subst, _∙_}
-use mathlib.Core.Bool.{Bool, true, false, cond, _&&_}
+use mathlib.Core.Bool.{true, false, _&&_}
 use mathlib.Core.Logic.{_⊎_, inl, inr}
 use mathlib.Core.List.{List, [], _∷_, _++_, append-assoc, append-nil}
 use native.Mathlib.Omega.{arith}
@@ -14,14 +14,14 @@ use Rattle.octets.proofs.Same.{both}
 use Rattle.message.specs.Layout.{headerOf, padsOf, Head, headOf, size, front, contentOf, vectorsOf}
 use Rattle.message.specs.Check.{padsZero, allKeepRule}
 use Rattle.message.specs.Show.{idsAt, idsOf, schemesIn}
-use Rattle.message.proofs.Tables.{which, false-true}
+use Rattle.message.proofs.Tables.{which}
 use Rattle.token.specs.Token.{passes, Accepted, tokenOf}
 use Rattle.token.specs.Split.{Message, Numbered, join, placedFrom}
 use Rattle.token.proofs.Splits.{numbered-accepted}
 use Rattle.put.specs.Put.{put, joined}
 use Rattle.encode.specs.declared.Heading.{Heading}
-use Rattle.encode.specs.Encode.{Offer, Contents, ofNego, ofExchange, ofVerify, ofAlert, sizeOf, hasKind, fitsFields, encodable, encoded, Outcome, written, unwritten, storing}
-use Rattle.encode.specs.ReadBack.{Whole, InRange, Sent, shapeFor, contentRead, Shows, ReadsBack, Outgoing, octetsOfAll, InSequence}
+use Rattle.encode.specs.Encode.{Offer, Contents, ofNego, ofExchange, ofVerify, ofAlert, sizeOf, hasKind, fitsFields, encodable, encoded, written, unwritten, storing}
+use Rattle.encode.specs.ReadBack.{Whole, InRange, Sent, shapeFor, contentRead, Shows, ReadsBack, Stands, Outgoing, octetsOfAll, InSequence}
 use Rattle.encode.proofs.Heads.{size-encoded, head-encoded, front-encoded, verdict-encoded, passes-encoded}
 use Rattle.encode.proofs.Layouts.{nego-content, nego-pads, nego-rules, nego-shows, exchange-content, exchange-pads, exchange-rules, exchange-shows, verify-content, verify-pads, verify-rules, verify-shows, alert-content, alert-pads, alert-rules, alert-shows}
 
@@ -132,11 +132,17 @@ pub written-accepted : (q : ℕ) (v : List ℕ) (m : Outgoing) (ms : List Outgoi
 written-accepted q v m ms e w =
     numbered-accepted q v (encoded (m .heading) (m .contents)) (octetsOfAll ms) (all-numbered q v (m ∷ ms) e) w
 
--- what a writer answers with a next place stands at its place, and can be encoded
-pub stored-encoded : (d : List ℕ) (at : ℕ) (h : Heading) (c : Contents) (next : ℕ) (d' : List ℕ) → storing d at h c ≡ written next d' → (encodable h c ≡ true) × ((next ≡ at + length (encoded h c)) × (drop at d' ≡ encoded h c ++ drop next d))
-unfolding storing put
-stored-encoded d at h c next d' e = go (which (encodable h c && leb (at + length (encoded h c)) (length d))) where
-  go : (encodable h c && leb (at + length (encoded h c)) (length d) ≡ true) ⊎ (encodable h c && leb (at + length (encoded h c)) (length d) ≡ false) → (encodable h c ≡ true) × ((next ≡ at + length (encoded h c)) × (drop at d' ≡ encoded h c ++ drop next d))
+-- Where a writer answers a next place, the message stands at its place and every other octet is as it was.
+pub stored-stands : (d : List ℕ) (at : ℕ) (h : Heading) (c : Contents) (next : ℕ) (d' : List ℕ) → storing d at h c ≡ written next d' → Stands d at h c next d'
+unfolding storing
+stored-stands d at h c next d' e = go (which (encodable h c && leb (at + length (encoded h c)) (length d))) where
+  m : List ℕ
+  m = encoded h c
+
+  layer : put d at m ≡ take at d ++ (m ++ drop (at + length m) d)
+  layer = unfold put in append-assoc (take at d) m (drop (at + length m) d)
+
+  go : (encodable h c && leb (at + length (encoded h c)) (length d) ≡ true) ⊎ (encodable h c && leb (at + length (encoded h c)) (length d) ≡ false) → Stands d at h c next d'
   go (inr f) = let w : unwritten d ≡ written next d' = simp f at e in let z : _≡_ {A = ℕ} 0 1 = cc in absurd (omega arith)
   go (inl f) =
       let b = both (encodable h c) (leb (at + length (encoded h c)) (length d)) f in
@@ -144,15 +150,18 @@ stored-encoded d at h c next d' e = go (which (encodable h c && leb (at + length
       let w : written (at + length (encoded h c)) (put d at (encoded h c)) ≡ written next d' = simp f at e in
       let n : at + length (encoded h c) ≡ next = cc in
       let k : put d at (encoded h c) ≡ d' = cc in
-      (b .0, (sym n, ap (drop at) (sym k) ∙ there room ∙ ap (λ (j : ℕ). encoded h c ++ drop j d) n)) where
-        there : at + length (encoded h c) ≤ length d → drop at (put d at (encoded h c)) ≡ encoded h c ++ drop (at + length (encoded h c)) d
-        there room = unfold put in
-            (ap (drop at) (append-assoc (take at d) (encoded h c) (drop (at + length (encoded h c)) d))
-            ∙ drop-at (take at d) (encoded h c ++ drop (at + length (encoded h c)) d) at (length-take-le at d (omega arith)))
+      let l : length (take at d) ≡ at = length-take-le at d (omega arith) in
+      record {
+        can = b .0;
+        after = sym n;
+        room = omega arith;
+        before = ap (take at) (sym k ∙ layer) ∙ take-at (take at d) (m ++ drop (at + length m) d) at l;
+        from = ap (drop at) (sym k ∙ layer) ∙ drop-at (take at d) (m ++ drop (at + length m) d) at l ∙ ap (λ (j : ℕ). encoded h c ++ drop j d) n;
+      }
 
--- so a reader at that place finds the message as it was written, whatever the buffer holds behind it
+-- So a reader at that place finds the message as it was written, whatever the buffer holds behind it.
 pub stored-reads : (d : List ℕ) (at : ℕ) (h : Heading) (c : Contents) (next : ℕ) (d' : List ℕ) → storing d at h c ≡ written next d' → h .sequence < 4294967296 → length (h .conversation) ≡ 16 → Whole c → InRange c
     → (drop at d' ≡ encoded h c ++ drop next d) × ReadsBack h c (drop next d)
 stored-reads d at h c next d' e number id whole range =
-    let t = stored-encoded d at h c next d' e in
-    (t .1 .1, read-encode h c (record { can = t .0; number = number; id = id; whole = whole; range = range }) (drop next d))
+    let t = stored-stands d at h c next d' e in
+    (t .from, read-encode h c (record { can = t .can; number = number; id = id; whole = whole; range = range }) (drop next d))

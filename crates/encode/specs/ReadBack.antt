@@ -4,16 +4,17 @@
 --   Whole c, InRange c   the ids of the contents have 16 octets and random has 32; a signed number is one of 32 bits
 --   Sent h c             a message that can be written: encodable, with a sequence number and signed numbers of 32 bits and whole ids
 --   shapeFor c           the layout of the contents
---   headRead, contentRead   the header and the content that reading finds
+--   headRead, contentRead   the header and the content that reading finds; vectorOf: a vector with its stored offset
 --   Shows c m            what the vector readers hand back of the message m is what was written
 --   ReadsBack h c r      the written message, followed by any octets r, reads as what was written
+--   Stands d at h c next d'   the written message stands at `at` in d', which else is d; `next` is the place behind it
 --   Outgoing             a message to write; octetsOfAll gives the written messages of a list
 --   InSequence q v ms    messages to write that are numbered on from q, of the conversation v
-use Prim.Native.Nat.{ℕ, _+_, _/_, _<_}
+use Prim.Native.Nat.{ℕ, _+_, _/_, _<_, _≤_}
 use mathlib.Core.Path.{_≡_}
 use mathlib.Core.Bool.{true}
 use mathlib.Core.List.{List, [], _∷_, _++_}
-use lib.ListN.{length}
+use lib.ListN.{length, take, drop}
 use lib.Signed.{mag}
 use Rattle.octets.specs.Octets.{signed32}
 use Rattle.vector.specs.declared.Vector.{Vector}
@@ -60,7 +61,6 @@ headRead h c = record {
   conversation = h .conversation;
 }
 
--- a vector with its stored offset
 abbrev vectorOf : ℕ → ℕ → ℕ → Vector
 vectorOf size offset count = record { size = size; offset = record { 0 = offset }; count = count }
 
@@ -87,6 +87,13 @@ pub record ReadsBack (h : Heading) (c : Contents) (r : List ℕ) : Type 0 where
   pub content : contentOf (shapeFor c) (encoded h c) ≡ contentRead c
   pub verdict : messageVerdict (encoded h c ++ r) ≡ read (fieldsOf (headRead h c))
   pub shows : Shows c (encoded h c)
+
+pub record Stands (d : List ℕ) (at : ℕ) (h : Heading) (c : Contents) (next : ℕ) (d' : List ℕ) : Type 0 where
+  pub can : encodable h c ≡ true
+  pub after : next ≡ at + length (encoded h c)
+  pub room : next ≤ length d
+  pub before : take at d' ≡ take at d
+  pub from : drop at d' ≡ encoded h c ++ drop next d
 
 pub record Outgoing : Type 0 where
   pub heading : Heading
