@@ -8,3 +8,5 @@ pub mod Demand
 pub mod Unchanged
 pub mod Worked
 pub mod Examples
+pub mod Messages
+pub mod Inside
