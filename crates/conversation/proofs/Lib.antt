@@ -10,3 +10,4 @@ pub mod Worked
 pub mod Examples
 pub mod Messages
 pub mod Inside
+pub mod Logs
