@@ -15,12 +15,13 @@ use Rattle.message.specs.Layout.{headOf}
 use Rattle.message.specs.Show.{idsAt}
 use Rattle.message.proofs.Tables.{which, AllTrue}
 use Rattle.schemes.specs.Lists.{Id, mem, place, bit}
+use Rattle.schemes.specs.Answers.{leftOf}
 use Rattle.schemes.specs.Sets.{commonSet, left, keptPlaces, ones, openPlaces, below, keptBelow, padTo}
 use Rattle.schemes.proofs.Choice.{no-true, and-l, and-r, mem-tail}
 use Rattle.schemes.proofs.Digits.{ones-pow, bit-room}
 use Rattle.schemes.proofs.Ids.{length-ids}
 use Rattle.schemes.proofs.Builds.{common-bound}
-use Rattle.schemes.proofs.Limits.{kept-below}
+use Rattle.schemes.proofs.Limits.{kept-below, open-below}
 use Rattle.schemes.proofs.Mentions.{kept-few}
 use Rattle.schemes.proofs.Replies.{place-below}
 use Rattle.conversation.specs.declared.Record.{Record}
@@ -33,6 +34,10 @@ use Rattle.conversation.specs.Admitting.{listedBy, schemeIn, isAt, furth
 use Rattle.conversation.specs.Reading.{commonAfter, keptAfter, taken}
 use Rattle.conversation.specs.Choosing.{openTo, firstPlace, chose}
 use Rattle.conversation.proofs.Tokens.{not-stop}
+
+or-right : (a : Bool) {b : Bool} → b ≡ true → a || b ≡ true
+or-right true e = refl
+or-right false e = e
 
 -- 1. schemes of the own list
 
@@ -54,8 +59,8 @@ module _ (r : Record) where
   own-length : length (ownOf r) ≡ r .count
   own-length = length-ids (r .count) (r .list)
 
-  pub own-place : (id : Id) → mem id (ownOf r) ≡ true → place (ownOf r) id < r .count
-  own-place id h = subst (λ (n : ℕ). place (ownOf r) id < n) own-length (place-below (ownOf r) id h)
+  pub place-own : (id : Id) → mem id (ownOf r) ≡ true → place (ownOf r) id < r .count
+  place-own id h = subst (λ (n : ℕ). place (ownOf r) id < n) own-length (place-below (ownOf r) id h)
 
   pub at-mem : (id : Id) (k : ℕ) → isAt r k id ≡ true → mem id (ownOf r) ≡ true
   at-mem id k h =
@@ -71,7 +76,7 @@ module _ (r : Record) where
   told-below id b h =
       let m : mem id (ownOf r) ≡ true = own (r .acceptor) (and-l (mem id (cond (r .acceptor) (replied r) (ownOf r))) (not (bit (r .told) (place (ownOf r) id))) h) in
       let clear : bit (r .told) (place (ownOf r) id) ≡ false = not-true _ (and-r (mem id (cond (r .acceptor) (replied r) (ownOf r))) (not (bit (r .told) (place (ownOf r) id))) h) in
-      lt-ltb _ _ (bit-room (r .count) (r .told) (place (ownOf r) id) (ltb-true _ _ b) (own-place id m) clear) where
+      lt-ltb _ _ (bit-room (r .count) (r .told) (place (ownOf r) id) (ltb-true _ _ b) (place-own id m) clear) where
         own : (a : Bool) → mem id (cond a (replied r) (ownOf r)) ≡ true → mem id (ownOf r) ≡ true
         own true e = replied-mem id e
         own false e = e
@@ -82,10 +87,7 @@ module _ (r : Record) where
   ChosenBelow k = (eqb k NONE || ltb k (r .count)) ≡ true
 
   low-chosen : (k : ℕ) → k < r .count → ChosenBelow k
-  low-chosen k h = rw (lt-ltb k (r .count) h) (go (eqb k NONE)) where
-    go : (b : Bool) → b || true ≡ true
-    go true = refl
-    go false = refl
+  low-chosen k h = or-right (eqb k NONE) (lt-ltb k (r .count) h)
 
   further-mem : (chosen : ℕ) (id : Id) → furtherFits r chosen id ≡ true → mem id (ownOf r) ≡ true
   further-mem chosen id h = go (eqb chosen NONE) h where
@@ -113,25 +115,16 @@ module _ (r : Record) where
         | inl f ↦
             let k = further-kind (reads r) (c .position) (c .heard) kind f (a .0) in
             let g : furtherFits r (c .chosen) (schemeIn m) ≡ true = rw (k .0, k .1, f) at (b .0) in
-            rw f (low-chosen _ (own-place (schemeIn m) (further-mem (c .chosen) (schemeIn m) g)))
+            rw f (low-chosen _ (place-own (schemeIn m) (further-mem (c .chosen) (schemeIn m) g)))
       ])
 
--- 4. the initiator's choice
+-- 4. the initiator's choice: the first open place, or none
 
-pub open-below : (n : ℕ) (ks : List ℕ) (c m : ℕ) → keptBelow n ks c ≡ true → (eqb (firstPlace (openPlaces ks c m)) NONE || ltb (firstPlace (openPlaces ks c m)) n) ≡ true
-unfolding openPlaces keptBelow
-open-below n [] c m h = refl
-open-below n (k ∷ ks) c m h = go (bit c 0) (bit m k) refl (open-below n ks (c / 2) m (and-r (not (bit c 0) || ltb k n) (keptBelow n ks (c / 2)) h)) where
-  go : (a b : Bool) → bit c 0 ≡ a → (eqb (firstPlace (openPlaces ks (c / 2) m)) NONE || ltb (firstPlace (openPlaces ks (c / 2) m)) n) ≡ true
-      → (eqb (firstPlace (cond (a && not b) (k ∷ openPlaces ks (c / 2) m) (openPlaces ks (c / 2) m))) NONE || ltb (firstPlace (cond (a && not b) (k ∷ openPlaces ks (c / 2) m) (openPlaces ks (c / 2) m))) n) ≡ true
-  go false b e i = i
-  go true true e i = i
-  go true false e i =
-      let low : ltb k n ≡ true = rw e at (and-l (not (bit c 0) || ltb k n) (keptBelow n ks (c / 2)) h) in
-      rw low (or-true (eqb k NONE)) where
-        or-true : (b : Bool) → b || true ≡ true
-        or-true true = refl
-        or-true false = refl
+pub first-below : (r : Record) (m : ℕ) → keptBelow (r .count) (r .kept) (r .common) ≡ true → ChosenBelow r (firstPlace (openTo r m))
+first-below r m h = go (openTo r m) (open-below (r .count) (r .kept) (r .common) m h) where
+  go : (ks : List ℕ) → ((leftOf ks .left ≡ 0 → ⊥) → leftOf ks .place < r .count) → ChosenBelow r (firstPlace ks)
+  go [] f = refl
+  go (k ∷ ks) f = unfold leftOf in low-chosen r k (f (λ z. omega arith))
 
 -- 5. the common set and the kept places that a reading leaves
 
@@ -148,9 +141,9 @@ ones-few : (k n : ℕ) → k ≤ n → below n (ones k) ≡ true
 ones-few k n h = let p : 2 ^ k ≤ 2 ^ n = pow-mono {i = k} {j = n} h in let low : ones k < 2 ^ n = omega (arith, ones-pow k) in lt-ltb _ _ low
 
 module _ (r : Record) (t : List ℕ) where
-  pub common-below : below (r .count) (r .common) ≡ true → below (r .count) (commonAfter r t) ≡ true
+  pub common-then : below (r .count) (r .common) ≡ true → below (r .count) (commonAfter r t) ≡ true
   unfolding commonAfter
-  common-below h = elim (which (eqb (reads r) FIRST)) [
+  common-then h = elim (which (eqb (reads r) FIRST)) [
     | inl e ↦ rw e (subst (λ (n : ℕ). below n (commonSet (ownOf r) (listedBy t)) ≡ true) (own-length r) (lt-ltb _ _ (common-bound (ownOf r) (listedBy t))))
     | inr e ↦ elim (which (eqb (reads r) ANSWER)) [
       | inl g ↦ rw (e, g) (ones-few _ (r .count) (subst (λ (n : ℕ). length (keptPlaces (ownOf r) (listedBy t)) ≤ n) (own-length r) (kept-few (ownOf r) (listedBy t))))
@@ -158,18 +151,15 @@ module _ (r : Record) (t : List ℕ) where
     ]
   ]
 
-  pub places-below : (r .acceptor || keptBelow (r .count) (r .kept) (r .common)) ≡ true → (r .acceptor || keptBelow (r .count) (keptAfter r t) (commonAfter r t)) ≡ true
+  pub places-then : (r .acceptor || keptBelow (r .count) (r .kept) (r .common)) ≡ true → (r .acceptor || keptBelow (r .count) (keptAfter r t) (commonAfter r t)) ≡ true
   unfolding commonAfter keptAfter
-  places-below h = elim (which (eqb (reads r) FIRST)) [
+  places-then h = elim (which (eqb (reads r) FIRST)) [
     | inl e ↦ rw (first-acceptor (r .acceptor) (r .stage) e)
     | inr e ↦ elim (which (eqb (reads r) ANSWER)) [
       | inl g ↦ rw (e, g) (or-right (r .acceptor) (subst (λ (n : ℕ). keptBelow n (padTo 16 (keptPlaces (ownOf r) (listedBy t))) (ones (length (keptPlaces (ownOf r) (listedBy t)))) ≡ true) (own-length r) (kept-below (ownOf r) (listedBy t) (ones (length (keptPlaces (ownOf r) (listedBy t)))) (omega (arith, ones-pow (length (keptPlaces (ownOf r) (listedBy t))))))))
       | inr g ↦ rw (e, g) h
     ]
-  ] where
-    or-right : (a : Bool) {b : Bool} → b ≡ true → a || b ≡ true
-    or-right true e = refl
-    or-right false e = e
+  ]
 
 -- 6. the limits behind each kind of call
 
@@ -188,12 +178,12 @@ module _ (r : Record) (limits : AllTrue (limitRows r)) where
       let sixty : 64 * r .sequence ≤ r .used = leb-true _ _ l11 in
       let numbers : r .sequence + n ≤ 1023 = omega arith in
       let enough : 64 * (r .sequence + n) ≤ r .used + length t = omega arith in
-      (l1, (l2, (l3, (l4, (common-below r t l5, (lt-ltb 0 (2 ^ r .count) (pow-pos (r .count)), (places-below r t l7, (chosen, (le-leb _ _ room, (le-leb _ _ numbers, (le-leb _ _ enough, tt)))))))))))
+      (l1, (l2, (l3, (l4, (common-then r t l5, (lt-ltb 0 (2 ^ r .count) (pow-pos (r .count)), (places-then r t l7, (chosen, (le-leb _ _ room, (le-leb _ _ numbers, (le-leb _ _ enough, tt)))))))))))
 
   pub limits-chose : (m : ℕ) → r .acceptor ≡ false → below (r .count) m ≡ true → AllTrue (limitRows (chose r m))
   limits-chose m role marks =
       let (l1, (l2, (l3, (l4, (l5, (l6, (l7, (l8, (l9, (l10, (l11, rest))))))))))) = limits in
-      (l1, (l2, (l3, (marks, (l5, (l6, (l7, (open-below (r .count) (r .kept) (r .common) m (rw role at l7), (l9, (l10, (l11, tt)))))))))))
+      (l1, (l2, (l3, (marks, (l5, (l6, (l7, (first-below r m (rw role at l7), (l9, (l10, (l11, tt)))))))))))
 
   pub limits-counts : (r .used ≤ 65535) × (r .sequence ≤ 1023)
   limits-counts =

@@ -35,7 +35,7 @@ use Rattle.conversation.proofs.Rows.{decide-out, without, fails-other, 
 use Rattle.conversation.proofs.Tokens.{judged-first, judged-number}
 use Rattle.conversation.proofs.Ends.{ok-distinct, own-opened, count-joined}
 use Rattle.conversation.proofs.Inside.{told-below, ChosenBelow, admit-chosen, limits-wrote, limits-taken, limits-chose, limits-counts}
-use Rattle.conversation.proofs.Messages.{FramedFrom, Framed, framed-more, framed-behind, framed-long, join-append, join-one, same-messages, same-start, written-framed, judge-keeps, Taken, token-taken}
+use Rattle.conversation.proofs.Messages.{FramedFrom, Framed, framed-more, framed-behind, framed-long, framed-order, join-append, join-one, same-messages, same-start, written-framed, judge-keeps, Taken, token-taken}
 
 -- 1. the invariant of an end
 
@@ -58,16 +58,14 @@ put-end d used x h =
     let n : length (take used d ++ x) ≡ used + length x = length-append (take used d) x ∙ ap (λ (k : ℕ). k + length x) (length-take-le used d h) in
     take-at (take used d ++ x) (drop (used + length x) d) (used + length x) n
 
+small : (b : Bool) {x y : ℕ} → x ≤ 7 → y ≤ 7 → cond b x y ≤ 7
+small true h g = h
+small false h g = g
+
 type-known : (a : Bool) (kind : ℕ) → typeOf a kind ≤ 7
 unfolding typeOf
-type-known true kind = small (eqb kind 1) (omega arith) (small (eqb kind 2) (omega arith) (small (eqb kind 3) (omega arith) (small (eqb kind 4) (omega arith) (omega arith)))) where
-  small : (b : Bool) {x y : ℕ} → x ≤ 7 → y ≤ 7 → cond b x y ≤ 7
-  small true h g = h
-  small false h g = g
-type-known false kind = small (eqb kind 1) (omega arith) (small (eqb kind 2) (omega arith) (small (eqb kind 3) (omega arith) (small (eqb kind 4) (omega arith) (omega arith)))) where
-  small : (b : Bool) {x y : ℕ} → x ≤ 7 → y ≤ 7 → cond b x y ≤ 7
-  small true h g = h
-  small false h g = g
+type-known true kind = small (eqb kind 1) (omega arith) (small (eqb kind 2) (omega arith) (small (eqb kind 3) (omega arith) (small (eqb kind 4) (omega arith) (omega arith))))
+type-known false kind = small (eqb kind 1) (omega arith) (small (eqb kind 2) (omega arith) (small (eqb kind 3) (omega arith) (small (eqb kind 4) (omega arith) (omega arith))))
 
 -- the rule's scheme is one of the own list
 now-below : (r : Record) → schemeAllowed r ≡ true → schemeNow r < r .count
@@ -407,6 +405,7 @@ counted r d log s = record {
   used = s .used;
   sequence = s .sequence;
   next-number = limits-counts r (s .limits) .1;
+  numbers = framed-order 0 log (s .framed);
   transcript = s .transcript;
 } where
   passing : (rows : List Row) → AllTrue rows → firstFailing rows ≡ 0

@@ -30,7 +30,7 @@ use Rattle.conversation.specs.declared.Record.{Record}
 use Rattle.conversation.specs.declared.Scan.{Scan}
 use Rattle.conversation.specs.Admitting.{Admitted, on, stop, admit}
 use Rattle.conversation.specs.Reading.{conversationOf, startOf, Judged, whole, halted, judge, chainFor, judged}
-use Rattle.conversation.specs.Logs.{messagesIn}
+use Rattle.conversation.specs.Logs.{messagesIn, InOrder}
 use Rattle.conversation.proofs.Tokens.{empty-judged}
 
 -- 1. a message, whatever follows it
@@ -60,6 +60,10 @@ framed-behind q (m ∷ ms) ns a =
 pub framed-long : (q : ℕ) (ms : List (List ℕ)) → FramedFrom q ms → 64 * length ms ≤ length (join ms)
 framed-long q [] a = omega arith
 framed-long q (m ∷ ms) a = let h = framed-long (q + 1) ms (a .1) in let l = a .0 .long in omega (arith, length-append m (join ms))
+
+pub framed-order : (q : ℕ) (ms : List (List ℕ)) → FramedFrom q ms → InOrder q ms
+framed-order q [] a = tt
+framed-order q (m ∷ ms) a = (ap (λ (s : List ℕ). headOf s .sequence) (sym (append-nil m)) ∙ a .0 .number [], framed-order (q + 1) ms (a .1))
 
 pub join-append : (ms ns : List (List ℕ)) → join (ms ++ ns) ≡ join ms ++ join ns
 join-append [] ns = refl

@@ -6,14 +6,16 @@
 --   added               what an accepted call adds to the messages that its end has read and written; logged: all of them behind any call
 --   Logs                for each end the messages, as octets, that it has read and written since opening, in order
 --   logsBehind          the logs behind a list of calls; logsOf: from the opening on
+--   InOrder q log       the messages' headers number them on from q
 --   Counted r d log     the record r is inside its limits and counts its log, which the transcript d begins with
 --   InStep              a log is one that the other end's begins with, and the own turn behind it
 --   EveryRun            both, of both ends, behind every list of calls
-use Prim.Native.Nat.{ℕ, _≤_}
+use Prim.Native.Nat.{ℕ, _+_, _≤_}
 use mathlib.Core.Path.{_≡_}
 use mathlib.Core.Bool.{Bool, true, false, cond}
 use mathlib.Core.List.{List, [], _∷_, _++_}
 use lib.ListN.{length, take}
+use Rattle.message.specs.Layout.{headOf}
 use Rattle.message.specs.Check.{firstFailing}
 use Rattle.token.specs.Token.{Placed, Chain, end, refused as cutAt, message}
 use Rattle.token.specs.Split.{join}
@@ -58,13 +60,18 @@ logsBehind w l (c ∷ cs) = logsBehind (next w (c .0) (c .1)) (nextLogs w (c .0)
 abbrev pub logsOf : Opening → List (Bool × Call) → Logs
 logsOf o cs = logsBehind (world o) (record { i = []; a = [] }) cs
 
--- "The used length equals the sum of the lengths of all messages read and written since opening."; "Sequence numbers start at 0 and rise by one over
--- both ends' messages together."
+-- "Sequence numbers start at 0 and rise by one over both ends' messages together."
+abbrev pub InOrder : ℕ → List (List ℕ) → Type 0
+InOrder q [] = Unit {0}
+InOrder q (m ∷ ms) = (headOf m .sequence ≡ q) × InOrder (q + 1) ms
+
+-- "The used length equals the sum of the lengths of all messages read and written since opening. So the next sequence number is never above 1,023."
 pub record Counted (r : Record) (d : List ℕ) (log : List (List ℕ)) : Type 0 where
   pub inside : firstFailing (limitRows r) ≡ 0
   pub used : r .used ≡ length (join log)
   pub sequence : r .sequence ≡ length log
   pub next-number : r .sequence ≤ 1023
+  pub numbers : InOrder 0 log
   pub transcript : take (r .used) d ≡ join log
 
 -- "all that this other end wrote since its own opening or the last token that it accepted itself": before that, both have the same messages
