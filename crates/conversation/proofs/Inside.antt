@@ -1,22 +1,21 @@
 -- A record stays inside its limits: what each accepted call makes of the sets, the kept places and the chosen place.
 -- Assumes nothing.
 use Prim.Native.Nat.{ℕ, zero, suc, _+_, _*_, _^_, _/_, _≤_, _<_}
-use mathlib.Core.Path.{_≡_, refl, sym, ap, subst, _∙_}
+use mathlib.Core.Path.{_≡_, refl, sym, subst}
 use mathlib.Core.Bool.{Bool, true, false, cond, not, _&&_, _||_}
-use mathlib.Core.Logic.{_⊎_, inl, inr}
-use mathlib.Core.List.{List, [], _∷_, _++_}
+use mathlib.Core.Logic.{inl, inr}
+use mathlib.Core.List.{List, [], _∷_}
 use native.Mathlib.Omega.{arith}
 use lib.ListN.{length, getD}
 use lib.Pow.{pow-pos, pow-mono}
-use lib.Dec.{eqb, leb, ltb}
+use lib.Dec.{eqb, ltb}
 use borrow.Author.Tests.{eqb-true, leb-true, ltb-true, le-leb, lt-ltb, not-true}
 use Rattle.octets.specs.Octets.{sameOctets}
 use Rattle.message.specs.Layout.{headOf}
-use Rattle.message.specs.Show.{idsAt}
 use Rattle.message.proofs.Tables.{which, AllTrue}
 use Rattle.schemes.specs.Lists.{Id, mem, place, bit}
 use Rattle.schemes.specs.Answers.{leftOf}
-use Rattle.schemes.specs.Sets.{commonSet, left, keptPlaces, ones, openPlaces, below, keptBelow, padTo}
+use Rattle.schemes.specs.Sets.{commonSet, left, keptPlaces, ones, below, keptBelow, padTo}
 use Rattle.schemes.proofs.Choice.{no-true, and-l, and-r, mem-tail}
 use Rattle.schemes.proofs.Digits.{ones-pow, bit-room}
 use Rattle.schemes.proofs.Ids.{length-ids}
@@ -30,7 +29,7 @@ use Rattle.conversation.specs.State.{NONE, ownOf, schemeAt, replied, lim
 use Rattle.conversation.specs.Turns.{FIRST, ANSWER, FURTHER, NEGO, METADATA, reading, kindOf, after, afterFurther, reads}
 use Rattle.conversation.specs.Outcomes.{WrittenAs, wrote}
 use Rattle.conversation.specs.Writing.{metadataAllowed}
-use Rattle.conversation.specs.Admitting.{listedBy, schemeIn, isAt, furtherFits, schemeFits, passed, Admitted, on, stop, orStop, admit}
+use Rattle.conversation.specs.Admitting.{listedBy, schemeIn, isAt, furtherFits, schemeFits, passed, on, admit}
 use Rattle.conversation.specs.Reading.{commonAfter, keptAfter, taken}
 use Rattle.conversation.specs.Choosing.{openTo, firstPlace, chose}
 use Rattle.conversation.proofs.Tokens.{not-stop}

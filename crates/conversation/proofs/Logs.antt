@@ -1,37 +1,38 @@
 -- What holds of both ends in every run: records inside their limits, used and sequence counted by the messages read and written, and logs in step.
 -- Assumes nothing.
-use Prim.Native.Nat.{ℕ, zero, suc, _+_, _*_, _^_, _/_, _≤_, _<_, min}
+use Prim.Native.Nat.{ℕ, zero, suc, _+_, _*_, _^_, _/_, _≤_, _<_}
 use mathlib.Core.Path.{_≡_, refl, sym, ap, subst, _∙_}
 use mathlib.Core.Bool.{Bool, true, false, cond, not, _&&_, _||_}
-use mathlib.Core.Logic.{_⊎_, inl, inr}
+use mathlib.Core.Logic.{inl, inr}
 use mathlib.Core.List.{List, [], _∷_, _++_, List·Memᴰ, List·Memᴰ·head, List·Memᴰ·tail, append-assoc, append-nil}
 use native.Mathlib.Omega.{arith}
 use lib.ListN.{length, take, drop, getD, length-append, length-take, length-drop}
 use lib.Seq.{take-at, length-take-le}
 use lib.Pow.{pow-pos}
+use lib.IntN.{ℤ}
 use lib.Dec.{eqb, leb, ltb}
-use borrow.Author.Tests.{eqb-true, leb-true, ltb-true, le-leb, lt-ltb, ne-eqb, not-true}
+use borrow.Author.Tests.{eqb-true, leb-true, ltb-true, lt-ltb, ne-eqb, not-true}
 use Rattle.octets.specs.Octets.{octets}
 use Rattle.message.specs.Check.{Row, FirstFails, firstFailing}
 use Rattle.message.proofs.Tables.{which, AllTrue}
 use Rattle.token.specs.Split.{join}
 use Rattle.put.specs.Put.{put}
-use Rattle.encode.specs.Encode.{Contents, ofNego, ofExchange, ofVerify, ofAlert, encoded}
+use Rattle.encode.specs.Encode.{Contents, ofNego, ofExchange, ofVerify, ofAlert}
 use Rattle.encode.specs.ReadBack.{Whole}
 use Rattle.schemes.specs.Lists.{Id, distinct, oneTo16, joinIds, place}
 use Rattle.schemes.specs.Sets.{left, named, below, keptBelow}
-use Rattle.schemes.proofs.Choice.{no-true, and-l, and-r}
+use Rattle.schemes.proofs.Choice.{and-l, and-r}
 use Rattle.conversation.specs.declared.Record.{Record}
 use Rattle.conversation.specs.declared.Scan.{Scan}
-use Rattle.conversation.specs.State.{NONE, ownOf, schemeAt, replied, limitRows, fresh}
-use Rattle.conversation.specs.Turns.{FIRST, ANSWER, NEGO, METADATA, EXCHANGE, VERIFY, ALERT, typeOf, writes, reads, placeAfter, mayWrite, mayRead}
+use Rattle.conversation.specs.State.{ownOf, schemeAt, replied, limitRows, fresh}
+use Rattle.conversation.specs.Turns.{FIRST, ANSWER, NEGO, METADATA, EXCHANGE, VERIFY, ALERT, typeOf, writes, reads, placeAfter, mayRead}
 use Rattle.conversation.specs.Outcomes.{Outcome, zeroId, answered, refused, decide, row, room, fits, WrittenAs, unchanged, wrote, appended}
-use Rattle.conversation.specs.Writing.{heading, messageOf, stageRows, offered, offering, someLeft, replyMessage, naming, replying, metadataAllowed, metadataMessage, writingMetadata, schemeNow, firstOfReply, startsWith, schemeAllowed, exchangeMessage, askedBy, writingExchange, verifyMessage, writingVerify, alertMessage, writingAlert}
-use Rattle.conversation.specs.Reading.{conversationOf, startOf, Judged, whole, halted, judge, chainFor, judged, taken, finish, readingToken}
+use Rattle.conversation.specs.Writing.{heading, messageOf, stageRows, offering, someLeft, replyMessage, naming, replying, metadataAllowed, metadataMessage, writingMetadata, schemeNow, startsWith, schemeAllowed, exchangeMessage, askedBy, writingExchange, verifyMessage, writingVerify, alertMessage, writingAlert}
+use Rattle.conversation.specs.Reading.{conversationOf, startOf, Judged, whole, halted, chainFor, judged, taken, finish, readingToken}
 use Rattle.conversation.specs.Choosing.{openTo, mayChoose, chose, choosing}
-use Rattle.conversation.specs.Runs.{Sized, Call, offer, reply, metadata, exchange, verify, alert, read, choose, End, act, turnAfter, moved, Opening, World, world, outcomeAt, next, ends}
-use Rattle.conversation.specs.Logs.{messagesIn, added, logged, Logs, nextLogs, logsBehind, logsOf, Counted, InStep, Holds, EveryRun}
-use Rattle.conversation.proofs.Rows.{decide-out, without, fails-other, true-behind, front-true}
+use Rattle.conversation.specs.Runs.{Sized, Call, offer, reply, metadata, exchange, verify, alert, read, choose, End, act, turnAfter, moved, World, world, next, ends}
+use Rattle.conversation.specs.Logs.{messagesIn, added, logged, Logs, nextLogs, logsBehind, Counted, InStep, EveryRun}
+use Rattle.conversation.proofs.Rows.{decide-out, without, fails-other, true-behind}
 use Rattle.conversation.proofs.Tokens.{judged-first, judged-number}
 use Rattle.conversation.proofs.Ends.{ok-distinct, own-opened, count-joined}
 use Rattle.conversation.proofs.Inside.{told-below, ChosenBelow, admit-chosen, limits-wrote, limits-taken, limits-chose, limits-counts}
@@ -215,14 +216,14 @@ module _ (e f : End) (le lf : List (List ℕ)) (ok : Sound (e .record-of) (e .tr
       (record { marks = r .marks; told = r .told; asked = askedBy r; verified = r .verified }) refl refl refl
       (λ g. record { whole = now-whole EXCHANGE (fits r d (length (exchangeMessage r value)) ∷ []) g; marks = marks-here; told = told-here })
 
-  verifies : (type : _) (value : List ℕ) → Goal (verify type value) (writingVerify r d type value)
+  verifies : (type : ℤ) (value : List ℕ) → Goal (verify type value) (writingVerify r d type value)
   unfolding writingVerify
   verifies type value =
       writes-call (verify type value) VERIFY (row 15 (schemeAllowed r) ∷ []) (ofVerify (record { scheme = schemeAt r (schemeNow r); type = type; value = value }))
       (record { marks = r .marks; told = r .told; asked = r .asked; verified = true }) refl refl refl
       (λ g. record { whole = now-whole VERIFY (fits r d (length (verifyMessage r type value)) ∷ []) g; marks = marks-here; told = told-here })
 
-  alerts : (code : _) → Goal (alert code) (writingAlert r d code)
+  alerts : (code : ℤ) → Goal (alert code) (writingAlert r d code)
   unfolding writingAlert
   alerts code =
       writes-call (alert code) ALERT (row 15 (schemeAllowed r) ∷ []) (ofAlert (record { scheme = schemeAt r (schemeNow r); code = code })) (unchanged r) refl refl refl

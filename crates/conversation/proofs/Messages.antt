@@ -2,23 +2,21 @@
 -- Assumes nothing.
 use Prim.Native.Nat.{ℕ, zero, suc, _+_, _*_, _-_, _≤_, _<_}
 use mathlib.Core.Path.{_≡_, refl, sym, ap, subst, _∙_}
-use mathlib.Core.Bool.{Bool, true, false, cond}
+use mathlib.Core.Bool.{true, false}
 use mathlib.Core.Logic.{_⊎_, inl, inr}
 use mathlib.Core.List.{List, [], _∷_, _++_, append-assoc, append-nil}
 use native.Mathlib.Nat.{add-zero}
 use native.Mathlib.Omega.{arith}
-use lib.ListN.{length, take, drop, length-append}
+use lib.ListN.{length, take, drop, length-append, take-append-drop}
 use lib.Seq.{take-at, drop-at, drop-nil}
-use lib.Dec.{eqb}
 use borrow.Author.Tests.{ne-eqb}
 use Rattle.message.specs.Layout.{Head, shapeOf, headerOf, headOf, size, front}
 use Rattle.message.specs.Check.{SIGNATURE}
 use Rattle.message.proofs.Tables.{which}
-use Rattle.token.specs.Token.{passes, Placed, Chain, end, refused as cutAt, message, chainOf}
-use Rattle.token.specs.Split.{Message, Numbered, join}
+use Rattle.token.specs.Token.{passes, Chain, end, refused as cutAt, message, chainOf}
+use Rattle.token.specs.Split.{Numbered, join}
 use Rattle.token.proofs.Cuts.{passes-sized, drop-one}
 use Rattle.token.proofs.Splits.{front-message, message-head, message-order, message-length}
-use lib.ListN.{take-append-drop}
 use Rattle.put.specs.Put.{joined}
 use Rattle.put.proofs.Laws.{joined-append}
 use Rattle.encode.specs.declared.Heading.{Heading}
@@ -29,7 +27,7 @@ use Rattle.encode.proofs.Heads.{head-fields}
 use Rattle.conversation.specs.declared.Record.{Record}
 use Rattle.conversation.specs.declared.Scan.{Scan}
 use Rattle.conversation.specs.Admitting.{Admitted, on, stop, admit}
-use Rattle.conversation.specs.Reading.{conversationOf, startOf, Judged, whole, halted, judge, chainFor, judged}
+use Rattle.conversation.specs.Reading.{conversationOf, startOf, whole, halted, judge, chainFor, judged}
 use Rattle.conversation.specs.Logs.{messagesIn, InOrder}
 use Rattle.conversation.proofs.Tokens.{empty-judged}
 

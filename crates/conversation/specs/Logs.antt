@@ -17,7 +17,7 @@ use mathlib.Core.List.{List, [], _∷_, _++_}
 use lib.ListN.{length, take}
 use Rattle.message.specs.Layout.{headOf}
 use Rattle.message.specs.Check.{firstFailing}
-use Rattle.token.specs.Token.{Placed, Chain, end, refused as cutAt, message}
+use Rattle.token.specs.Token.{Chain, end, refused as cutAt, message}
 use Rattle.token.specs.Split.{join}
 use Rattle.conversation.specs.declared.Record.{Record}
 use Rattle.conversation.specs.State.{limitRows}
