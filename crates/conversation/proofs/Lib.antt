@@ -8,3 +8,6 @@ pub mod Demand
 pub mod Unchanged
 pub mod Worked
 pub mod Examples
+pub mod Messages
+pub mod Inside
+pub mod Logs
