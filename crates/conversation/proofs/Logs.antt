@@ -17,8 +17,7 @@ use Rattle.message.specs.Check.{Row, FirstFails, firstFailing}
 use Rattle.message.proofs.Tables.{which, AllTrue}
 use Rattle.token.specs.Split.{join}
 use Rattle.put.specs.Put.{put}
-use Rattle.encode.specs.Encode.{Contents, ofNego, ofExchange, ofVerify, ofAlert}
-use Rattle.encode.specs.ReadBack.{Whole}
+use Rattle.encode.specs.Encode.{Whole, Contents, ofNego, ofExchange, ofVerify, ofAlert}
 use Rattle.schemes.specs.Lists.{Id, distinct, oneTo16, joinIds, place}
 use Rattle.schemes.specs.Sets.{left, named, below, keptBelow}
 use Rattle.schemes.proofs.Choice.{and-l, and-r}

@@ -20,10 +20,9 @@ use Rattle.token.proofs.Splits.{front-message, message-head, message-order, mes
 use Rattle.put.specs.Put.{joined}
 use Rattle.put.proofs.Laws.{joined-append}
 use Rattle.encode.specs.declared.Heading.{Heading}
-use Rattle.encode.specs.Encode.{Contents, ofNego, ofExchange, ofVerify, ofAlert, sizeOf, headFields, bodyFields, encoded}
-use Rattle.encode.specs.ReadBack.{Whole}
+use Rattle.encode.specs.Encode.{Whole, Contents, ofNego, ofExchange, ofVerify, ofAlert, sizeOf, headFields, bodyFields, encoded}
 use Rattle.encode.proofs.Sizes.{length-encoded}
-use Rattle.encode.proofs.Heads.{head-fields}
+use Rattle.roundtrip.proofs.Heads.{head-fields}
 use Rattle.conversation.specs.declared.Record.{Record}
 use Rattle.conversation.specs.declared.Scan.{Scan}
 use Rattle.conversation.specs.Admitting.{Admitted, on, stop, admit}

@@ -3,9 +3,8 @@
 use mathlib.Core.Path.{_≡_}
 use native.Mathlib.Omega.{arith}
 use lib.ListN.{length, length-append}
-use Rattle.encode.specs.ReadBack.{Whole}
 use Rattle.encode.specs.declared.Heading.{Heading}
-use Rattle.encode.specs.Encode.{Contents, ofNego, ofExchange, ofVerify, ofAlert, sizeOf, encoded}
+use Rattle.encode.specs.Encode.{Whole, Contents, ofNego, ofExchange, ofVerify, ofAlert, sizeOf, encoded}
 
 module _ (h : Heading) (id : length (h .conversation) ≡ 16) where
   pub length-encoded : (c : Contents) → Whole c → length (encoded h c) ≡ sizeOf c

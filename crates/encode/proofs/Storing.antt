@@ -10,8 +10,7 @@ use lib.IntN.{ℤ}
 use borrow.Author.Tests.{le-leb, lt-leb, eq-eqb, ne-eqb, leb-true}
 use Rattle.put.specs.Put.{Written}
 use Rattle.encode.specs.declared.Heading.{Heading}
-use Rattle.encode.specs.Encode.{Offer, Payload, Checksum, Pulse, Contents, ofNego, ofExchange, ofVerify, ofAlert, sizeOf, encoded, encodable, written, unwritten, storing}
-use Rattle.encode.specs.ReadBack.{Whole}
+use Rattle.encode.specs.Encode.{Whole, Offer, Payload, Checksum, Pulse, Contents, ofNego, ofExchange, ofVerify, ofAlert, sizeOf, encoded, encodable, written, unwritten, storing}
 use Rattle.encode.proofs.Sizes.{length-encoded}
 
 module _ (d : List ℕ) (at : ℕ) (h : Heading) where

@@ -4,6 +4,7 @@
 --
 -- Glossary
 --   Contents             what is written besides, one value a layout: an Offer, a Payload, a Checksum or a Pulse
+--   Whole c              the ids of the contents have 16 octets and random has 32
 --   sizeOf c             the length of a message with the contents c
 --   signature            the first field of every message
 --   headFields h n       the fields of the common header of a message of n octets
@@ -15,6 +16,7 @@
 --   encodable h c        both of these: there is such a message
 --   Outcome              what a writer leaves: the next place and the lent octets, or the lent octets with nothing written
 --   told, storing        the outcome of an answer of src/, and of writing a message into d at a place
+use mathlib.Core.Path.{_≡_}
 use Prim.Native.Nat.{ℕ, _+_, _/_, _%_}
 use mathlib.Core.Bool.{Bool, true, cond, _&&_}
 use mathlib.Core.List.{List, [], _∷_, _++_}
@@ -53,6 +55,12 @@ pub data Contents : Type 0 where
   ofExchange : Payload → Contents
   ofVerify : Checksum → Contents
   ofAlert : Pulse → Contents
+
+abbrev pub Whole : Contents → Type 0
+Whole (ofNego o) = length (o .random) ≡ 32
+Whole (ofExchange p) = length (p .scheme) ≡ 16
+Whole (ofVerify k) = length (k .scheme) ≡ 16
+Whole (ofAlert p) = length (p .scheme) ≡ 16
 
 abbrev pub sizeOf : Contents → ℕ
 sizeOf (ofNego o) = 96 + length (o .schemes)

@@ -1,7 +1,7 @@
 -- What the reader is to find in a written message: demand 2's round trip, as one record.
 --
 -- Glossary
---   Whole c, InRange c   the ids of the contents have 16 octets and random has 32; a signed number is one of 32 bits
+--   InRange c            a signed number of the contents is one of 32 bits
 --   Sent h c             a message that can be written: encodable, with a sequence number and signed numbers of 32 bits and whole ids
 --   shapeFor c           the layout of the contents
 --   headRead, contentRead   the header and the content that reading finds; vectorOf: a vector with its stored offset
@@ -23,14 +23,8 @@ use Rattle.message.specs.Layout.{Shape, nego, exchange, verify, alert, headerOf
 use Rattle.message.specs.Check.{SIGNATURE, read, fieldsOf, messageVerdict}
 use Rattle.message.specs.Show.{idsOf, schemesIn, nestedOf}
 use Rattle.put.specs.Put.{octetsOf, unsigned32, joined}
 use Rattle.encode.specs.declared.Heading.{Heading}
-use Rattle.encode.specs.Encode.{Contents, ofNego, ofExchange, ofVerify, ofAlert, sizeOf, octetVectorFields, encoded, encodable}
-
-abbrev pub Whole : Contents → Type 0
-Whole (ofNego o) = length (o .random) ≡ 32
-Whole (ofExchange p) = length (p .scheme) ≡ 16
-Whole (ofVerify k) = length (k .scheme) ≡ 16
-Whole (ofAlert p) = length (p .scheme) ≡ 16
+use Rattle.encode.specs.Encode.{Contents, Whole, ofNego, ofExchange, ofVerify, ofAlert, sizeOf, octetVectorFields, encoded, encodable}
 
 abbrev pub InRange : Contents → Type 0
 InRange (ofNego o) = Unit {0}

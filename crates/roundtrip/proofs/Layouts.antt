@@ -17,11 +17,11 @@ use Rattle.message.specs.Check.{padsZero, allKeepRule}
 use Rattle.message.specs.Show.{idsOf, schemesIn, nestedOf}
 use Rattle.message.proofs.Bodies.{zeros-le}
 use Rattle.put.specs.Put.{octetsOf, unsigned32, joined}
 use Rattle.encode.specs.declared.Heading.{Heading}
 use Rattle.encode.specs.Encode.{Offer, Payload, Checksum, Pulse, Contents, ofNego, ofExchange, ofVerify, ofAlert, sizeOf, headFields, bodyFields, octetVectorFields, encoded}
-use Rattle.encode.specs.ReadBack.{contentRead, Shows}
+use Rattle.roundtrip.specs.ReadBack.{contentRead, Shows}
 use Rattle.encode.proofs.Sizes.{length-encoded}
-use Rattle.encode.proofs.Fields.{number-at, octets-at, drop-joined, shown-field, signed-back, unsigned-small}
+use Rattle.roundtrip.proofs.Fields.{number-at, octets-at, drop-joined, shown-field, signed-back, unsigned-small}
 
 module _ (h : Heading) (id : length (h .conversation) ≡ 16) where
   abbrev fields : Contents → List (List ℕ)

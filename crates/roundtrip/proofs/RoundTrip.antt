@@ -19,11 +19,11 @@ use Rattle.token.specs.Token.{passes, Accepted, tokenOf}
 use Rattle.token.specs.Split.{Message, Numbered, join, placedFrom}
 use Rattle.token.proofs.Splits.{numbered-accepted}
 use Rattle.put.specs.Put.{put, joined}
 use Rattle.encode.specs.declared.Heading.{Heading}
-use Rattle.encode.specs.Encode.{Offer, Contents, ofNego, ofExchange, ofVerify, ofAlert, sizeOf, hasKind, fitsFields, encodable, encoded, written, unwritten, storing}
-use Rattle.encode.specs.ReadBack.{Whole, InRange, Sent, shapeFor, contentRead, Shows, ReadsBack, Stands, Outgoing, octetsOfAll, InSequence}
-use Rattle.encode.proofs.Heads.{size-encoded, head-encoded, front-encoded, verdict-encoded, passes-encoded}
-use Rattle.encode.proofs.Layouts.{nego-content, nego-pads, nego-rules, nego-shows, exchange-content, exchange-pads, exchange-rules, exchange-shows, verify-content, verify-pads, verify-rules, verify-shows, alert-content, alert-pads, alert-rules, alert-shows}
+use Rattle.encode.specs.Encode.{Whole, Offer, Contents, ofNego, ofExchange, ofVerify, ofAlert, sizeOf, hasKind, fitsFields, encodable, encoded, written, unwritten, storing}
+use Rattle.roundtrip.specs.ReadBack.{InRange, Sent, shapeFor, contentRead, Shows, ReadsBack, Stands, Outgoing, octetsOfAll, InSequence}
+use Rattle.roundtrip.proofs.Heads.{size-encoded, head-encoded, front-encoded, verdict-encoded, passes-encoded}
+use Rattle.roundtrip.proofs.Layouts.{nego-content, nego-pads, nego-rules, nego-shows, exchange-content, exchange-pads, exchange-rules, exchange-shows, verify-content, verify-pads, verify-rules, verify-shows, alert-content, alert-pads, alert-rules, alert-shows}
 
 -- what the layouts give, for any contents
 record Laid (h : Heading) (c : Contents) : Type 0 where

@@ -17,11 +17,11 @@ use Rattle.message.proofs.Shapes.{header-least, shape-nego, shape-exchange, sha
 use Rattle.token.specs.Token.{orderRows, nextRows, passes}
 use Rattle.put.specs.Put.{joined}
 use Rattle.put.proofs.Laws.{joined-append}
 use Rattle.encode.specs.declared.Heading.{Heading}
 use Rattle.encode.specs.Encode.{Contents, ofNego, ofExchange, ofVerify, ofAlert, sizeOf, headFields, bodyFields, hasKind, fitsFields, encodable, encoded}
-use Rattle.encode.specs.ReadBack.{Sent, shapeFor, headRead, contentRead}
+use Rattle.roundtrip.specs.ReadBack.{Sent, shapeFor, headRead, contentRead}
 use Rattle.encode.proofs.Sizes.{length-encoded}
-use Rattle.encode.proofs.Fields.{number-at, octets-at}
+use Rattle.roundtrip.proofs.Fields.{number-at, octets-at}
 
 -- what can be encoded has the kind of its layout, and a length of 32 bits
 pub record Fitting (h : Heading) (c : Contents) : Type 0 where
