@@ -1,0 +1,77 @@
+-- Assumes nothing.
+use borrow.Author.Needs.{needs}
+use Prim.Native.Nat.{_+_, _≤_}
+use mathlib.Core.Path.{_≡_, refl}
+use lib.ListN.{length}
+use Rattle.token.specs.Token.{tokenOf}
+use Rattle.listing.specs.Listing.{allLines, texts}
+use Rattle.listing.specs.Steps.{messagesOf, within, steps, Going}
+use Rattle.listing.proofs.Stepping.{steps-going-on}
+use Rattle.listing.proofs.Turns.{Going-on, turns}
+use Rattle.listing.proofs.show_messages.Statement.{statement}
+use Rattle.listing.proofs.show_messages.Tie as tie
+
+abbrev Inv-loop : tie.InvT-loop
+Inv-loop d₀ token q₀ rest₀ place₀ d q rest place = (length token ≤ 65535) × (length d ≡ length d₀) × (Going q (length d₀)) × (place .0 + length rest ≡ length token) × Going-on (steps (texts (allLines (messagesOf (tokenOf token)))) (within q₀ d₀)) rest (place .0) (within q d)
+
+abbrev μ-loop : tie.MeasureT-loop
+μ-loop d₀ token q₀ rest₀ place₀ d q rest place = length rest
+
+loop-holds : tie.Need-loop-holds Inv-loop μ-loop
+loop-holds c = (search turns, refl, search needs, search needs, search turns)
+
+le-u32-requires : tie.Need-le-u32-requires Inv-loop μ-loop
+le-u32-requires c κs = search turns
+
+cast-length : tie.Need-cast-length Inv-loop μ-loop
+cast-length c = search needs
+
+slice-aggregate-show-message : tie.Need-slice-aggregate-show-message Inv-loop μ-loop
+slice-aggregate-show-message c = search turns
+
+show-message-requires : tie.Need-show-message-requires Inv-loop μ-loop
+show-message-requires c κs = (search turns, search needs)
+
+in-token-requires : tie.Need-in-token-requires Inv-loop μ-loop
+in-token-requires c κs = search needs
+
+sub-rest : tie.Need-sub-rest Inv-loop μ-loop
+sub-rest c = search turns
+
+part-rest-start : tie.Need-part-rest-start Inv-loop μ-loop
+part-rest-start c = search turns
+
+part-rest-end : tie.Need-part-rest-end Inv-loop μ-loop
+part-rest-end c = search needs
+
+loop-less : tie.Need-loop-less Inv-loop μ-loop
+loop-less c = search turns
+
+loop-again : tie.Need-loop-again Inv-loop μ-loop
+loop-again c = (search needs, search needs, search steps-going-on, search turns, search turns)
+
+same-length : tie.Need-same-length Inv-loop μ-loop
+same-length c = search needs
+
+returns : tie.Need-returns Inv-loop μ-loop
+returns c = search turns
+
+pub show-messages-spec : {M : Type 1} → statement M
+show-messages-spec =
+    tie.close
+    (tie.spec
+    Inv-loop
+    μ-loop
+    loop-holds
+    le-u32-requires
+    cast-length
+    slice-aggregate-show-message
+    show-message-requires
+    in-token-requires
+    sub-rest
+    part-rest-start
+    part-rest-end
+    loop-less
+    loop-again
+    same-length
+    returns)

@@ -1,0 +1,116 @@
+// Pieces of text appended in a lent slice. Each writer is given the place behind what is written already, and answers the next one. A piece that
+// has no room is left out.
+ghost use mathlib.Core.Path.{_≡_};
+ghost use Prim.Native.Nat.{_<_};
+ghost use mathlib.Core.List.{_∷_, []};
+ghost use Rattle.octets.specs.Octets.{signed32};
+ghost use Rattle.text.specs.Text.{text, written, decimal, decimal64, signed as Text·signed, glyphOf, glyphs as Text·glyphs, hexOf, hexDigit, idText};
+use put::put_octets;
+
+// The octets v.
+pub fn append(d: &mut [u8], at: usize, v: &[u8]) -> usize
+    ensures { λ r. ⌜ text (now (d .exit)) r ≡ written (now (v .entry) ∷ []) (text (now (d .entry)) at) ⌝ }
+{
+    if d.len() < v.len() {
+        return at;
+    }
+    if d.len() - v.len() < at {
+        return at;
+    }
+    put_octets(d, at, v)
+}
+
+// A number in decimal.
+pub fn number(d: &mut [u8], at: usize, n: u32) -> usize
+    ensures { λ r. ⌜ text (now (d .exit)) r ≡ written (decimal n ∷ []) (text (now (d .entry)) at) ⌝ }
+{
+    let mut digits = [0u8; 20];
+    let k = io::decimal(n as u64, &mut digits);
+    append(d, at, &digits[..k])
+}
+
+// A place or a size in decimal.
+pub fn wide_number(d: &mut [u8], at: usize, n: usize) -> usize
+    ensures { λ r. ⌜ text (now (d .exit)) r ≡ written (decimal64 n ∷ []) (text (now (d .entry)) at) ⌝ }
+{
+    let mut digits = [0u8; 20];
+    let k = io::decimal(n as u64, &mut digits);
+    append(d, at, &digits[..k])
+}
+
+// The octets v, and a number behind them.
+pub fn field(d: &mut [u8], at: usize, v: &[u8], n: u32) -> usize
+    ensures { λ r. ⌜ text (now (d .exit)) r ≡ written (now (v .entry) ∷ decimal n ∷ []) (text (now (d .entry)) at) ⌝ }
+{
+    let next = append(d, at, v);
+    number(d, next, n)
+}
+
+// The octets v, and a place or a size behind them.
+pub fn wide_field(d: &mut [u8], at: usize, v: &[u8], n: usize) -> usize
+    ensures { λ r. ⌜ text (now (d .exit)) r ≡ written (now (v .entry) ∷ decimal64 n ∷ []) (text (now (d .entry)) at) ⌝ }
+{
+    let next = append(d, at, v);
+    wide_number(d, next, n)
+}
+
+// The signed number that 32 bits stand for, in decimal.
+pub fn signed(d: &mut [u8], at: usize, x: u32) -> usize
+    ensures { λ r. ⌜ text (now (d .exit)) r ≡ written (Text·signed (signed32 x)) (text (now (d .entry)) at) ⌝ }
+{
+    if x < 2147483648 {
+        return number(d, at, x);
+    }
+    field(d, at, b"-", 4294967295 - x + 1)
+}
+
+// A hexadecimal digit.
+fn hex_digit(x: u8) -> u8
+    requires { ⌜ x < 16 ⌝ }
+    ensures { λ r. ⌜ r ≡ hexDigit x ⌝ }
+{
+    if x < 10 { 48 + x } else { 55 + x }
+}
+
+// An octet as two digits.
+fn hex(d: &mut [u8], at: usize, x: u8) -> usize
+    ensures { λ r. ⌜ text (now (d .exit)) r ≡ written (hexOf x ∷ []) (text (now (d .entry)) at) ⌝ }
+{
+    let v = [hex_digit(x / 16), hex_digit(x % 16)];
+    append(d, at, &v)
+}
+
+// The octet of an id at place k, 0 where it has none; or a dash, where k is 16.
+fn glyph(d: &mut [u8], at: usize, id: &[u8], k: u8) -> usize
+    ensures { λ r. ⌜ text (now (d .exit)) r ≡ written (glyphOf (now (id .entry)) k ∷ []) (text (now (d .entry)) at) ⌝ }
+{
+    if k == 16 {
+        return append(d, at, b"-");
+    }
+    let i = k as usize;
+    if i < id.len() {
+        return hex(d, at, id[i]);
+    }
+    hex(d, at, 0)
+}
+
+// The octets of an id at the places `order`, with dashes.
+fn glyphs(d: &mut [u8], at: usize, id: &[u8], order: &[u8]) -> usize
+    ensures { λ r. ⌜ text (now (d .exit)) r ≡ written (Text·glyphs (now (id .entry)) (now (order .entry))) (text (now (d .entry)) at) ⌝ }
+{
+    let mut next = at;
+    let mut i = 0;
+    while i < order.len() {
+        next = glyph(d, next, id, order[i]);
+        i += 1;
+    }
+    next
+}
+
+// An id in its usual text.
+pub fn id(d: &mut [u8], at: usize, i: &[u8]) -> usize
+    ensures { λ r. ⌜ text (now (d .exit)) r ≡ written (idText (now (i .entry))) (text (now (d .entry)) at) ⌝ }
+{
+    let order = b"\x03\x02\x01\x00\x10\x05\x04\x10\x07\x06\x10\x08\x09\x10\x0A\x0B\x0C\x0D\x0E\x0F";
+    glyphs(d, at, i, order)
+}
