@@ -5,11 +5,12 @@
 --   messagesIn c        the messages of a chain
 --   added               what an accepted call adds to the messages that its end has read and written; logged: all of them behind any call
 --   Logs                for each end the messages, as octets, that it has read and written since opening, in order
---   logsBehind          the logs behind a list of calls; logsOf: from the opening on
+--   nextLogs            the logs behind one call; logsBehind: behind a list of calls; logsOf: from the opening on
 --   InOrder q log       the messages' headers number them on from q
 --   Counted r d log     the record r is inside its limits and counts its log, which the transcript d begins with
 --   InStep              a log is one that the other end's begins with, and the own turn behind it
---   EveryRun            both, of both ends, behind every list of calls
+--   Holds w l           both, of both ends
+--   EveryRun            that holds behind every list of calls
 use Prim.Native.Nat.{ℕ, _+_, _≤_}
 use mathlib.Core.Path.{_≡_}
 use mathlib.Core.Bool.{Bool, true, false, cond}
