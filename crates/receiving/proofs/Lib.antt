@@ -1,0 +1,4 @@
+pub mod Lists
+pub mod Allowed
+pub mod Admits
+pub mod Judging
