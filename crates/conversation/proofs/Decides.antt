@@ -58,5 +58,5 @@ numbered-append (x ∷ xs) ys e f = (e .0, numbered-append xs ys (e .1) f)
 pub limits-numbered : (r : Record) → Numbered (limitRows r)
 limits-numbered r =
     (no, (no, (no, (no, (no, (no, (no, (no, (no, (no, (no, tt))))))))))) where
-  no : _≡_ {A = ℕ} 18 0 → ⊥
-  no e = omega arith
+      no : _≡_ {A = ℕ} 18 0 → ⊥
+      no e = omega arith
