@@ -1,1 +1,4 @@
 pub mod Openings
+pub mod Stages
+pub mod Appends
+pub mod Offering
