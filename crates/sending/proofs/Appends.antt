@@ -20,7 +20,7 @@ use Rattle.conversation.specs.declared.Record.{Record}
 use Rattle.conversation.specs.Turns.{typeOf, placeAfter}
 use Rattle.conversation.specs.Outcomes.{wrote, unchanged}
 use Rattle.conversation.specs.Writing.{heading, messageOf}
-use Rattle.sending.specs.Ready.{Ready, NegoReady, Appended}
+use Rattle.sending.specs.Ready.{Ready, NegoReady, PayloadReady, Appended}
 
 -- what is said to be written is there
 stored : (s : Stored) (d e : List ℕ) (k : ℕ) → told s d ≡ written k e → d ≡ e
@@ -50,4 +50,32 @@ module _ (r : Record) (id : length (r .conversation) ≡ 16) (d : List ℕ) (h :
     can true = simp (eq-eqb _ _ (ready .whole), le-leb (length schemes) 1048560 (omega (arith, ready .ready .room)))
     can false = simp (eq-eqb _ _ (ready .whole), le-leb (length schemes) 1048560 (omega (arith, ready .ready .room)))
 
-pub ruleset appending = (appends-nego)
+  pub appends-payload : (kind : ℕ) (scheme value : List ℕ) → length scheme ≡ 16 → PayloadReady r d kind value
+      → h ≡ heading r kind → told s d' ≡ storing d (r .used) h (ofExchange (record { scheme = scheme; value = value }))
+      → next ≡ wrote r (placeAfter r kind) (64 + length value) (unchanged r)
+      → Appended r d kind (ofExchange (record { scheme = scheme; value = value })) d' next
+  unfolding encodable
+  appends-payload kind scheme value whole ready h-is t n-is =
+      let can : encodable (heading r kind) (ofExchange (record { scheme = scheme; value = value })) ≡ true =
+      rw (ready .carries) (le-leb (length value) 4294967231 (omega (arith, ready .ready .room))) in
+      appends kind (ofExchange (record { scheme = scheme; value = value })) whole can (ready .ready) h-is t n-is
+
+  pub appends-verify : (scheme : List ℕ) (type z : ℤ) (value : List ℕ) → length scheme ≡ 16 → z ≡ type → Ready r d (80 + length value)
+      → h ≡ heading r 4 → told s d' ≡ storing d (r .used) h (ofVerify (record { scheme = scheme; type = z; value = value }))
+      → next ≡ wrote r (placeAfter r 4) (80 + length value) (unchanged r)
+      → Appended r d 4 (ofVerify (record { scheme = scheme; type = type; value = value })) d' next
+  unfolding encodable typeOf
+  appends-verify scheme type z value whole z-is ready h-is t n-is = appends 4 (ofVerify (record { scheme = scheme; type = type; value = value })) whole (can (r .acceptor)) ready h-is (rw z-is at t) n-is where
+    can : (a : Bool) → encodable (record { kind = record { 0 = typeOf a 4 }; sequence = r .sequence; conversation = r .conversation }) (ofVerify (record { scheme = scheme; type = type; value = value })) ≡ true
+    can true = le-leb (length value) 4294967215 (omega (arith, ready .room))
+    can false = le-leb (length value) 4294967215 (omega (arith, ready .room))
+
+  pub appends-alert : (scheme : List ℕ) (code z : ℤ) → length scheme ≡ 16 → z ≡ code → Ready r d 92
+      → h ≡ heading r 5 → told s d' ≡ storing d (r .used) h (ofAlert (record { scheme = scheme; code = z }))
+      → next ≡ wrote r (placeAfter r 5) 92 (unchanged r)
+      → Appended r d 5 (ofAlert (record { scheme = scheme; code = code })) d' next
+  unfolding encodable typeOf
+  appends-alert scheme code z whole z-is ready h-is t n-is = appends 5 (ofAlert (record { scheme = scheme; code = code })) whole (can (r .acceptor)) ready h-is (rw z-is at t) n-is where
+    can : (a : Bool) → encodable (record { kind = record { 0 = typeOf a 5 }; sequence = r .sequence; conversation = r .conversation }) (ofAlert (record { scheme = scheme; code = code })) ≡ true
+    can true = refl
+    can false = refl

@@ -1,6 +1,6 @@
 -- What every call shares: type numbers, the room, the stage, and the table of refusals, in the words of the code.
 -- Assumes nothing.
-use Prim.Native.Nat.{ℕ, _+_, _*_, _-_, _≤_, _<_, min}
+use Prim.Native.Nat.{ℕ, _+_, _*_, _-_, _^_, _≤_, _<_, min}
 use mathlib.Core.Path.{_≡_, refl, sym, ap, _∙_}
 use mathlib.Core.Bool.{Bool, true, false, cond, not, _&&_, _||_}
 use mathlib.Core.Logic.{_⊎_, inl, inr}
@@ -8,7 +8,7 @@ use mathlib.Core.List.{List, [], _∷_, _++_}
 use native.Mathlib.Omega.{arith}
 use lib.ListN.{length}
 use lib.Dec.{leb, eqb}
-use borrow.Author.Tests.{le-leb, lt-leb, lt-ltb, le-ltb, eq-eqb, ne-eqb, leb-true, leb-false}
+use borrow.Author.Tests.{le-leb, lt-leb, lt-ltb, le-ltb, eq-eqb, ne-eqb, leb-true, leb-false, ltb-true}
 use Rattle.message.specs.Check.{Row, firstFailing}
 use Rattle.message.proofs.Tables.{AllTrue, which}
 use Rattle.conversation.specs.declared.Record.{Record}
@@ -19,7 +19,7 @@ use Rattle.conversation.specs.Writing.{stageRows}
 use Rattle.conversation.proofs.Rows.{without}
 use Rattle.conversation.proofs.Decides.{first-none, first-stop, first-on, decide-passed, decide-refused, decide-behind}
 use Rattle.sending.specs.Refusals.{roomFor, stageRefusal}
-use Rattle.sending.specs.Ready.{Ready}
+use Rattle.sending.specs.Ready.{Ready, Bounded}
 
 pub ruleset tests = (le-leb, lt-leb, lt-ltb, le-ltb, eq-eqb, ne-eqb)
 
@@ -84,6 +84,9 @@ module _ (r : Record) (kind n : ℕ) (n-is : n ≡ stageRefusal r kind) where
 
 pub stage-few : (r : Record) (kind : ℕ) → AllTrue (stageRows r kind) → r .count ≤ 16
 stage-few r kind h = leb-true (r .count) 16 (h .1 .0)
+
+pub stage-bounded : (r : Record) (kind : ℕ) → AllTrue (stageRows r kind) → Bounded r
+stage-bounded r kind h = record { few = stage-few r kind h; bound = ltb-true (r .common) (2 ^ r .count) (h .1 .1 .1 .1 .0) }
 
 pub stage-ready : (r : Record) (d : List ℕ) (kind size : ℕ) → AllTrue (stageRows r kind) → roomFor (r .used) size (length d) ≡ true → Ready r d size
 stage-ready r d kind size h e =

@@ -14,8 +14,12 @@ use encode::Heading;
 use message::Kind;
 use vector::TokenPlace;
 
+pub mod alert;
+pub mod exchange;
 pub mod offer;
 pub mod opening;
+pub(crate) mod scheme;
+pub mod verify;
 
 // The kinds of message, whichever end sends them.
 pub(crate) const NEGO: u8 = 1;
@@ -48,6 +52,20 @@ fn room_of(len: usize) -> usize
     ensures { λ a. ⌜ a ≡ min len 65535 ⌝ }
 {
     if len < 65535 { len } else { 65535 }
+}
+
+// An answer that names a choice and how many were left.
+pub(crate) fn naming(next: Record, choice: [u8; 16], left: u32) -> Answer
+    ensures { λ a. ⌜ a ≡ record { refusal = 0; place = record { 0 = 0 }; messages = 0; choice = choice; left = left; next = next } ⌝ }
+{
+    Answer {
+        refusal: 0,
+        place: TokenPlace(0),
+        messages: 0,
+        choice,
+        left,
+        next,
+    }
 }
 
 // Whether a message of n octets behind a header has room: 16, as whole numbers.
