@@ -5,3 +5,6 @@ pub mod Offering
 pub mod Lefts
 pub mod Schemes
 pub mod Named
+pub mod Choices
+pub mod Replying
+pub mod Tellings

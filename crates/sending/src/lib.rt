@@ -15,9 +15,12 @@ use message::Kind;
 use vector::TokenPlace;
 
 pub mod alert;
+pub mod choice;
 pub mod exchange;
+pub mod metadata;
 pub mod offer;
 pub mod opening;
+pub mod reply;
 pub(crate) mod scheme;
 pub mod verify;
 
