@@ -23,7 +23,7 @@ use Rattle.conversation.specs.Writing.{heading, messageOf, stageRows, schemeNow
 use Rattle.conversation.proofs.Rows.{front-true}
 use Rattle.sending.specs.Refusals.{roomFor, stageRefusal, namedRefusal}
 use Rattle.sending.specs.Ready.{Ready, PayloadReady, NamedReady, Bounded, Appended}
-use Rattle.sending.proofs.Stages.{stage-stop, stage-all, stage-on, stage-few, stage-bounded, stage-ready, call-refused, call-passed, rows-given, rows-behind}
+use Rattle.sending.proofs.Stages.{changed, stage-stop, stage-all, stage-on, stage-few, stage-bounded, stage-ready, call-refused, call-passed, rows-given, rows-behind}
 use Rattle.sending.proofs.Schemes.{own-id, allowed-inside}
 
 abbrev scheme : Record → List Row
@@ -113,7 +113,7 @@ module _ (r : Record) (list : length (r .list) ≡ 256) (d value : List ℕ) (n 
 
     pub exchange-written : n ≡ 0 → (d' : List ℕ) (next : Record) (s : List ℕ) → s ≡ schemeAt r (schemeNow r) → (k : ℕ) → k ≡ askedBy r
         → Appended r d 3 (ofExchange (record { scheme = s; value = value })) d' next
-        → a ≡ answered 0 0 (record { acceptor = next .acceptor; stage = next .stage; position = next .position; list = next .list; count = next .count; conversation = next .conversation; marks = next .marks; common = next .common; kept = next .kept; told = next .told; asked = k; chosen = next .chosen; verified = next .verified; heard = next .heard; sequence = next .sequence; used = next .used })
+        → a ≡ answered 0 0 (changed next (record { marks = next .marks; told = next .told; asked = k; verified = next .verified }))
         → _≡_ {A = Outcome} (record { answer = a; transcript = d' }) (writingExchange r d value)
     unfolding writingExchange call
     exchange-written z d' next s s-is k k-is w a-is =
@@ -130,7 +130,7 @@ module _ (r : Record) (list : length (r .list) ≡ 256) (d value : List ℕ) (n 
 
   pub verify-written : n ≡ 0 → (d' : List ℕ) (next : Record) (s : List ℕ) → s ≡ schemeAt r (schemeNow r) → (z : ℤ) → z ≡ type
       → Appended r d 4 (ofVerify (record { scheme = s; type = z; value = value })) d' next
-      → a ≡ answered 0 0 (record { acceptor = next .acceptor; stage = next .stage; position = next .position; list = next .list; count = next .count; conversation = next .conversation; marks = next .marks; common = next .common; kept = next .kept; told = next .told; asked = next .asked; chosen = next .chosen; verified = true; heard = next .heard; sequence = next .sequence; used = next .used })
+      → a ≡ answered 0 0 (changed next (record { marks = next .marks; told = next .told; asked = next .asked; verified = true }))
       → _≡_ {A = Outcome} (record { answer = a; transcript = d' }) (writingVerify r d type value)
   unfolding writingVerify call
   verify-written y d' next s s-is z z-is w a-is =

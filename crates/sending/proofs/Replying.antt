@@ -29,7 +29,7 @@ use Rattle.conversation.specs.Writing.{heading, stageRows, someLeft, replyMessa
 use Rattle.conversation.proofs.Rows.{front-true}
 use Rattle.sending.specs.Refusals.{roomFor, stageRefusal, replyRefusal}
 use Rattle.sending.specs.Ready.{Ready, NegoReady, ReplyReady, Bounded, Appended}
-use Rattle.sending.proofs.Stages.{stage-stop, stage-all, stage-on, stage-few, stage-bounded, stage-ready, call-refused, call-passed, rows-given, rows-behind}
+use Rattle.sending.proofs.Stages.{changed, stage-stop, stage-all, stage-on, stage-few, stage-bounded, stage-ready, call-refused, call-passed, rows-given, rows-behind}
 use Rattle.sending.proofs.Lefts.{own-count, own-none, own-some, own-place, own-first, left-less}
 
 abbrev pub listed : Record → ℕ → List Id
@@ -125,7 +125,7 @@ module _ (r : Record) (list : length (r .list) ≡ 256) (few : r .count ≤ 16) 
     pub reply-named : (random d' : List ℕ) (next : Record) (id : List ℕ) (a : Answer)
         → Appended r d 1 (ofNego (record { random = random; schemes = take (16 * s .count) (s .octets) })) d' next
         → id ≡ octets 16 (r .list) (16 * l .place)
-        → a ≡ record { refusal = 0; place = record { 0 = 0 }; messages = 0; choice = id; left = l .left; next = record { acceptor = next .acceptor; stage = next .stage; position = next .position; list = next .list; count = next .count; conversation = next .conversation; marks = m; common = next .common; kept = next .kept; told = next .told; asked = next .asked; chosen = next .chosen; verified = next .verified; heard = next .heard; sequence = next .sequence; used = next .used } }
+        → a ≡ record { refusal = 0; place = record { 0 = 0 }; messages = 0; choice = id; left = l .left; next = changed next (record { marks = m; told = next .told; asked = next .asked; verified = next .verified }) }
         → _≡_ {A = Outcome} (record { answer = a; transcript = d' }) (naming (listed r m) (appended r d (placeAfter r 1) (replyMessage r m random) (record { marks = m; told = r .told; asked = r .asked; verified = r .verified })))
     reply-named random d' next id a w id-is a-is =
         let v : Appended r d 1 (ofNego (record { random = random; schemes = joinIds (listed r m) })) d' next = rw reply-octets at w in

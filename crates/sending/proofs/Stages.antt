@@ -14,7 +14,7 @@ use Rattle.message.proofs.Tables.{AllTrue, which}
 use Rattle.conversation.specs.declared.Record.{Record}
 use Rattle.conversation.specs.State.{limitRows}
 use Rattle.conversation.specs.Turns.{typeOf, placeAfter, mayWrite}
-use Rattle.conversation.specs.Outcomes.{Outcome, refused, decide, row, room, fits}
+use Rattle.conversation.specs.Outcomes.{Outcome, WrittenAs, refused, decide, row, room, fits}
 use Rattle.conversation.specs.Writing.{stageRows}
 use Rattle.conversation.proofs.Rows.{without}
 use Rattle.conversation.proofs.Decides.{first-none, first-stop, first-on, decide-passed, decide-refused, decide-behind}
@@ -22,6 +22,27 @@ use Rattle.sending.specs.Refusals.{roomFor, stageRefusal}
 use Rattle.sending.specs.Ready.{Ready, Bounded}
 
 pub ruleset tests = (le-leb, lt-leb, lt-ltb, le-ltb, eq-eqb, ne-eqb)
+
+-- a record with other values where a written message changes it
+abbrev pub changed : Record → WrittenAs → Record
+changed n w = record {
+  acceptor = n .acceptor;
+  stage = n .stage;
+  position = n .position;
+  list = n .list;
+  count = n .count;
+  conversation = n .conversation;
+  marks = w .marks;
+  common = n .common;
+  kept = n .kept;
+  told = w .told;
+  asked = w .asked;
+  chosen = n .chosen;
+  verified = w .verified;
+  heard = n .heard;
+  sequence = n .sequence;
+  used = n .used;
+}
 
 -- ---- type numbers
 module _ (a : Bool) (kind x : ℕ) where

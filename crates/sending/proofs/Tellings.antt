@@ -24,12 +24,12 @@ use Rattle.conversation.specs.declared.Record.{Record}
 use Rattle.conversation.specs.declared.Answer.{Answer}
 use Rattle.conversation.specs.State.{ownOf, replied}
 use Rattle.conversation.specs.Turns.{typeOf, placeAfter}
-use Rattle.conversation.specs.Outcomes.{Outcome, answered, row, appended}
+use Rattle.conversation.specs.Outcomes.{Outcome, WrittenAs, answered, row, appended}
 use Rattle.conversation.specs.Writing.{heading, stageRows, metadataAllowed, metadataMessage, writingMetadata}
 use Rattle.conversation.proofs.Rows.{front-true}
 use Rattle.sending.specs.Refusals.{roomFor, stageRefusal, metadataRefusal}
 use Rattle.sending.specs.Ready.{Ready, PayloadReady, Appended}
-use Rattle.sending.proofs.Stages.{stage-stop, stage-all, stage-on, stage-few, stage-ready, call-refused, call-passed, rows-given, rows-behind}
+use Rattle.sending.proofs.Stages.{changed, stage-stop, stage-all, stage-on, stage-few, stage-ready, call-refused, call-passed, rows-given, rows-behind}
 
 -- ---- where a scheme stands
 pub place-most : (l : List Id) (s : Id) → place l s ≤ length l
@@ -177,7 +177,7 @@ module _ (r : Record) (list : length (r .list) ≡ 256) (d : List ℕ) (id : Id)
 
     pub metadata-written : n ≡ 0 → (p : ℕ) → p ≡ place (ownOf r) id → (t : ℕ) → t ≡ withBit (r .told) p → (d' : List ℕ) (next : Record)
         → Appended r d 2 (ofExchange (record { scheme = id; value = value })) d' next
-        → a ≡ answered 0 0 (record { acceptor = next .acceptor; stage = next .stage; position = next .position; list = next .list; count = next .count; conversation = next .conversation; marks = next .marks; common = next .common; kept = next .kept; told = t; asked = next .asked; chosen = next .chosen; verified = next .verified; heard = next .heard; sequence = next .sequence; used = next .used })
+        → a ≡ answered 0 0 (changed next (record { marks = next .marks; told = t; asked = next .asked; verified = next .verified }))
         → _≡_ {A = Outcome} (record { answer = a; transcript = d' }) (writingMetadata r d id value)
     unfolding writingMetadata written withBit
     metadata-written z p p-is t t-is d' next w a-is =

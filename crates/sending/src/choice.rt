@@ -47,15 +47,15 @@ fn choose_with(r: Record, marks: u16) -> Answer
     ensures { λ a. ⌜ a ≡ chosenBy (answered 0 0 (chose r marks)) (named (ownOf r) (openTo r marks)) ⌝ }
 {
     let kept = r.kept;
-    let left = choose_kept(kept, r.common, marks);
+    let choice = choose_kept(kept, r.common, marks);
     let list = r.list;
-    let id = id_of(list, left.place);
+    let id = id_of(list, choice.place);
     let mut next = r;
     next.stage = Record::LATER;
     next.position = 0;
     next.marks = marks;
-    next.chosen = left.place as usize;
-    naming(next, id, left.left)
+    next.chosen = choice.place as usize;
+    naming(next, id, choice.left)
 }
 
 // Chooses, once: the first scheme of the reply that the initiator lists and has not marked. No transcript is touched.

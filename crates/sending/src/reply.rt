@@ -54,9 +54,9 @@ fn reply_with(r: Record, transcript: &mut [u8], marks: u16, random: [u8; 32]) ->
     let octets = s.octets;
     let mut next = append_nego(r, transcript, random, &octets[..end]);
     next.marks = marks;
-    let left = choose_own(r.common, marks);
-    let id = id_of(list, left.place);
-    naming(next, id, left.left)
+    let choice = choose_own(r.common, marks);
+    let id = id_of(list, choice.place);
+    naming(next, id, choice.left)
 }
 
 // Writes the acceptor's NEGO, and answers its own choice, which does not bind the initiator.
