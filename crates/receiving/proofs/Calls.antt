@@ -12,7 +12,6 @@ use borrow.Author.Tests.{le-leb, lt-leb, leb-true}
 use Rattle.vector.specs.declared.TokenPlace.{TokenPlace}
 use Rattle.message.specs.Layout.{size, front}
 use Rattle.message.specs.Check.{Row, firstFailing}
-use Rattle.message.proofs.Readings.{Numbered}
 use Rattle.message.proofs.Tables.{which}
 use Rattle.token.specs.Token.{Chain, refused as cutAt, chainOf, passes}
 use Rattle.put.specs.Put.{put, Written}
@@ -24,7 +23,7 @@ use Rattle.conversation.specs.Turns.{mayRead}
 use Rattle.conversation.specs.Outcomes.{Outcome, answered, refused, decide, row}
 use Rattle.conversation.specs.Admitting.{Admitted, on, stop, admit}
 use Rattle.conversation.specs.Reading.{conversationOf, startOf, Judged, whole, halted, thenJudge, judge, judged, taken, takenAs, finish, readingToken}
-use Rattle.conversation.proofs.Decides.{decide-refused, decide-acts, number-front, number-behind, number-passes, numbered-append, limits-numbered}
+use Rattle.conversation.proofs.Decides.{first-none, first-stop, first-on, decide-passed, decide-refused}
 use Rattle.conversation.proofs.Tokens.{judged-first}
 use Rattle.receiving.specs.declared.Judgement.{Judgement}
 use Rattle.receiving.specs.declared.Judgement.the-variants as judgement
@@ -46,12 +45,12 @@ last-0 a b e f = rw (e, f)
 module _ (r : Record) (size n : ℕ) (n-is : n ≡ firstFailing (limitRows r)) where
   pub before-limits : (n ≡ 0 → ⊥) → n ≡ refusalBefore r size
   unfolding refusalBefore
-  before-limits e = n-is ∙ number-front (limitRows r) (lastRows r size) (limits-numbered r) (λ q. e (n-is ∙ q))
+  before-limits e = n-is ∙ first-stop (limitRows r) (lastRows r size) (λ q. e (n-is ∙ q))
 
   module _ (within : n ≡ 0) where
     behind : (k : ℕ) → k ≡ firstFailing (lastRows r size) → k ≡ refusalBefore r size
     unfolding refusalBefore
-    behind k e = e ∙ number-behind (limitRows r) (lastRows r size) (limits-numbered r) (sym n-is ∙ within)
+    behind k e = e ∙ first-on (limitRows r) (lastRows r size) (first-none (limitRows r) refl (sym n-is ∙ within))
 
     module _ (a : Bool) (a-is : a ≡ mayRead r) where
       pub before-turn : a ≡ false → 18 ≡ refusalBefore r size
@@ -64,9 +63,6 @@ module _ (r : Record) (size n : ℕ) (n-is : n ≡ firstFailing (limitRows r)) w
       before-none e h = behind 0 (last-0 (mayRead r) (leb size 65535) (sym a-is ∙ e) (le-leb _ _ h))
 
 pub ruleset befores = (before-limits, before-turn, before-long, before-none)
-
-before-numbered : (r : Record) (size : ℕ) → Numbered (beforeRows r size)
-before-numbered r size = numbered-append (limitRows r) (lastRows r size) (limits-numbered r) ((λ e. omega arith), ((λ e. omega arith), tt))
 
 -- a token's messages are no more than its octets
 few : (r : Record) (t s : List ℕ) (k at q : ℕ) (v : List ℕ) (n : ℕ) (c : Scan) (m : ℕ) (d : Scan) → judge r t n c (chainOf s k at q v) ≡ whole m d → m ≤ n + length s
@@ -145,19 +141,19 @@ module _ (r : Record) (d t : List ℕ) (n : ℕ) (n-is : n ≡ refusalBefore r (
   read-refused e a a-is =
       ap (λ (z : Answer). outcome z d) a-is
       ∙ ap (λ (k : ℕ). refused r d k 0) n-is
-      ∙ sym (decide-refused (beforeRows r (length t)) r d (finish r d t (judged r t)) (before-numbered r (length t)) (λ q. e (n-is ∙ q)))
+      ∙ decide-refused (beforeRows r (length t)) r d (finish r d t (judged r t)) (λ q. e (n-is ∙ q))
 
   module _ (passes-all : n ≡ 0) where
     pub read-inside : Inside r
     unfolding refusalBefore
     read-inside =
-        let (some, (few, (different, (marks, (common, (told, (kept, (chosen, (used, (sequence, (counts, rest))))))))))) = number-passes (beforeRows r (length t)) (before-numbered r (length t)) (sym n-is ∙ passes-all) in
+        let (some, (few, (different, (marks, (common, (told, (kept, (chosen, (used, (sequence, (counts, rest))))))))))) = first-none (beforeRows r (length t)) refl (sym n-is ∙ passes-all) in
         record { few = leb-true _ _ few; different = different; used = leb-true _ _ used; sequence = leb-true _ _ sequence }
 
     pub read-short : length t ≤ 65535
     unfolding refusalBefore
     read-short =
-        let (some, (few, (different, (marks, (common, (told, (kept, (chosen, (used, (sequence, (counts, (turn, (short, end))))))))))))) = number-passes (beforeRows r (length t)) (before-numbered r (length t)) (sym n-is ∙ passes-all) in
+        let (some, (few, (different, (marks, (common, (told, (kept, (chosen, (used, (sequence, (counts, (turn, (short, end))))))))))))) = first-none (beforeRows r (length t)) refl (sym n-is ∙ passes-all) in
         leb-true _ _ short
 
     module _ (j : Judgement) (j-is : judgedAs j ≡ judged r t) where
@@ -168,6 +164,6 @@ module _ (r : Record) (d t : List ℕ) (n : ℕ) (n-is : n ≡ refusalBefore r (
       unfolding readingToken refusalBefore
       read-on x x-is =
           x-is ∙ ap (finish r d t) j-is
-          ∙ sym (decide-acts (beforeRows r (length t)) r d (finish r d t (judged r t)) (before-numbered r (length t)) (sym n-is ∙ passes-all))
+          ∙ decide-passed (beforeRows r (length t)) r d (finish r d t (judged r t)) (first-none (beforeRows r (length t)) refl (sym n-is ∙ passes-all))
 
 pub ruleset calls = (read-refused, read-inside, read-short, read-judging, read-on)
