@@ -14,8 +14,8 @@ use borrow.Author.Tests.{eq-eqb, eqb-true, leb-true, le-leb}
 use Rattle.message.specs.Show.{idsOf}
 use Rattle.message.proofs.Tables.{AllTrue, given}
 use Rattle.encode.specs.Encode.{ofNego, encodable}
-use Rattle.encode.specs.ReadBack.{Sent}
-use Rattle.encode.proofs.RoundTrip.{AllIds, ids-joined, nego-begins}
+use Rattle.roundtrip.specs.ReadBack.{Sent}
+use Rattle.roundtrip.proofs.RoundTrip.{AllIds, ids-joined, nego-begins}
 use Rattle.schemes.specs.Lists.{Id, mem, distinct, keep, bit, marked, usable, leftOver, rule2, oneTo16, joinIds}
 use Rattle.schemes.specs.Sets.{left, padTo}
 use Rattle.schemes.specs.Longer.{Longer, SameMarks, NoLater}

@@ -1,6 +1,6 @@
 -- Demand 3: an invariant of the two ends of a run, kept by every call, and what each call then answers.
 -- Assumes nothing.
-use Prim.Native.Nat.{ℕ, zero, suc, _+_, _*_, _≤_, _<_, _/_}
+use Prim.Native.Nat.{ℕ, zero, suc, _+_, _*_, _≤_, _<_, _/_, _%_}
 use mathlib.Core.Path.{_≡_, refl, sym, ap, subst, _∙_}
 use mathlib.Core.Bool.{Bool, true, false, cond, not, _&&_, _||_}
 use mathlib.Core.Logic.{_⊎_, inl, inr}
@@ -11,15 +11,15 @@ use lib.ListN.{length, take, drop, length-take, length-drop, length-append}
 use lib.Seq.{take-at, drop-at}
 use lib.Dec.{eqb, leb, ltb}
 use lib.IntN.{ℤ}
-use borrow.Author.Tests.{eqb-true, eqb-false, leb-true, ne-eqb, not-true}
+use borrow.Author.Tests.{eq-eqb, eqb-true, eqb-false, leb-true, ne-eqb, not-true}
 use Rattle.octets.specs.Octets.{octets}
 use Rattle.message.specs.Layout.{headOf}
-use Rattle.message.specs.Show.{idsAt}
+use Rattle.message.specs.Show.{idsAt, idsOf}
 use Rattle.message.specs.Check.{Row, FirstFails}
 use Rattle.message.proofs.Tables.{which, AllTrue}
 use Rattle.encode.specs.declared.Heading.{Heading}
 use Rattle.encode.specs.Encode.{ofNego, encoded}
-use Rattle.schemes.specs.Lists.{Id, mem, distinct, first, keep, marked, usable, leftOver, rule2, oneTo16, joinIds}
+use Rattle.schemes.specs.Lists.{Id, mem, distinct, first, keep, marked, usable, leftOver, rule2, oneTo16, listOk, joinIds}
 use Rattle.schemes.specs.Sets.{commonSet, left, keptPlaces, ones, openPlaces, named, below, padTo}
 use Rattle.schemes.specs.Longer.{Longer, SameMarks, NoLater}
 use Rattle.schemes.proofs.Choice.{no-true, and-l, and-r, still-usable, still-common, longer}
@@ -30,7 +30,7 @@ use Rattle.conversation.specs.declared.Scan.{Scan}
 use Rattle.conversation.specs.State.{NONE, ownOf, replied, limitRows, fresh}
 use Rattle.conversation.specs.Turns.{NEGO, METADATA, EXCHANGE, VERIFY, ALERT, writing, reading, kindOf, typeOf, afterOpening, afterFurther, after, writes, reads, placeAfter, mayWrite, mayRead}
 use Rattle.conversation.specs.Outcomes.{Outcome, zeroId, answered, refused, decide, row, room, fits, WrittenAs, unchanged, wrote, appended}
-use Rattle.conversation.specs.Writing.{heading, messageOf, stageRows, offered, offering, someLeft, firstOr, replyMessage, naming, replying, metadataAllowed, metadataMessage, writingMetadata, schemeAllowed, exchangeMessage, askedBy, writingExchange, verifyMessage, writingVerify, alertMessage, writingAlert}
+use Rattle.conversation.specs.Writing.{heading, messageOf, stageRows, offered, offering, someLeft, firstOr, replyMessage, naming, replying, metadataAllowed, metadataMessage, writingMetadata, schemeAllowed, exchangeMessage, askedBy, writingExchange, verifyMessage, writingVerify, alertMessage, writingAlert, opening}
 use Rattle.conversation.specs.Admitting.{listedBy}
 use Rattle.conversation.specs.Reading.{conversationOf, Judged, whole, halted, judged, commonAfter, keptAfter, taken, finish, readingToken}
 use Rattle.conversation.specs.Choosing.{openTo, mayChoose, chose, choosing}
@@ -95,7 +95,7 @@ nego-start token position v e = elim (which (leb token 1)) [
 
 -- the stages in which the two ends can be at once
 pub record Together (i a : ℕ) : Type 0 where
-  opening : i ≡ 0 → a ≤ 1
+  first-stage : i ≡ 0 → a ≤ 1
   choosing′ : i ≡ 2 → a ≡ 1
   later : i ≡ 3 → 1 ≤ a
 
@@ -287,12 +287,12 @@ module _ (o : Opening) (Q : ℕ → Type 0)
           (ini-later is, subst (λ (k : ℕ). Together k (f .record-of .stage)) (st ∙ sym is) tg)
       ini-reads n c h w (ini-open st p t) (acc-fresh st′ t′) = absurd (empty-judged r n c (rw t′ at w))
       ini-reads n c h w (ini-open st p t) (acc-read st′ p′ co lc t′) = absurd (empty-judged r n c (rw t′ at w))
-      ini-reads n c h w (ini-open st p t) (acc-later st′) = absurd (let z = tg .opening st in omega arith)
+      ini-reads n c h w (ini-open st p t) (acc-later st′) = absurd (let z = tg .first-stage st in omega arith)
       ini-reads n c h w (ini-open st p t) (acc-open st′ p′ ma q t′) =
           let is : reads r + 1 ≡ 2 = rw (ok .role, st) in
           let l : listedBy (f .turn) ≡ reply-of ma = heads-here 1 (reply-of ma) (f .turn) t′ .1 in (
             ini-choosing is refl ma q (rw (ok .role, st, ok .own, l)) (rw (ok .role, st, ok .own, l)),
-            record { opening = λ z. absurd (omega arith); choosing′ = λ z. st′; later = λ z. absurd (omega arith) },
+            record { first-stage = λ z. absurd (omega arith); choosing′ = λ z. st′; later = λ z. absurd (omega arith) },
           )
 
       ini-read : IniGoal read no17 (readingToken r d (f .turn))
@@ -348,7 +348,7 @@ module _ (o : Opening) (Q : ℕ → Type 0)
           let s = ini-chooses m h (ok .at) in
           record {
             then-ok = record { role = ok .role; own = ok .own; bytes = ok .bytes; count = ok .count; talk = ok .talk; at = ini-later refl };
-            then-together = record { opening = λ z. absurd (omega arith); choosing′ = λ z. absurd (omega arith); later = λ z. (let w = tg .choosing′ (eqb-true _ _ h) in omega arith) };
+            then-together = record { first-stage = λ z. absurd (omega arith); choosing′ = λ z. absurd (omega arith); later = λ z. (let w = tg .choosing′ (eqb-true _ _ h) in omega arith) };
             fair = ((λ z. absurd (omega arith)), (λ z. (s .0, (s .1 .0, (ap first (sym (s .1 .1)) ∙ some-first l (true-behind before (row 17 (someLeft l)) [] g), ap length (s .1 .1))))), (λ z. inr refl));
           }) where
             refusal-says : (n : ℕ) → FirstFails n (limitRows r ++ (row 18 (mayChoose r) ∷ row 19 (below (r .count) m) ∷ row 17 (someLeft (named (ownOf r) (openTo r m))) ∷ [])) → ChooseSays m (answered n 0 r)
@@ -503,14 +503,14 @@ module _ (o : Opening) (Q : ℕ → Type 0)
           let l : listedBy (f .turn) ≡ o .initiator = heads-here 0 (o .initiator) (f .turn) t′ .1 in
           let k = judged-first s (f .turn) n c w in (
             acc-read is refl (rw (ok .role, st, ok .own, l)) (rw (ok .role, st) (simp (length-take, length-drop) (omega (arith, k .forty)))) refl,
-            record { opening = λ z. omega arith; choosing′ = λ z. absurd (omega arith); later = λ z. omega arith },
+            record { first-stage = λ z. omega arith; choosing′ = λ z. absurd (omega arith); later = λ z. omega arith },
           )
       acc-reads n c h w (acc-read st p co lc t) i = no-true (rw (ok .role, st, p) at h)
       acc-reads n c h w (acc-open st p ma q t) (ini-fresh st′ p′ t′) = absurd (empty-judged s n c (rw t′ at w))
       acc-reads n c h w (acc-open st p ma q t) (ini-choosing st′ t′ ma′ q′ ks co) = absurd (empty-judged s n c (rw t′ at w))
       acc-reads n c h w (acc-open st p ma q t) (ini-later st′) =
           let is : reads s + 1 ≡ 3 = rw (ok .role, st) in
-          (acc-later is, record { opening = λ z. absurd (omega arith); choosing′ = λ z. absurd (omega arith); later = λ z. omega arith })
+          (acc-later is, record { first-stage = λ z. absurd (omega arith); choosing′ = λ z. absurd (omega arith); later = λ z. omega arith })
       acc-reads n c h w (acc-open st p ma q t) (ini-open st′ p′ t′) = absurd (no-nego n c w st t′)
       acc-reads n c h w (acc-later st) i =
           let is : reads s + 1 ≡ 3 = rw (ok .role, st) in
@@ -586,7 +586,7 @@ module _ (o : Opening) (Q : ℕ → Type 0)
     world-ok i a n = record {
       ini-ok = record { role = refl; own = i; bytes = refl; count = n; talk = refl; at = ini-fresh refl refl refl };
       acc-ok = record { role = refl; own = a; at = acc-fresh refl refl };
-      stages = record { opening = λ z. omega arith; choosing′ = λ z. absurd (omega arith); later = λ z. absurd (omega arith) };
+      stages = record { first-stage = λ z. omega arith; choosing′ = λ z. absurd (omega arith); later = λ z. absurd (omega arith) };
     }
 
 -- 7. opened lists
@@ -610,3 +610,12 @@ count-joined l h = let n = length-joined l h in omega arith
 
 pub own-opened : (a : Bool) (l : List Id) (c : List ℕ) → ((s : Id) → List·Memᴰ s l → length s ≡ 16) → ownOf (fresh a (joinIds l) c) ≡ l
 own-opened a l c h = rw (count-joined l h) (cut-joined l _ h)
+
+-- a run's records are those that opening answers
+pub opening-fresh : (a : Bool) (l : List Id) (c : List ℕ) → ((s : Id) → List·Memᴰ s l → length s ≡ 16) → oneTo16 l ≡ true → opening a (joinIds l) c ≡ answered 0 0 (fresh a (joinIds l) (cond a zeroId c))
+unfolding opening listOk
+opening-fresh a l c h ok =
+    let n = length-joined l h in
+    let whole : length (joinIds l) % 16 ≡ 0 = omega arith in
+    let ids : idsOf (joinIds l) ≡ l = rw (count-joined l h) (ap (idsAt (length l)) (sym (append-nil (joinIds l))) ∙ cut-joined l [] h) in
+    rw (eq-eqb _ _ whole, ids, ok)

@@ -33,6 +33,7 @@ use Rattle.conversation.specs.Admitting.{messagesAt, schemeFits, passed,
 use Rattle.conversation.specs.Reading.{conversationOf, judge, judged, commonAfter, keptAfter, finish, readingToken}
 use Rattle.conversation.specs.Choosing.{choosing}
 use Rattle.conversation.specs.Runs.{Sized, Call, offer, reply, metadata, exchange, verify, alert, read, choose, Opening, world, Entry, run, marksIn, isAccepted, isLawful, MarksKept, Choice, act}
+use Rattle.conversation.specs.Logs.{messagesIn, logsOf}
 use Rattle.conversation.proofs.Demand.{demand3, run-calls}
 use Rattle.conversation.proofs.Worked.{scheme, schemes-sized, random, opened, negotiation, shows, allShown}
 
@@ -72,6 +73,11 @@ allAccepted (x ∷ xs) = isAccepted (x .said) && allAccepted xs
 pub whole-conversation : T (allAccepted (run (world opened) conversation))
 unfolding opened le signed32 sameOctets sameId keepsRule shown shapeOf headOf elementsAt contentOf vectorsOf commonRows zeros padsZero allKeepRule noneCritical contentRows bodyRows frontRows idsAt schemesIn orderRows nextRows chainOf put encoded mem place distinct commonSet left has mentions ones openPlaces keptBelow turns.writing turns.reading turns.kindOf turns.typeOf turns.afterOpening turns.afterFurther turns.after offering replying writingMetadata writingExchange writingVerify writingAlert schemeNow messagesAt schemeFits passed admit conversationOf judge judged commonAfter keptAfter finish readingToken choosing act
 whole-conversation = tt
+
+-- each end has read and written all thirteen messages of it
+pub whole-logs : T (eqb (length (logsOf opened conversation .i)) 13 && eqb (length (logsOf opened conversation .a)) 13)
+unfolding opened le signed32 sameOctets sameId keepsRule shown shapeOf headOf elementsAt contentOf vectorsOf commonRows zeros padsZero allKeepRule noneCritical contentRows bodyRows frontRows idsAt schemesIn orderRows nextRows chainOf put encoded mem place distinct commonSet left has mentions ones openPlaces keptBelow turns.writing turns.reading turns.kindOf turns.typeOf turns.afterOpening turns.afterFurther turns.after offering replying writingMetadata writingExchange writingVerify writingAlert schemeNow messagesAt schemeFits passed admit conversationOf judge judged commonAfter keptAfter finish readingToken choosing act messagesIn
+whole-logs = tt
 
 -- 2. two runs without marks, the second with longer lists
 

@@ -2,9 +2,13 @@ pub mod Tests
 pub mod Bounds
 pub mod Places
 pub mod Rows
+pub mod Decides
 pub mod Tokens
 pub mod Ends
 pub mod Demand
 pub mod Unchanged
 pub mod Worked
 pub mod Examples
+pub mod Messages
+pub mod Inside
+pub mod Logs

@@ -44,7 +44,7 @@ unfolding judged judge
 empty-judged r n c e = let z : _≡_ {A = ℕ} 0 1 = cc in omega arith
 
 -- the first message of a token that is read
-not-stop : (b : Bool) (k : ℕ) (a : Admitted) (c : Scan) → orStop b k a ≡ on c → (b ≡ true) × (a ≡ on c)
+pub not-stop : (b : Bool) (k : ℕ) (a : Admitted) (c : Scan) → orStop b k a ≡ on c → (b ≡ true) × (a ≡ on c)
 not-stop true k a c e = (refl, e)
 not-stop false k a c e = let z : _≡_ {A = ℕ} 0 1 = cc in absurd (omega arith)
 

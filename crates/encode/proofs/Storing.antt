@@ -1,18 +1,16 @@
 -- What a writer leaves: one law for each answer, in the words of the code.
 -- Assumes nothing.
-use mathlib.Core.Path.{_≡_, refl, sym, ap, _∙_}
-use mathlib.Core.Bool.{Bool, true, false, cond, _&&_}
+use mathlib.Core.Path.{_≡_, sym, _∙_}
+use mathlib.Core.Bool.{Bool, true, false}
 use mathlib.Core.List.{List}
 use Prim.Native.Nat.{ℕ, _+_, _%_, _≤_, _<_}
-use native.Mathlib.Omega.{arith}
 use lib.ListN.{length}
 use lib.Dec.{leb}
 use lib.IntN.{ℤ}
 use borrow.Author.Tests.{le-leb, lt-leb, eq-eqb, ne-eqb, leb-true}
-use Rattle.put.specs.Put.{put, Written}
+use Rattle.put.specs.Put.{Written}
 use Rattle.encode.specs.declared.Heading.{Heading}
-use Rattle.encode.specs.Encode.{Offer, Payload, Checksum, Pulse, Contents, ofNego, ofExchange, ofVerify, ofAlert, sizeOf, encoded, encodable, Outcome, written, unwritten, storing}
-use Rattle.encode.specs.ReadBack.{Whole}
+use Rattle.encode.specs.Encode.{Whole, Offer, Payload, Checksum, Pulse, Contents, ofNego, ofExchange, ofVerify, ofAlert, sizeOf, encoded, encodable, written, unwritten, storing}
 use Rattle.encode.proofs.Sizes.{length-encoded}
 
 module _ (d : List ℕ) (at : ℕ) (h : Heading) where

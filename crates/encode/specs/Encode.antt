@@ -4,13 +4,19 @@
 --
 -- Glossary
 --   Contents             what is written besides, one value a layout: an Offer, a Payload, a Checksum or a Pulse
+--   Whole c              the ids of the contents have 16 octets and random has 32
 --   sizeOf c             the length of a message with the contents c
+--   signature            the first field of every message
 --   headFields h n       the fields of the common header of a message of n octets
---   bodyFields c         the fields behind it; pulseFields: those of a written alert
+--   octetVectorFields, vectorFields   the fields of a vector of octets, and of one of elements
+--   bodyFields c         the fields behind the common header; pulseFields: those of a written alert
 --   encoded h c          the message: all its fields, joined
---   encodable h c        the type number is of the contents' layout, a scheme list is one of whole ids, and count and length fit their fields
+--   hasKind c k          the type number k is of the contents' layout
+--   fitsFields c         a scheme list is one of whole ids, and count and length fit their fields
+--   encodable h c        both of these: there is such a message
 --   Outcome              what a writer leaves: the next place and the lent octets, or the lent octets with nothing written
 --   told, storing        the outcome of an answer of src/, and of writing a message into d at a place
+use mathlib.Core.Path.{_≡_}
 use Prim.Native.Nat.{ℕ, _+_, _/_, _%_}
 use mathlib.Core.Bool.{Bool, true, cond, _&&_}
 use mathlib.Core.List.{List, [], _∷_, _++_}
@@ -50,6 +56,12 @@ pub data Contents : Type 0 where
   ofVerify : Checksum → Contents
   ofAlert : Pulse → Contents
 
+abbrev pub Whole : Contents → Type 0
+Whole (ofNego o) = length (o .random) ≡ 32
+Whole (ofExchange p) = length (p .scheme) ≡ 16
+Whole (ofVerify k) = length (k .scheme) ≡ 16
+Whole (ofAlert p) = length (p .scheme) ≡ 16
+
 abbrev pub sizeOf : Contents → ℕ
 sizeOf (ofNego o) = 96 + length (o .schemes)
 sizeOf (ofExchange p) = 64 + length (p .value)
@@ -84,6 +96,7 @@ abbrev pub pulseFields : List (List ℕ)
 pulseFields = octetsOf 4 1 ∷ (octetVectorFields 84 8 ++ (octetsOf 4 8 ∷ octetsOf 4 1 ∷ []))
 
 -- "Base writers add no extensions; that vector is offset 0, count 0. An empty exchange or checksum value has its header length as offset and size 0."
+-- So has an empty scheme list: offset 96, count 0.
 -- "checksum header length 56 (is 20), checksum scheme 60 (is 1)".
 abbrev pub bodyFields : Contents → List (List ℕ)
 bodyFields (ofNego o) =
@@ -112,7 +125,7 @@ hasKind (ofExchange p) kind = leb 2 kind && leb kind 5
 hasKind (ofVerify k) kind = eqb kind 6
 hasKind (ofAlert p) kind = eqb kind 7
 
--- at most 65,535 schemes; at most 4,294,967,295 octets
+-- Count is a 16-bit number: at most 65,535 schemes, 1,048,560 octets. Message length is a 32-bit number: at most 4,294,967,295 octets, header included.
 abbrev pub fitsFields : Contents → Bool
 fitsFields (ofNego o) = eqb (length (o .schemes) % 16) 0 && leb (length (o .schemes)) 1048560
 fitsFields (ofExchange p) = leb (length (p .value)) 4294967231

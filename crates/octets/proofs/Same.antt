@@ -62,17 +62,20 @@ module _ (a b : List ℕ) where
     unfolding sameId
     second-no-id h = rw (eq-eqb _ _ first) (same-sizes a b (λ e. h (sym e ∙ first)))
 
-    pub ids-start : sameId a b ≡ sameOctets (drop 0 a) (drop 0 b)
+    pub ids-start : sameId a b ≡ true && sameOctets (drop 0 a) (drop 0 b)
     unfolding sameId
     ids-start = rw (eq-eqb _ _ first)
 
-    module _ (second : length b ≡ 16) (i : ℕ) (x : Bool) (inv : x ≡ sameOctets (drop i a) (drop i b)) where
-      pub ids-end : 16 ≤ i → true ≡ x
+    module _ (second : length b ≡ 16) (i : ℕ) (x s : Bool) (inv : x ≡ s && sameOctets (drop i a) (drop i b)) where
+      pub ids-end : 16 ≤ i → s ≡ x
       unfolding sameOctets
       ids-end h =
           let u : length a ≤ i = omega arith in
           let w : length b ≤ i = omega arith in
-          sym (inv ∙ rw (drop-of-length-le a u, drop-of-length-le b w))
+          sym (inv ∙ rw (drop-of-length-le a u, drop-of-length-le b w) (and-true s)) where
+            and-true : (s : Bool) → s && true ≡ s
+            and-true true = refl
+            and-true false = refl
 
       module _ (more : i < 16) where
         step : sameOctets (drop i a) (drop i b) ≡ sameOctets (getD a i 0 ∷ drop (suc i) a) (getD b i 0 ∷ drop (suc i) b)
@@ -81,12 +84,15 @@ module _ (a b : List ℕ) where
             let w : i < length b = omega arith in
             rw (drop-cons a i 0, drop-cons b i 0)
 
-        pub ids-differ : (getD a i 0 ≡ getD b i 0 → ⊥) → false ≡ x
+        pub ids-differ : (getD a i 0 ≡ getD b i 0 → ⊥) → (t : Bool) → t ≡ false → x ≡ t && sameOctets (drop (i + 1) a) (drop (i + 1) b)
         unfolding sameOctets
-        ids-differ h = sym (inv ∙ step ∙ rw (ne-eqb _ _ h))
+        ids-differ h t e = inv ∙ rw (e, step, ne-eqb _ _ h) (and-false s) where
+          and-false : (s : Bool) → s && false ≡ false
+          and-false true = refl
+          and-false false = refl
 
-        pub ids-agree : getD a i 0 ≡ getD b i 0 → x ≡ sameOctets (drop (i + 1) a) (drop (i + 1) b)
+        pub ids-agree : getD a i 0 ≡ getD b i 0 → (t : Bool) → t ≡ s → x ≡ t && sameOctets (drop (i + 1) a) (drop (i + 1) b)
         unfolding sameOctets
-        ids-agree h = inv ∙ step ∙ simp (eq-eqb _ _ h, add-one)
+        ids-agree h t e = inv ∙ rw (e, step) (simp (eq-eqb _ _ h, add-one))
 
 pub ruleset ids = (first-no-id, second-no-id, ids-start, ids-end, ids-differ, ids-agree)

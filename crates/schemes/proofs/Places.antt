@@ -42,7 +42,7 @@ small false = omega arith
 abbrev pub less : ℕ → ℕ → ℕ → ℕ
 less n c w = bitAnd c (2 ^ n - 1 - w)
 
-less-step : (n c w : ℕ) (y : Bool) → w < 2 ^ n → less (suc n) c (cond y 1 0 + 2 * w) ≡ less n (c / 2) w * 2 + cond (bit c 0 && not y) 1 0
+pub less-step : (n c w : ℕ) (y : Bool) → w < 2 ^ n → less (suc n) c (cond y 1 0 + 2 * w) ≡ less n (c / 2) w * 2 + cond (bit c 0 && not y) 1 0
 less-step n c w y h =
     let v : ℕ = cond y 1 0 + 2 * w in
     let p : 2 ^ suc n ≡ 2 ^ n * 2 = pow-suc 2 n in

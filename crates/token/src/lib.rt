@@ -21,7 +21,7 @@ pub enum Answer {
 }
 
 // Checks 7 to 13 of the message at the front of `rest`, whose header is h.
-pub fn read_ordered(rest: &[u8], sequence: u64, conversation: &[u8], h: Header) -> Read
+fn read_ordered(rest: &[u8], sequence: u64, conversation: &[u8], h: Header) -> Read
     requires { ⌜ Passed (now rest) h ⌝ }
     ensures { λ r. ⌜ said r ≡ orderVerdict (now (rest .entry)) sequence (now (conversation .entry)) h ⌝ }
 {

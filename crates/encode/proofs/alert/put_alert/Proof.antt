@@ -1,11 +1,9 @@
 -- The fields, one behind the other. Assumes nothing.
-use Prim.Native.Nat.{_+_}
 use mathlib.Core.Path.{_≡_, ap}
 use mir.Syntax.{w32}
 use mir.Val.{SFits}
 use mir.Facts.{toZ-ofZ}
 use Rattle.put.specs.Put.{unsigned32}
-use native.Mathlib.Omega.{arith}
 use lib.ListN.{length}
 use Rattle.put.proofs.Laws.{wrote, step, group, done, as-number}
 use Rattle.encode.specs.Encode.{encoded, Pulse, ofAlert, headFields, vectorFields, pulseFields}

@@ -1,7 +1,6 @@
 -- The fields, one behind the other. Assumes nothing.
 use Prim.Native.Nat.{_+_, _/_}
 use mathlib.Core.Path.{_≡_}
-use native.Mathlib.Omega.{arith}
 use lib.ListN.{length, length-append}
 use Rattle.put.proofs.Laws.{wrote, wrote-room, step, group, done}
 use Rattle.encode.specs.Encode.{encoded, Offer, ofNego, headFields, vectorFields}

@@ -1,0 +1,424 @@
+-- What holds of both ends in every run: records inside their limits, used and sequence counted by the messages read and written, and logs in step.
+-- Assumes nothing.
+use Prim.Native.Nat.{ℕ, zero, suc, _+_, _*_, _^_, _/_, _≤_, _<_}
+use mathlib.Core.Path.{_≡_, refl, sym, ap, subst, _∙_}
+use mathlib.Core.Bool.{Bool, true, false, cond, not, _&&_, _||_}
+use mathlib.Core.Logic.{inl, inr}
+use mathlib.Core.List.{List, [], _∷_, _++_, List·Memᴰ, List·Memᴰ·head, List·Memᴰ·tail, append-assoc, append-nil}
+use native.Mathlib.Omega.{arith}
+use lib.ListN.{length, take, drop, getD, length-append, length-take, length-drop}
+use lib.Seq.{take-at, length-take-le}
+use lib.Pow.{pow-pos}
+use lib.IntN.{ℤ}
+use lib.Dec.{eqb, leb, ltb}
+use borrow.Author.Tests.{eqb-true, leb-true, ltb-true, lt-ltb, ne-eqb, not-true}
+use Rattle.octets.specs.Octets.{octets}
+use Rattle.message.specs.Check.{Row, FirstFails, firstFailing}
+use Rattle.message.proofs.Tables.{which, AllTrue}
+use Rattle.token.specs.Split.{join}
+use Rattle.put.specs.Put.{put}
+use Rattle.encode.specs.Encode.{Whole, Contents, ofNego, ofExchange, ofVerify, ofAlert}
+use Rattle.schemes.specs.Lists.{Id, distinct, oneTo16, joinIds, place}
+use Rattle.schemes.specs.Sets.{left, named, below, keptBelow}
+use Rattle.schemes.proofs.Choice.{and-l, and-r}
+use Rattle.conversation.specs.declared.Record.{Record}
+use Rattle.conversation.specs.declared.Scan.{Scan}
+use Rattle.conversation.specs.State.{ownOf, schemeAt, replied, limitRows, fresh}
+use Rattle.conversation.specs.Turns.{FIRST, ANSWER, NEGO, METADATA, EXCHANGE, VERIFY, ALERT, typeOf, writes, reads, placeAfter, mayRead}
+use Rattle.conversation.specs.Outcomes.{Outcome, zeroId, answered, refused, decide, row, room, fits, WrittenAs, unchanged, wrote, appended}
+use Rattle.conversation.specs.Writing.{heading, messageOf, stageRows, offering, someLeft, replyMessage, naming, replying, metadataAllowed, metadataMessage, writingMetadata, schemeNow, startsWith, schemeAllowed, exchangeMessage, askedBy, writingExchange, verifyMessage, writingVerify, alertMessage, writingAlert}
+use Rattle.conversation.specs.Reading.{conversationOf, startOf, Judged, whole, halted, chainFor, judged, taken, finish, readingToken}
+use Rattle.conversation.specs.Choosing.{openTo, mayChoose, chose, choosing}
+use Rattle.conversation.specs.Runs.{Sized, Call, offer, reply, metadata, exchange, verify, alert, read, choose, End, act, turnAfter, moved, World, world, next, ends}
+use Rattle.conversation.specs.Logs.{messagesIn, added, logged, Logs, nextLogs, logsBehind, Counted, InStep, EveryRun}
+use Rattle.conversation.proofs.Rows.{decide-out, without, fails-other, true-behind}
+use Rattle.conversation.proofs.Tokens.{judged-first, judged-number}
+use Rattle.conversation.proofs.Ends.{ok-distinct, own-opened, count-joined}
+use Rattle.conversation.proofs.Inside.{told-below, ChosenBelow, admit-chosen, limits-wrote, limits-taken, limits-chose, limits-counts}
+use Rattle.conversation.proofs.Messages.{FramedFrom, Framed, framed-more, framed-behind, framed-long, framed-order, join-append, join-one, same-messages, same-start, written-framed, judge-keeps, Taken, token-taken}
+
+-- 1. the invariant of an end
+
+record Sound (r : Record) (d : List ℕ) (log : List (List ℕ)) : Type 0 where
+  limits : AllTrue (limitRows r)
+  ids : (k : ℕ) → k < r .count → length (schemeAt r k) ≡ 16
+  talk : length (r .conversation) ≡ 16
+  framed : FramedFrom 0 log
+  used : r .used ≡ length (join log)
+  sequence : r .sequence ≡ length log
+  transcript : take (r .used) d ≡ join log
+
+-- the transcript's end
+room-kept : (used n : ℕ) (d : List ℕ) → leb (used + n) (room d) ≡ true → (used + n ≤ length d) × (used + n ≤ 65535)
+room-kept used n d h = let w : used + n ≤ room d = leb-true _ _ h in (omega arith, omega arith)
+
+put-end : (d : List ℕ) (used : ℕ) (x : List ℕ) → used ≤ length d → take (used + length x) (put d used x) ≡ take used d ++ x
+unfolding put
+put-end d used x h =
+    let n : length (take used d ++ x) ≡ used + length x = length-append (take used d) x ∙ ap (λ (k : ℕ). k + length x) (length-take-le used d h) in
+    take-at (take used d ++ x) (drop (used + length x) d) (used + length x) n
+
+small : (b : Bool) {x y : ℕ} → x ≤ 7 → y ≤ 7 → cond b x y ≤ 7
+small true h g = h
+small false h g = g
+
+type-known : (a : Bool) (kind : ℕ) → typeOf a kind ≤ 7
+unfolding typeOf
+type-known true kind = small (eqb kind 1) (omega arith) (small (eqb kind 2) (omega arith) (small (eqb kind 3) (omega arith) (small (eqb kind 4) (omega arith) (omega arith))))
+type-known false kind = small (eqb kind 1) (omega arith) (small (eqb kind 2) (omega arith) (small (eqb kind 3) (omega arith) (small (eqb kind 4) (omega arith) (omega arith))))
+
+-- the rule's scheme is one of the own list
+now-below : (r : Record) → schemeAllowed r ≡ true → schemeNow r < r .count
+unfolding schemeNow
+now-below r h = elim (which (eqb (writes r) ANSWER)) [
+  | inl a ↦
+      let first : eqb (writes r) FIRST ≡ false = (let w : writes r ≡ 1 = eqb-true _ _ a in rw w) in
+      rw (first, a) (ltb-true (r .asked) (r .count) (and-l (ltb (r .asked) (r .count)) (startsWith (replied r) (schemeAt r (r .asked))) (rw a at h)))
+  | inr a ↦ rw a (ltb-true (cond (eqb (writes r) FIRST) 0 (r .chosen)) (r .count) (rw a at h))
+]
+
+-- 2. a call at the end e, beside the end f
+
+module _ (e f : End) (le lf : List (List ℕ)) (ok : Sound (e .record-of) (e .transcript) le) (ok′ : Sound (f .record-of) (f .transcript) lf) (here : InStep (e .turn) le lf) (there : InStep (f .turn) lf le) where
+  abbrev r : Record
+  r = e .record-of
+
+  abbrev d : List ℕ
+  d = e .transcript
+
+  record Goal (k : Call) (out : Outcome) : Type 0 where
+    sound : Sound (out .answer .next) (out .transcript) (logged e (f .turn) k out le)
+    here-then : InStep (moved e k out .turn) (logged e (f .turn) k out le) lf
+    there-then : InStep (f .turn) lf (logged e (f .turn) k out le)
+
+  stays : (k : Call) (n p : ℕ) → (n ≡ 0 → ⊥) → Goal k (refused r d n p)
+  stays k n p z = record { sound = rw (ne-eqb n 0 z) ok; here-then = rw (ne-eqb n 0 z) here; there-then = rw (ne-eqb n 0 z) there }
+
+  stopped : (k : Call) (rows : List Row) → without 0 rows ≡ true → (n : ℕ) → FirstFails n rows → Goal k (refused r d n 0)
+  stopped k rows z n g = stays k n 0 (fails-other 0 rows n z g)
+
+  -- the other end's log begins as before
+  more-there : (ms : List (List ℕ)) → InStep (f .turn) lf (le ++ ms)
+  more-there ms = record {
+    shared = there .shared;
+    own = there .own;
+    beyond = there .beyond ++ ms;
+    parts = there .parts;
+    written = there .written;
+    begins = ap (λ (l : List (List ℕ)). l ++ ms) (there .begins) ∙ append-assoc (there .shared) (there .beyond) ms;
+  }
+
+  used-inside : r .used ≤ length d
+  used-inside = let a = ok .used in let b = ap length (ok .transcript) in omega (arith, length-take (r .used) d)
+
+  -- a message, written
+  record Wrote (position : ℕ) (x : List ℕ) (w : WrittenAs) : Type 0 where
+    sound : Sound (wrote r position (length x) w) (put d (r .used) x) (le ++ (x ∷ []))
+    turn : InStep (e .turn ++ x) (le ++ (x ∷ [])) lf
+
+  writes-message : (kind position : ℕ) (c : Contents) (w : WrittenAs) → Whole c → below (r .count) (w .marks) ≡ true → below (r .count) (w .told) ≡ true → leb (r .used + length (messageOf r kind c)) (room d) ≡ true → Wrote position (messageOf r kind c) w
+  writes-message kind position c w ids marks told fit =
+      let x : List ℕ = messageOf r kind c in
+      let (inside, short) = room-kept (r .used) (length x) d fit in
+      let (few, numbers) = limits-counts r (ok .limits) in
+      let a : Framed (r .sequence) x = written-framed (heading r kind) c (type-known (r .acceptor) kind) (omega arith) (ok .talk) ids (omega arith) in
+      let u = ok .used in
+      let q : r .sequence ≡ 0 + length le = let s = ok .sequence in omega arith in
+      let n = length-append (join le) x in
+      let m = ap length (join-one le x) in
+      record {
+        sound = record {
+          limits = limits-wrote r (ok .limits) position (length x) w marks told (a .long) short;
+          ids = ok .ids;
+          talk = ok .talk;
+          framed = framed-more 0 le (x ∷ []) (ok .framed) (subst (λ (k : ℕ). Framed k x) q a, tt);
+          used = omega arith;
+          sequence = let z = length-append le (x ∷ []) in omega arith;
+          transcript = put-end d (r .used) x used-inside ∙ ap (λ (l : List ℕ). l ++ x) (ok .transcript) ∙ sym (join-one le x);
+        };
+        turn = record {
+          shared = here .shared;
+          own = here .own ++ (x ∷ []);
+          beyond = here .beyond;
+          parts = ap (λ (l : List (List ℕ)). l ++ (x ∷ [])) (here .parts) ∙ append-assoc (here .shared) (here .own) (x ∷ []);
+          written = join-one (here .own) x ∙ ap (λ (l : List ℕ). l ++ x) (here .written);
+          begins = here .begins;
+        };
+      }
+
+  -- what a writer's table has to give
+  record Given (c : Contents) (w : WrittenAs) : Type 0 where
+    whole : Whole c
+    marks : below (r .count) (w .marks) ≡ true
+    told : below (r .count) (w .told) ≡ true
+
+  writes-call : (k : Call) (kind : ℕ) (rows : List Row) (c : Contents) (w : WrittenAs)
+      → added e (f .turn) k ≡ messageOf r kind c ∷ [] → turnAfter e k ≡ e .turn ++ messageOf r kind c
+      → without 0 (stageRows r kind ++ (rows ++ (fits r d (length (messageOf r kind c)) ∷ []))) ≡ true
+      → (AllTrue (stageRows r kind ++ (rows ++ (fits r d (length (messageOf r kind c)) ∷ []))) → Given c w)
+      → Goal k (decide (stageRows r kind ++ (rows ++ (fits r d (length (messageOf r kind c)) ∷ []))) r d (appended r d (placeAfter r kind) (messageOf r kind c) w))
+  writes-call k kind rows c w adds turns z given =
+      decide-out (Goal k) (stageRows r kind ++ (rows ++ (fits r d (length (messageOf r kind c)) ∷ []))) r d (appended r d (placeAfter r kind) (messageOf r kind c) w)
+      (stopped k (stageRows r kind ++ (rows ++ (fits r d (length (messageOf r kind c)) ∷ []))) z)
+      (λ g.
+      let v = given g in
+      let a = writes-message kind (placeAfter r kind) c w (v .whole) (v .marks) (v .told) (true-behind (stageRows r kind ++ rows) (fits r d (length (messageOf r kind c))) [] g) in
+      record { sound = rw adds (a .sound); here-then = rw (adds, turns) (a .turn); there-then = rw adds (more-there (messageOf r kind c ∷ [])) })
+
+  -- marks and told as they were
+  marks-here : below (r .count) (r .marks) ≡ true
+  marks-here = let (l1, (l2, (l3, (l4, rest)))) = ok .limits in l4
+
+  told-here : below (r .count) (r .told) ≡ true
+  told-here = let (l1, (l2, (l3, (l4, (l5, (l6, rest)))))) = ok .limits in l6
+
+  offers : (random : Sized 32) → Goal (offer random) (offering r d (random .0))
+  unfolding offering
+  offers random =
+      writes-call (offer random) NEGO (row 18 (not (r .acceptor)) ∷ []) (ofNego (record { random = random .0; schemes = take (16 * r .count) (r .list) })) (unchanged r) refl refl refl
+      (λ g. record { whole = random .1; marks = marks-here; told = told-here })
+
+  replies : (m : ℕ) (random : Sized 32) → Goal (reply m random) (replying r d m (random .0))
+  unfolding replying
+  replies m random =
+      let l : List Id = left (ownOf r) (r .common) m in
+      let x : List ℕ = replyMessage r m (random .0) in
+      let w : WrittenAs = record { marks = m; told = r .told; asked = r .asked; verified = r .verified } in
+      let before : List Row = stageRows r NEGO ++ (row 18 (r .acceptor) ∷ []) in
+      let last : List Row = row 17 (someLeft l) ∷ fits r d (length x) ∷ [] in
+      decide-out (Goal (reply m random)) (before ++ (row 19 (below (r .count) m) ∷ last)) r d (naming l (appended r d (placeAfter r NEGO) x w))
+      (stopped (reply m random) (before ++ (row 19 (below (r .count) m) ∷ last)) refl)
+      (λ g.
+      let a = writes-message NEGO (placeAfter r NEGO) (ofNego (record { random = random .0; schemes = joinIds l })) w (random .1) (true-behind before (row 19 (below (r .count) m)) last g) told-here
+      (true-behind (before ++ (row 19 (below (r .count) m) ∷ row 17 (someLeft l) ∷ [])) (fits r d (length x)) [] g) in
+      record { sound = a .sound; here-then = a .turn; there-then = more-there (x ∷ []) })
+
+  tells : (id : Sized 16) (value : List ℕ) → Goal (metadata id value) (writingMetadata r d (id .0) value)
+  unfolding writingMetadata
+  tells id value =
+      writes-call (metadata id value) METADATA (row 19 (leb 1 (length value)) ∷ row 15 (metadataAllowed r (id .0)) ∷ []) (ofExchange (record { scheme = id .0; value = value }))
+      (record { marks = r .marks; told = r .told + 2 ^ place (ownOf r) (id .0); asked = r .asked; verified = r .verified }) refl refl refl
+      (λ g. record {
+        whole = id .1;
+        marks = marks-here;
+        told = told-below r (id .0) told-here (true-behind (stageRows r METADATA ++ (row 19 (leb 1 (length value)) ∷ [])) (row 15 (metadataAllowed r (id .0))) (fits r d (length (metadataMessage r (id .0) value)) ∷ []) g);
+      })
+
+  -- the rule's scheme has 16 octets
+  now-whole : (kind : ℕ) (more : List Row) → AllTrue (stageRows r kind ++ (row 15 (schemeAllowed r) ∷ more)) → length (schemeAt r (schemeNow r)) ≡ 16
+  now-whole kind more g = ok .ids (schemeNow r) (now-below r (true-behind (stageRows r kind) (row 15 (schemeAllowed r)) more g))
+
+  exchanges : (value : List ℕ) → Goal (exchange value) (writingExchange r d value)
+  unfolding writingExchange
+  exchanges value =
+      writes-call (exchange value) EXCHANGE (row 15 (schemeAllowed r) ∷ []) (ofExchange (record { scheme = schemeAt r (schemeNow r); value = value }))
+      (record { marks = r .marks; told = r .told; asked = askedBy r; verified = r .verified }) refl refl refl
+      (λ g. record { whole = now-whole EXCHANGE (fits r d (length (exchangeMessage r value)) ∷ []) g; marks = marks-here; told = told-here })
+
+  verifies : (type : ℤ) (value : List ℕ) → Goal (verify type value) (writingVerify r d type value)
+  unfolding writingVerify
+  verifies type value =
+      writes-call (verify type value) VERIFY (row 15 (schemeAllowed r) ∷ []) (ofVerify (record { scheme = schemeAt r (schemeNow r); type = type; value = value }))
+      (record { marks = r .marks; told = r .told; asked = r .asked; verified = true }) refl refl refl
+      (λ g. record { whole = now-whole VERIFY (fits r d (length (verifyMessage r type value)) ∷ []) g; marks = marks-here; told = told-here })
+
+  alerts : (code : ℤ) → Goal (alert code) (writingAlert r d code)
+  unfolding writingAlert
+  alerts code =
+      writes-call (alert code) ALERT (row 15 (schemeAllowed r) ∷ []) (ofAlert (record { scheme = schemeAt r (schemeNow r); code = code })) (unchanged r) refl refl refl
+      (λ g. record { whole = now-whole ALERT (fits r d (length (alertMessage r code)) ∷ []) g; marks = marks-here; told = told-here })
+
+  -- 3. a token, read
+
+  abbrev t : List ℕ
+  t = f .turn
+
+  abbrev ms : List (List ℕ)
+  ms = messagesIn (chainFor r t)
+
+  -- the token is the other end's turn, and starts where both logs end
+  all-there : (n : ℕ) → Taken r t n → lf ≡ le ++ ms
+  all-there n k =
+      let own : FramedFrom (0 + length (there .shared)) (there .own) = framed-behind 0 (there .shared) (there .own) (subst (FramedFrom 0) (there .parts) (ok′ .framed)) in
+      let joins : join ms ≡ join (there .own) = k .joins ∙ sym (there .written) in
+      let some : 0 < length (join (there .own)) = subst (λ (l : List ℕ). 0 < length l) (sym (there .written)) (k .some) in
+      let start : r .sequence ≡ 0 + length (there .shared) = same-start (r .sequence) _ ms (there .own) (k .framed) own joins some in
+      let same : ms ≡ there .own = same-messages (r .sequence) (0 + length (there .shared)) ms (there .own) (k .framed) own joins in
+      let none : there .beyond ≡ [] = empty (there .beyond) (let a = ok .sequence in let b = ap length (there .begins) in omega (arith, length-append (there .shared) (there .beyond))) in
+      let all : le ≡ there .shared = there .begins ∙ ap (λ (l : List (List ℕ)). there .shared ++ l) none ∙ append-nil (there .shared) in
+      there .parts ∙ ap (λ (l : List (List ℕ)). l ++ there .own) (sym all) ∙ ap (λ (l : List (List ℕ)). le ++ l) (sym same) where
+        empty : (l : List (List ℕ)) → length l ≡ 0 → l ≡ []
+        empty [] h = refl
+        empty (x ∷ l) h = absurd (omega arith)
+
+  talk-then : (n : ℕ) (c : Scan) → judged r t ≡ whole n c → length (conversationOf r t) ≡ 16
+  unfolding conversationOf
+  talk-then n c w = elim (which (eqb (reads r) FIRST)) [
+    | inl h ↦ rw h (simp (length-take, length-drop) (omega (arith, judged-first r t n c w .forty)))
+    | inr h ↦ rw h (ok .talk)
+  ]
+
+  chosen-then : (n : ℕ) (c : Scan) → judged r t ≡ whole n c → ChosenBelow r (c .chosen)
+  unfolding judged
+  chosen-then n c w =
+      let (l1, (l2, (l3, (l4, (l5, (l6, (l7, (l8, rest)))))))) = ok .limits in
+      judge-keeps (λ s. ChosenBelow r (s .chosen)) r t (λ a b m p h. admit-chosen r t a b m p h) 0 (startOf r) (chainFor r t) n c l8 w
+
+  reads-token : (n : ℕ) (c : Scan) → judged r t ≡ whole n c → leb (r .used + length t) (room d) ≡ true → Sound (taken r t n c) (put d (r .used) t) (le ++ ms)
+  reads-token n c w fit =
+      let k = token-taken r t n c w in
+      let (inside, short) = room-kept (r .used) (length t) d fit in
+      let count = k .count in
+      let sizes : length (join ms) ≡ length t = ap length (k .joins) in
+      let long : 64 * n ≤ length t = omega (arith, framed-long (r .sequence) ms (k .framed)) in
+      let u = ok .used in
+      let q : r .sequence ≡ 0 + length le = let s = ok .sequence in omega arith in
+      record {
+        limits = limits-taken r (ok .limits) t n c (chosen-then n c w) long short;
+        ids = ok .ids;
+        talk = talk-then n c w;
+        framed = framed-more 0 le ms (ok .framed) (subst (λ (j : ℕ). FramedFrom j ms) q (k .framed));
+        used = let z = length-append (join le) (join ms) in let y = ap length (join-append le ms) in omega arith;
+        sequence = let z = length-append le ms in omega arith;
+        transcript = put-end d (r .used) t used-inside ∙ ap (λ (l : List ℕ). l ++ t) (ok .transcript) ∙ ap (λ (l : List ℕ). join le ++ l) (sym (k .joins)) ∙ sym (join-append le ms);
+      }
+
+  -- behind it, the two logs are the same
+  read-here : (n : ℕ) (c : Scan) → judged r t ≡ whole n c → InStep [] (le ++ ms) lf
+  read-here n c w = record {
+    shared = le ++ ms;
+    own = [];
+    beyond = [];
+    parts = sym (append-nil (le ++ ms));
+    written = refl;
+    begins = all-there n (token-taken r t n c w) ∙ sym (append-nil (le ++ ms));
+  }
+
+  reading-call : Goal read (readingToken r d t)
+  unfolding readingToken
+  reading-call =
+      let rows : List Row = limitRows r ++ (row 18 (mayRead r) ∷ row 1 (leb (length t) 65535) ∷ []) in
+      decide-out (Goal read) rows r d (finish r d t (judged r t))
+      (stopped read rows refl)
+      (λ g. token (judged r t) refl) where
+        token : (j : Judged) → judged r t ≡ j → Goal read (finish r d t j)
+        token (halted n p) w = unfold finish in stays read n p (judged-number r t n p w .0)
+        token (whole n c) w = unfold finish in elim (which (leb (r .used + length t) (room d))) [
+          | inr b ↦ rw b (stays read 16 0 (λ z. omega arith))
+          | inl b ↦ rw b (record { sound = reads-token n c w b; here-then = read-here n c w; there-then = more-there ms })
+        ]
+
+  -- 4. the choice
+
+  chooses : (m : ℕ) → Goal (choose m) (choosing r d m)
+  unfolding choosing
+  chooses m =
+      let last : List Row = row 17 (someLeft (named (ownOf r) (openTo r m))) ∷ [] in
+      let rows : List Row = limitRows r ++ (row 18 (mayChoose r) ∷ row 19 (below (r .count) m) ∷ last) in
+      decide-out (Goal (choose m)) rows r d (naming (named (ownOf r) (openTo r m)) (record { answer = answered 0 0 (chose r m); transcript = d }))
+      (stopped (choose m) rows refl)
+      (λ g.
+      let role : r .acceptor ≡ false = not-true _ (and-l (not (r .acceptor)) (eqb (r .stage) 2) (true-behind (limitRows r) (row 18 (mayChoose r)) (row 19 (below (r .count) m) ∷ last) g)) in
+      let marks : below (r .count) m ≡ true = true-behind (limitRows r ++ (row 18 (mayChoose r) ∷ [])) (row 19 (below (r .count) m)) last g in
+      let s : Sound (chose r m) d le = record {
+        limits = limits-chose r (ok .limits) m role marks;
+        ids = ok .ids;
+        talk = ok .talk;
+        framed = ok .framed;
+        used = ok .used;
+        sequence = ok .sequence;
+        transcript = ok .transcript;
+      } in
+      record { sound = rw (append-nil le) s; here-then = rw (append-nil le) here; there-then = rw (append-nil le) there })
+
+  goal : (k : Call) → Goal k (act e (f .turn) k)
+  unfolding act
+  goal (offer random) = offers random
+  goal (reply m random) = replies m random
+  goal (metadata id value) = tells id value
+  goal (exchange value) = exchanges value
+  goal (verify type value) = verifies type value
+  goal (alert code) = alerts code
+  goal read = reading-call
+  goal (choose m) = chooses m
+
+-- 5. a run
+
+record Both (w : World) (l : Logs) : Type 0 where
+  i : Sound (w .i .record-of) (w .i .transcript) (l .i)
+  a : Sound (w .a .record-of) (w .a .transcript) (l .a)
+  i-steps : InStep (w .i .turn) (l .i) (l .a)
+  a-steps : InStep (w .a .turn) (l .a) (l .i)
+
+both-next : (w : World) (l : Logs) → Both w l → (x : Bool) (k : Call) → Both (next w x k) (nextLogs w x k l)
+both-next w l b false k =
+    let g = goal (w .i) (w .a) (l .i) (l .a) (b .i) (b .a) (b .i-steps) (b .a-steps) k in
+    record { i = g .sound; a = b .a; i-steps = g .here-then; a-steps = g .there-then }
+both-next w l b true k =
+    let g = goal (w .a) (w .i) (l .a) (l .i) (b .a) (b .i) (b .a-steps) (b .i-steps) k in
+    record { i = b .i; a = g .sound; i-steps = g .there-then; a-steps = g .here-then }
+
+both-behind : (w : World) (l : Logs) → Both w l → (cs : List (Bool × Call)) → Both (ends w cs) (logsBehind w l cs)
+both-behind w l b [] = b
+both-behind w l b (c ∷ cs) = both-behind (next w (c .0) (c .1)) (nextLogs w (c .0) (c .1) l) (both-next w l b (c .0) (c .1)) cs
+
+sized-at : (l : List Id) → ((s : Id) → List·Memᴰ s l → length s ≡ 16) → (k : ℕ) → k < length l → length (getD l k []) ≡ 16
+sized-at [] h k low = absurd (omega arith)
+sized-at (x ∷ l) h zero low = h x (List·Memᴰ·head refl)
+sized-at (x ∷ l) h (suc k) low = sized-at l (λ s m. h s (List·Memᴰ·tail m)) k (omega arith)
+
+-- a fresh record
+sound-fresh : (a : Bool) (l : List Id) (v d : List ℕ) → ((s : Id) → List·Memᴰ s l → length s ≡ 16) → oneTo16 l ≡ true → length v ≡ 16 → Sound (fresh a (joinIds l) v) d []
+unfolding keptBelow
+sound-fresh a l v d sized ok talk =
+    let n = count-joined l sized in
+    let own = own-opened a l v sized in
+    let few = and-l (leb 1 (length l) && leb (length l) 16) (distinct l) ok in
+    record {
+      limits = (
+        ap (leb 1) n ∙ and-l (leb 1 (length l)) (leb (length l) 16) few,
+        (
+          ap (λ (k : ℕ). leb k 16) n ∙ and-r (leb 1 (length l)) (leb (length l) 16) few,
+          (
+            ap distinct own ∙ ok-distinct l ok,
+            (none, (none, (none, (kept a, (refl, (refl, (refl, (refl, tt)))))))),
+          ),
+        ),
+      );
+      ids = λ k low. ap (λ (i : List Id). length (getD i k [])) own ∙ sized-at l sized k (subst (λ (j : ℕ). k < j) n low);
+      talk = talk;
+      framed = tt;
+      used = refl;
+      sequence = refl;
+      transcript = refl;
+    } where
+      none : below (length (joinIds l) / 16) 0 ≡ true
+      none = lt-ltb 0 (2 ^ (length (joinIds l) / 16)) (pow-pos (length (joinIds l) / 16))
+
+      kept : (b : Bool) → (b || keptBelow (length (joinIds l) / 16) (fresh a (joinIds l) v .kept) 0) ≡ true
+      kept true = refl
+      kept false = refl
+
+counted : (r : Record) (d : List ℕ) (log : List (List ℕ)) → Sound r d log → Counted r d log
+counted r d log s = record {
+  inside = passing (limitRows r) (s .limits);
+  used = s .used;
+  sequence = s .sequence;
+  next-number = limits-counts r (s .limits) .1;
+  numbers = framed-order 0 log (s .framed);
+  transcript = s .transcript;
+} where
+  passing : (rows : List Row) → AllTrue rows → firstFailing rows ≡ 0
+  passing [] h = refl
+  passing (x ∷ xs) h = rw (h .0) (passing xs (h .1))
+
+pub every-run : EveryRun
+every-run o cs =
+    let b = both-behind (world o) (record { i = []; a = [] })
+    (record {
+      i = sound-fresh false (o .initiator) (o .conversation .0) (o .initiator-buffer) (o .initiator-sized) (o .initiator-ok) (o .conversation .1);
+      a = sound-fresh true (o .acceptor) zeroId (o .acceptor-buffer) (o .acceptor-sized) (o .acceptor-ok) refl;
+      i-steps = record { shared = []; own = []; beyond = []; parts = refl; written = refl; begins = refl };
+      a-steps = record { shared = []; own = []; beyond = []; parts = refl; written = refl; begins = refl };
+    }) cs in
+    record { initiator = counted _ _ _ (b .i); acceptor = counted _ _ _ (b .a); initiator-in-step = b .i-steps; acceptor-in-step = b .a-steps }

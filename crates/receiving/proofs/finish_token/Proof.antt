@@ -1,0 +1,54 @@
+-- Assumes nothing.
+use Rattle.receiving.proofs.Calls.{finishes}
+use borrow.Author.Needs.{needs}
+use Rattle.receiving.proofs.finish_token.Statement.{statement}
+use Rattle.receiving.proofs.finish_token.Tie as tie
+
+enum-known-j : tie.Need-enum-known-j
+enum-known-j c = search needs
+
+enum-told : tie.Need-enum-told
+enum-told c = search needs
+
+refuse-halted-requires : tie.Need-refuse-halted-requires
+refuse-halted-requires c κs = search needs
+
+returns : tie.Need-returns
+returns c = search finishes
+
+room-of-requires : tie.Need-room-of-requires
+room-of-requires c κs = search needs
+
+add-if1 : tie.Need-add-if1
+add-if1 c = search needs
+
+refuse-requires : tie.Need-refuse-requires
+refuse-requires c κs = search needs
+
+returns-2 : tie.Need-returns-2
+returns-2 c = search finishes
+
+accept-requires : tie.Need-accept-requires
+accept-requires c κs = (search finishes, search finishes)
+
+same-length : tie.Need-same-length
+same-length c = search needs
+
+returns-3 : tie.Need-returns-3
+returns-3 c = search finishes
+
+pub finish-token-spec : {M : Type 1} → statement M
+finish-token-spec =
+    tie.close
+    (tie.spec
+    enum-known-j
+    enum-told
+    refuse-halted-requires
+    returns
+    room-of-requires
+    add-if1
+    refuse-requires
+    returns-2
+    accept-requires
+    same-length
+    returns-3)

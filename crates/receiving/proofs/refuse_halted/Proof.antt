@@ -1,0 +1,27 @@
+-- Assumes nothing.
+use Rattle.receiving.proofs.Calls.{finishes}
+use borrow.Author.Needs.{needs}
+use Rattle.receiving.proofs.refuse_halted.Statement.{statement}
+use Rattle.receiving.proofs.refuse_halted.Tie as tie
+
+enum-known-j : tie.Need-enum-known-j
+enum-known-j c = search needs
+
+refuse-requires : tie.Need-refuse-requires
+refuse-requires c κs = search needs
+
+enum-told : tie.Need-enum-told
+enum-told c = search needs
+
+refuse-requires-2 : tie.Need-refuse-requires-2
+refuse-requires-2 c κs = search needs
+
+returns : tie.Need-returns
+returns c = search finishes
+
+returns-2 : tie.Need-returns-2
+returns-2 c = search finishes
+
+pub refuse-halted-spec : {M : Type 1} → statement M
+refuse-halted-spec =
+    tie.close (tie.spec enum-known-j refuse-requires enum-told refuse-requires-2 returns returns-2)

@@ -1,0 +1,120 @@
+// A peer's token, judged message by message.
+ghost use mathlib.Core.Path.{_≡_};
+ghost use Prim.Native.Nat.{_+_, _≤_};
+ghost use lib.ListN.{length};
+ghost use Rattle.octets.specs.Octets.{octets};
+ghost use Rattle.message.specs.Check.{said};
+ghost use Rattle.token.specs.Token.{chainOf};
+ghost use Rattle.conversation.specs.Reading.{startOf, conversationOf, judge, judged};
+ghost use Rattle.receiving.specs.Receiving.{Inside, admitted, judgedAs, cutBy, haltedBy};
+use super::Admission;
+use super::Judgement;
+use super::admit::admit_message;
+use conversation::Record;
+use conversation::Scan;
+use conversation::turns::reading_token;
+use message::Read;
+use token::read_next;
+use vector::MessageOffset;
+use vector::TokenPlace;
+use vector::in_token;
+
+// A message that 2 to 13 refuse, at its place.
+fn cut_at(m: Read, place: TokenPlace) -> Judgement
+    ensures { λ a. ⌜ judgedAs a ≡ cutBy (said m) (place .0) ⌝ }
+{
+    match m {
+        Read::Refused(n) => Judgement::Halted(n, place),
+        Read::Message(_) => Judgement::Halted(0, place),
+    }
+}
+
+// A message that 14 or 15 stop, at its place.
+fn halted_at(a: Admission, place: TokenPlace) -> Judgement
+    ensures { λ j. ⌜ judgedAs j ≡ haltedBy (admitted a) (place .0) ⌝ }
+{
+    match a {
+        Admission::Stop(n) => Judgement::Halted(n, place),
+        Admission::On(_) => Judgement::Halted(0, place),
+    }
+}
+
+// What is carried into the first message.
+fn start_of(r: Record) -> Scan
+    ensures { λ a. ⌜ a ≡ startOf r ⌝ }
+{
+    Scan {
+        position: 0,
+        named: 0,
+        asked: r.asked,
+        chosen: r.chosen,
+        heard: r.heard,
+    }
+}
+
+// The messages of a token, each by 2 to 13 and then by 14 and 15.
+fn judge_messages(r: Record, t: &[u8], conversation: &[u8]) -> Judgement
+    requires { ⌜ Inside r × (length (now t) ≤ 65535) ⌝ }
+    ensures { λ a. ⌜ judgedAs a ≡ judge r (now (t .entry)) 0 (startOf r) (chainOf (now (t .entry)) 0 0 (r .sequence) (now (conversation .entry))) ⌝ }
+{
+    let mut rest = t;
+    let mut place = TokenPlace(0);
+    let mut sequence = r.sequence as u64;
+    let mut scan = start_of(r);
+    let mut n: u32 = 0;
+    while 0 < rest.len() {
+        let m = read_next(rest, sequence, conversation);
+        let Read::Message(h) = m else {
+            return cut_at(m, place);
+        };
+        let length = h.length as usize;
+        let a = admit_message(r, t, scan, &rest[..length]);
+        let Admission::On(next) = a else {
+            return halted_at(a, place);
+        };
+        rest = &rest[length..];
+        place = in_token(place, MessageOffset(h.length));
+        sequence += 1;
+        scan = next;
+        n += 1;
+    }
+    Judgement::Whole(n, scan)
+}
+
+// The id at a place of a token.
+fn id_at(t: &[u8], at: usize) -> [u8; 16]
+    requires { ⌜ at + 16 ≤ length (now t) ⌝ }
+    ensures { λ a. ⌜ a ≡ octets 16 (now (t .entry)) at ⌝ }
+{
+    let mut id = [0u8; 16];
+    let mut j: usize = 0;
+    while j < 16 {
+        id[j] = t[at + j];
+        j += 1;
+    }
+    id
+}
+
+// The conversation that a token's messages must have: an acceptor takes it from the first.
+pub(crate) fn conversation_of(r: Record, t: &[u8]) -> [u8; 16]
+    requires { ⌜ 40 ≤ length (now t) ⌝ }
+    ensures { λ a. ⌜ a ≡ conversationOf r (now (t .entry)) ⌝ }
+{
+    let token = reading_token(r.acceptor, r.stage);
+    if token == 0 {
+        return id_at(t, 24);
+    }
+    r.conversation
+}
+
+// 2 to 15, message by message.
+pub(crate) fn judge_token(r: Record, t: &[u8]) -> Judgement
+    requires { ⌜ Inside r × (length (now t) ≤ 65535) ⌝ }
+    ensures { λ a. ⌜ judgedAs a ≡ judged r (now (t .entry)) ⌝ }
+{
+    if t.len() < 40 {
+        return Judgement::Halted(2, TokenPlace(0));
+    }
+    let conversation = conversation_of(r, t);
+    judge_messages(r, t, &conversation)
+}

@@ -1,0 +1,126 @@
+// Reading a peer's token into a conversation record.
+ghost use mathlib.Core.Path.{_≡_};
+ghost use Prim.Native.Nat.{_+_, _≤_, min};
+ghost use lib.ListN.{length};
+ghost use Rattle.conversation.specs.Outcomes.{Outcome, answered, refused, room};
+ghost use Rattle.conversation.specs.Reading.{finish, readingToken};
+ghost use Rattle.receiving.specs.Receiving.{Taking, Judging, judgedAs, refusalBefore, accepted, haltedAs};
+use conversation::Answer;
+use conversation::Record;
+use conversation::Scan;
+use conversation::limits::outside;
+use conversation::turns::may_read;
+use judge::judge_token;
+use put::put_octets;
+use taken::taken_record;
+use vector::TokenPlace;
+
+mod admit;
+mod fits;
+mod judge;
+mod named;
+mod taken;
+
+// What 14 and 15 say of a message: let through, with what is carried on, or stopped.
+pub enum Admission {
+    On(Scan),
+    Stop(u32),
+}
+
+// What 2 to 15 say of a token: the number of its messages, with what is carried out of it, or the first refusal with its place.
+pub enum Judgement {
+    Whole(u32, Scan),
+    Halted(u32, TokenPlace),
+}
+
+// 18 and 1: the first that refuses before any message is looked at, or 0.
+fn refusal_before(r: Record, size: usize) -> u32
+    ensures { λ a. ⌜ a ≡ refusalBefore r size ⌝ }
+{
+    let number = outside(r);
+    if number != 0 {
+        return number;
+    }
+    if may_read(r) {} else {
+        return 18;
+    }
+    if 65535 < size {
+        return 1;
+    }
+    0
+}
+
+// "Record and lent octets are unchanged."
+fn refuse(r: Record, number: u32, place: TokenPlace) -> Answer
+    ensures { λ a. ⌜ a ≡ answered number (place .0) r ⌝ }
+{
+    Answer {
+        refusal: number,
+        place,
+        messages: 0,
+        choice: [0u8; 16],
+        left: 0,
+        next: r,
+    }
+}
+
+// A token's refusal, at its place.
+fn refuse_halted(r: Record, j: Judgement) -> Answer
+    ensures { λ a. ⌜ a ≡ haltedAs r (judgedAs j) ⌝ }
+{
+    match j {
+        Judgement::Halted(number, place) => refuse(r, number, place),
+        Judgement::Whole(_, _) => refuse(r, 0, TokenPlace(0)),
+    }
+}
+
+// The transcript's room.
+fn room_of(size: usize) -> usize
+    ensures { λ a. ⌜ a ≡ min size 65535 ⌝ }
+{
+    if size < 65535 { size } else { 65535 }
+}
+
+// An accepted token: put at the transcript's end, and taken into the record.
+fn accept(r: Record, transcript: &mut [u8], t: &[u8], n: u32, c: Scan) -> Answer
+    requires { ⌜ Taking r (length (now t)) n × (r .used + length (now t) ≤ length (now transcript)) ⌝ }
+    ensures { λ a. ⌜ _≡_ {A = Outcome} (record { answer = a; transcript = now (transcript .exit) }) (accepted r (now (transcript .entry)) (now (t .entry)) n c) ⌝ }
+{
+    put_octets(transcript, r.used, t);
+    let next = taken_record(r, t, n, c);
+    Answer {
+        refusal: 0,
+        place: TokenPlace(0),
+        messages: n,
+        choice: [0u8; 16],
+        left: 0,
+        next,
+    }
+}
+
+// 16, after all messages.
+fn finish_token(r: Record, transcript: &mut [u8], t: &[u8], j: Judgement) -> Answer
+    requires { ⌜ Judging r (now t) j ⌝ }
+    ensures { λ a. ⌜ _≡_ {A = Outcome} (record { answer = a; transcript = now (transcript .exit) }) (finish r (now (transcript .entry)) (now (t .entry)) (judgedAs j)) ⌝ }
+{
+    let Judgement::Whole(n, c) = j else {
+        return refuse_halted(r, j);
+    };
+    let room = room_of(transcript.len());
+    if room < r.used + t.len() {
+        return refuse(r, 16, TokenPlace(0));
+    }
+    accept(r, transcript, t, n, c)
+}
+
+// A peer's token, read into the record and put at the transcript's end.
+pub fn read(r: Record, transcript: &mut [u8], token: &[u8]) -> Answer
+    ensures { λ a. ⌜ _≡_ {A = Outcome} (record { answer = a; transcript = now (transcript .exit) }) (readingToken r (now (transcript .entry)) (now (token .entry))) ⌝ }
+{
+    let number = refusal_before(r, token.len());
+    if number != 0 {
+        return refuse(r, number, TokenPlace(0));
+    }
+    let j = judge_token(r, token);
+    finish_token(r, transcript, token, j)
+}

@@ -1,0 +1,55 @@
+// The record behind an accepted token.
+ghost use mathlib.Core.Path.{_≡_};
+ghost use lib.ListN.{length};
+ghost use Rattle.conversation.specs.Reading.{taken};
+ghost use Rattle.receiving.specs.Receiving.{Taking, movedBy};
+use super::judge::conversation_of;
+use super::named::listed;
+use conversation::Record;
+use conversation::Scan;
+use conversation::turns::reading_token;
+use schemes::reply::kept_places;
+use schemes::set::common_set;
+use schemes::set::full_set;
+
+// What every accepted token changes: stage, turn, conversation, and what was carried out of it.
+fn moved(r: Record, t: &[u8], n: u32, c: Scan) -> Record
+    requires { ⌜ Taking r (length (now t)) n ⌝ }
+    ensures { λ a. ⌜ a ≡ movedBy r (now (t .entry)) n c ⌝ }
+{
+    let token = reading_token(r.acceptor, r.stage);
+    let conversation = conversation_of(r, t);
+    let mut next = r;
+    next.stage = token + 1;
+    next.position = 0;
+    next.conversation = conversation;
+    next.told = 0;
+    next.asked = c.asked;
+    next.chosen = c.chosen;
+    next.heard = c.heard;
+    next.sequence = r.sequence + n;
+    next.used = r.used + t.len();
+    next
+}
+
+// The record behind a token of n messages: the first gives the common schemes, the reply the kept places too.
+pub(crate) fn taken_record(r: Record, t: &[u8], n: u32, c: Scan) -> Record
+    requires { ⌜ Taking r (length (now t)) n ⌝ }
+    ensures { λ a. ⌜ a ≡ taken r (now (t .entry)) n c ⌝ }
+{
+    let token = reading_token(r.acceptor, r.stage);
+    let mut next = moved(r, t, n, c);
+    let list = r.list;
+    if token == 0 {
+        next.common = common_set(&list, r.count, listed(t));
+        return next;
+    }
+    if token == 1 {
+        let kept = kept_places(&list, r.count, listed(t));
+        let places = kept.places;
+        next.kept = places;
+        next.common = full_set(kept.count);
+        return next;
+    }
+    next
+}

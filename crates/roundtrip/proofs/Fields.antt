@@ -1,0 +1,77 @@
+-- Reading a number, or octets, off fields that are joined: once over the width and the place.
+-- Assumes nothing.
+use Prim.Native.Nat.{ℕ, zero, suc, _+_, _-_, _*_, _/_, _%_, _^_, _<_, _≤_}
+use mathlib.Core.Path.{_≡_, refl, sym, ap, _∙_}
+use mathlib.Core.Bool.{true}
+use mathlib.Core.List.{List, _∷_, _++_}
+use native.Mathlib.Nat.{zero-add, pow-succ'}
+use native.Mathlib.Omega.{arith}
+use lib.ListN.{length, take, drop, take-append-drop}
+use lib.Seq.{getD-drop, take-at, drop-at}
+use lib.IntN.{ℤ, pos, negsuc}
+use lib.Signed.{mag}
+use borrow.Author.Tests.{lt-ltb, le-ltb}
+use Rattle.octets.specs.Octets.{le, octets, signed32}
+use Rattle.octets.proofs.Le.{le-add}
+use Rattle.vector.specs.declared.Vector.{Vector}
+use Rattle.vector.specs.Vector.{extent, keepsRule, shown}
+use Rattle.put.specs.Put.{octetsOf, unsigned32, joined}
+use Rattle.put.proofs.Laws.{joined-append}
+
+le-drop : (k : ℕ) (s : List ℕ) (at : ℕ) → le k s at ≡ le k (drop at s) 0
+unfolding le
+le-drop zero s at = refl
+le-drop (suc k) s at = simp (← le-drop k s at, getD-drop, zero-add)
+
+le-first : (k y : ℕ) (s : List ℕ) → le (1 + k) (y ∷ s) 0 ≡ y + 256 * le k s 0
+le-first k y s = le-add 1 k (y ∷ s) 0 ∙ ap (λ (n : ℕ). le 1 (y ∷ s) 0 + 256 * n) (le-drop k (y ∷ s) 1) ∙ ap (λ (n : ℕ). n + 256 * le k s 0) one where
+  one : le 1 (y ∷ s) 0 ≡ y
+  one = unfold le in omega arith
+
+-- what is written as a number is read as that number
+pub le-octets : (k x : ℕ) (t : List ℕ) → x < 256 ^ k → le k (octetsOf k x ++ t) 0 ≡ x
+unfolding le
+le-octets zero x t h = omega arith
+le-octets (suc k) x t h =
+    let w : x / 256 < 256 ^ k = small in
+    let e : suc k ≡ 1 + k = omega arith in
+    ap (λ (n : ℕ). le n (x % 256 ∷ (octetsOf k (x / 256) ++ t)) 0) e ∙ le-first k (x % 256) (octetsOf k (x / 256) ++ t)
+    ∙ ap (λ (n : ℕ). x % 256 + 256 * n) (le-octets k (x / 256) t w)
+    ∙ whole where
+      small : x / 256 < 256 ^ k
+      small = let p : 256 ^ suc k ≡ 256 * 256 ^ k = pow-succ' 256 k in omega arith
+
+      whole : x % 256 + 256 * (x / 256) ≡ x
+      whole = omega arith
+
+pub drop-joined : (i : ℕ) (fs : List (List ℕ)) (at : ℕ) → length (joined (take i fs)) ≡ at → drop at (joined fs) ≡ joined (drop i fs)
+drop-joined i fs at e =
+    ap (λ (l : List (List ℕ)). drop at (joined l)) (sym (take-append-drop i fs)) ∙ ap (drop at) (joined-append (take i fs) (drop i fs))
+    ∙ drop-at (joined (take i fs)) (joined (drop i fs)) at e
+
+-- field i of fs, which stands at `at`
+module _ (i at : ℕ) (fs : List (List ℕ)) (starts : length (joined (take i fs)) ≡ at) where
+  pub number-at : (k x : ℕ) (rest : List (List ℕ)) → drop i fs ≡ octetsOf k x ∷ rest → x < 256 ^ k → le k (joined fs) at ≡ x
+  number-at k x rest e h =
+      le-drop k (joined fs) at ∙ ap (λ (l : List ℕ). le k l 0) (drop-joined i fs at starts ∙ ap joined e) ∙ le-octets k x (joined rest) h
+
+  pub octets-at : (f : List ℕ) (rest : List (List ℕ)) → drop i fs ≡ f ∷ rest → (n : ℕ) → length f ≡ n → octets n (joined fs) at ≡ f
+  octets-at f rest e n h = ap (take n) (drop-joined i fs at starts ∙ ap joined e) ∙ take-at f (joined rest) n h
+
+-- a vector that keeps its rule shows the octets where it lies
+pub shown-field : (header : ℕ) (m f : List ℕ) (v : Vector) → keepsRule header (length m) v ≡ true → octets (extent v) m (v .offset .0) ≡ f → shown header m v ≡ f
+unfolding shown
+shown-field header m f v k e = rw k e
+
+-- two's complement, there and back
+pub signed-back : (z : ℤ) → mag z < 2147483648 → signed32 (unsigned32 z) ≡ z
+unfolding signed32
+signed-back (pos n) f = simp (lt-ltb _ _ f)
+signed-back (negsuc n) f =
+    let a : 2147483648 ≤ 4294967295 - n = omega arith in
+    let b : 4294967295 - (4294967295 - n) ≡ n = omega arith in
+    simp (le-ltb _ _ a) (ap negsuc b)
+
+pub unsigned-small : (z : ℤ) → mag z < 2147483648 → unsigned32 z < 4294967296
+unsigned-small (pos n) f = omega arith
+unsigned-small (negsuc n) f = omega arith

@@ -1,0 +1,246 @@
+-- What reading finds behind the header of a written message, a layout at a time: its content, zero pads, vectors that keep their rule, and what
+-- they show.
+-- Assumes nothing.
+use Prim.Native.Nat.{ℕ, _+_, _*_, _/_, _%_, _<_, _≤_}
+use mathlib.Core.Path.{_≡_, refl, sym, ap, _∙_}
+use mathlib.Core.Bool.{true}
+use mathlib.Core.List.{List, [], _∷_, _++_}
+use native.Mathlib.Omega.{arith}
+use lib.ListN.{length, take, length-append}
+use lib.Signed.{mag}
+use Rattle.octets.specs.Octets.{le, octets}
+use Rattle.vector.specs.declared.Vector.{Vector}
+use Rattle.vector.specs.Vector.{keepsRule, part, shown}
+use Rattle.vector.proofs.Rule.{inside-rule}
+use Rattle.message.specs.Layout.{nego, exchange, verify, alert, padsOf, contentOf, vectorsOf, schemeVector, exchangeVector, checksumVector, alertVector, elementsAt, elementsOf}
+use Rattle.message.specs.Check.{padsZero, allKeepRule}
+use Rattle.message.specs.Show.{idsOf, schemesIn, nestedOf}
+use Rattle.message.proofs.Bodies.{zeros-le}
+use Rattle.put.specs.Put.{octetsOf, unsigned32, joined}
+use Rattle.encode.specs.declared.Heading.{Heading}
+use Rattle.encode.specs.Encode.{Offer, Payload, Checksum, Pulse, Contents, ofNego, ofExchange, ofVerify, ofAlert, sizeOf, headFields, bodyFields, octetVectorFields, encoded}
+use Rattle.roundtrip.specs.ReadBack.{contentRead, Shows}
+use Rattle.encode.proofs.Sizes.{length-encoded}
+use Rattle.roundtrip.proofs.Fields.{number-at, octets-at, drop-joined, shown-field, signed-back, unsigned-small}
+
+module _ (h : Heading) (id : length (h .conversation) ≡ 16) where
+  abbrev fields : Contents → List (List ℕ)
+  fields c = headFields h (sizeOf c) ++ bodyFields c
+
+  -- NEGO
+  module _ (o : Offer) (whole : length (o .random) ≡ 32) (ids : length (o .schemes) % 16 ≡ 0) (count : length (o .schemes) ≤ 1048560) where
+    nego-random : octets 32 (encoded h (ofNego o)) 40 ≡ o .random
+    unfolding encoded
+    nego-random = octets-at 6 40 (fields (ofNego o)) (simp (length-append, id)) (o .random) _ refl 32 whole
+
+    nego-version : le 8 (encoded h (ofNego o)) 72 ≡ 0
+    unfolding encoded
+    nego-version = number-at 7 72 (fields (ofNego o)) (simp (length-append, id, whole)) 8 0 _ refl (omega arith)
+
+    nego-offset : le 4 (encoded h (ofNego o)) 80 ≡ 96
+    unfolding encoded
+    nego-offset = number-at 8 80 (fields (ofNego o)) (simp (length-append, id, whole)) 4 96 _ refl (omega arith)
+
+    nego-count : le 2 (encoded h (ofNego o)) 84 ≡ length (o .schemes) / 16
+    unfolding encoded
+    nego-count = number-at 9 84 (fields (ofNego o)) (simp (length-append, id, whole)) 2 (length (o .schemes) / 16) _ refl (omega arith)
+
+    nego-pad : le 2 (encoded h (ofNego o)) 86 ≡ 0
+    unfolding encoded
+    nego-pad = number-at 10 86 (fields (ofNego o)) (simp (length-append, id, whole)) 2 0 _ refl (omega arith)
+
+    nego-extensions : le 4 (encoded h (ofNego o)) 88 ≡ 0
+    unfolding encoded
+    nego-extensions = number-at 11 88 (fields (ofNego o)) (simp (length-append, id, whole)) 4 0 _ refl (omega arith)
+
+    nego-no-extension : le 2 (encoded h (ofNego o)) 92 ≡ 0
+    unfolding encoded
+    nego-no-extension = number-at 12 92 (fields (ofNego o)) (simp (length-append, id, whole)) 2 0 _ refl (omega arith)
+
+    nego-pad-2 : le 2 (encoded h (ofNego o)) 94 ≡ 0
+    unfolding encoded
+    nego-pad-2 = number-at 13 94 (fields (ofNego o)) (simp (length-append, id, whole)) 2 0 _ refl (omega arith)
+
+    pub nego-content : contentOf nego (encoded h (ofNego o)) ≡ contentRead (ofNego o)
+    unfolding contentOf elementsAt
+    nego-content = simp (nego-random, nego-version, nego-offset, nego-count, nego-extensions, nego-no-extension)
+
+    pub nego-pads : padsZero (encoded h (ofNego o)) (padsOf nego) ≡ true
+    unfolding padsZero
+    nego-pads = simp (zeros-le 2 (encoded h (ofNego o)) 86, zeros-le 2 (encoded h (ofNego o)) 94, nego-pad, nego-pad-2)
+
+    nego-schemes : (n : ℕ) → n ≡ length (o .schemes) → octets n (encoded h (ofNego o)) 96 ≡ o .schemes
+    unfolding encoded
+    nego-schemes n e = octets-at 14 96 (fields (ofNego o)) (simp (length-append, id, whole)) (o .schemes) _ refl n (sym e)
+
+    nego-rule : keepsRule 96 (96 + length (o .schemes)) (record { size = 16; offset = record { 0 = 96 }; count = length (o .schemes) / 16 }) ≡ true
+    nego-rule = inside-rule _ _ _ (record { behind = omega arith; before = omega arith })
+
+    pub nego-rules : allKeepRule 96 (sizeOf (ofNego o)) (vectorsOf (contentRead (ofNego o))) ≡ true
+    unfolding allKeepRule vectorsOf keepsRule
+    nego-rules = rw nego-rule
+
+    pub nego-shows : Shows (ofNego o) (encoded h (ofNego o))
+    unfolding schemesIn
+    nego-shows =
+        let n = length-encoded h id (ofNego o) whole in
+        let v : schemeVector (encoded h (ofNego o)) ≡ record { size = 16; offset = record { 0 = 96 }; count = length (o .schemes) / 16 } = simp (nego-offset, nego-count) in
+        let e : shown 96 (encoded h (ofNego o)) (schemeVector (encoded h (ofNego o))) ≡ o .schemes =
+        rw v (shown-field 96 (encoded h (ofNego o)) (o .schemes) _ (rw n nego-rule) (nego-schemes (length (o .schemes) / 16 * 16) (omega arith))) in
+        (e, ap idsOf e)
+
+  -- the messages of header 64
+  module _ (p : Payload) (whole : length (p .scheme) ≡ 16) (size : length (p .value) ≤ 4294967231) where
+    exchange-scheme : octets 16 (encoded h (ofExchange p)) 40 ≡ p .scheme
+    unfolding encoded
+    exchange-scheme = octets-at 6 40 (fields (ofExchange p)) (simp (length-append, id)) (p .scheme) _ refl 16 whole
+
+    exchange-offset : le 4 (encoded h (ofExchange p)) 56 ≡ 64
+    unfolding encoded
+    exchange-offset = number-at 7 56 (fields (ofExchange p)) (simp (length-append, id, whole)) 4 64 _ refl (omega arith)
+
+    exchange-length : le 4 (encoded h (ofExchange p)) 60 ≡ length (p .value)
+    unfolding encoded
+    exchange-length = number-at 8 60 (fields (ofExchange p)) (simp (length-append, id, whole)) 4 (length (p .value)) _ refl (omega arith)
+
+    exchange-value : (n : ℕ) → n ≡ length (p .value) → octets n (encoded h (ofExchange p)) 64 ≡ p .value
+    unfolding encoded
+    exchange-value n e = octets-at 9 64 (fields (ofExchange p)) (simp (length-append, id, whole)) (p .value) _ refl n (sym e)
+
+    pub exchange-content : contentOf exchange (encoded h (ofExchange p)) ≡ contentRead (ofExchange p)
+    unfolding contentOf
+    exchange-content = simp (exchange-scheme, exchange-offset, exchange-length)
+
+    pub exchange-pads : padsZero (encoded h (ofExchange p)) (padsOf exchange) ≡ true
+    unfolding padsZero
+    exchange-pads = refl
+
+    exchange-rule : keepsRule 64 (64 + length (p .value)) (record { size = 1; offset = record { 0 = 64 }; count = length (p .value) }) ≡ true
+    exchange-rule = inside-rule _ _ _ (record { behind = omega arith; before = omega arith })
+
+    pub exchange-rules : allKeepRule 64 (sizeOf (ofExchange p)) (vectorsOf (contentRead (ofExchange p))) ≡ true
+    unfolding allKeepRule vectorsOf
+    exchange-rules = rw exchange-rule
+
+    pub exchange-shows : Shows (ofExchange p) (encoded h (ofExchange p))
+    exchange-shows =
+        let n = length-encoded h id (ofExchange p) whole in
+        let v : exchangeVector (encoded h (ofExchange p)) ≡ record { size = 1; offset = record { 0 = 64 }; count = length (p .value) } = simp (exchange-offset, exchange-length) in
+        rw v (shown-field 64 (encoded h (ofExchange p)) (p .value) _ (rw n exchange-rule) (exchange-value (length (p .value) * 1) (omega arith)))
+
+  -- VERIFY
+  module _ (k : Checksum) (whole : length (k .scheme) ≡ 16) (range : mag (k .type) < 2147483648) (size : length (k .value) ≤ 4294967215) where
+    verify-scheme : octets 16 (encoded h (ofVerify k)) 40 ≡ k .scheme
+    unfolding encoded
+    verify-scheme = octets-at 6 40 (fields (ofVerify k)) (simp (length-append, id)) (k .scheme) _ refl 16 whole
+
+    verify-header : le 4 (encoded h (ofVerify k)) 56 ≡ 20
+    unfolding encoded
+    verify-header = number-at 7 56 (fields (ofVerify k)) (simp (length-append, id, whole)) 4 20 _ refl (omega arith)
+
+    verify-checksum : le 4 (encoded h (ofVerify k)) 60 ≡ 1
+    unfolding encoded
+    verify-checksum = number-at 8 60 (fields (ofVerify k)) (simp (length-append, id, whole)) 4 1 _ refl (omega arith)
+
+    verify-type : le 4 (encoded h (ofVerify k)) 64 ≡ unsigned32 (k .type)
+    unfolding encoded
+    verify-type = number-at 9 64 (fields (ofVerify k)) (simp (length-append, id, whole)) 4 (unsigned32 (k .type)) _ refl (unsigned-small (k .type) range)
+
+    verify-offset : le 4 (encoded h (ofVerify k)) 68 ≡ 80
+    unfolding encoded
+    verify-offset = number-at 10 68 (fields (ofVerify k)) (simp (length-append, id, whole)) 4 80 _ refl (omega arith)
+
+    verify-length : le 4 (encoded h (ofVerify k)) 72 ≡ length (k .value)
+    unfolding encoded
+    verify-length = number-at 11 72 (fields (ofVerify k)) (simp (length-append, id, whole)) 4 (length (k .value)) _ refl (omega arith)
+
+    verify-pad : le 4 (encoded h (ofVerify k)) 76 ≡ 0
+    unfolding encoded
+    verify-pad = number-at 12 76 (fields (ofVerify k)) (simp (length-append, id, whole)) 4 0 _ refl (omega arith)
+
+    verify-value : (n : ℕ) → n ≡ length (k .value) → octets n (encoded h (ofVerify k)) 80 ≡ k .value
+    unfolding encoded
+    verify-value n e = octets-at 13 80 (fields (ofVerify k)) (simp (length-append, id, whole)) (k .value) _ refl n (sym e)
+
+    pub verify-content : contentOf verify (encoded h (ofVerify k)) ≡ contentRead (ofVerify k)
+    unfolding contentOf
+    verify-content = simp (verify-scheme, verify-header, verify-checksum, verify-type, verify-offset, verify-length)
+
+    pub verify-pads : padsZero (encoded h (ofVerify k)) (padsOf verify) ≡ true
+    unfolding padsZero
+    verify-pads = simp (zeros-le 4 (encoded h (ofVerify k)) 76, verify-pad)
+
+    verify-rule : keepsRule 80 (80 + length (k .value)) (record { size = 1; offset = record { 0 = 80 }; count = length (k .value) }) ≡ true
+    verify-rule = inside-rule _ _ _ (record { behind = omega arith; before = omega arith })
+
+    pub verify-rules : allKeepRule 80 (sizeOf (ofVerify k)) (vectorsOf (contentRead (ofVerify k))) ≡ true
+    unfolding allKeepRule vectorsOf
+    verify-rules = rw verify-rule
+
+    pub verify-shows : Shows (ofVerify k) (encoded h (ofVerify k))
+    verify-shows =
+        let n = length-encoded h id (ofVerify k) whole in
+        let v : checksumVector (encoded h (ofVerify k)) ≡ record { size = 1; offset = record { 0 = 80 }; count = length (k .value) } = simp (verify-offset, verify-length) in
+        (rw v (shown-field 80 (encoded h (ofVerify k)) (k .value) _ (rw n verify-rule) (verify-value (length (k .value) * 1) (omega arith))), signed-back (k .type) range)
+
+  -- ALERT, whose array and value are the same in every message
+  module _ (p : Pulse) (whole : length (p .scheme) ≡ 16) (range : mag (p .code) < 2147483648) where
+    alert-scheme : octets 16 (encoded h (ofAlert p)) 40 ≡ p .scheme
+    unfolding encoded
+    alert-scheme = octets-at 6 40 (fields (ofAlert p)) (simp (length-append, id)) (p .scheme) _ refl 16 whole
+
+    alert-code : le 4 (encoded h (ofAlert p)) 56 ≡ unsigned32 (p .code)
+    unfolding encoded
+    alert-code = number-at 7 56 (fields (ofAlert p)) (simp (length-append, id, whole)) 4 (unsigned32 (p .code)) _ refl (unsigned-small (p .code) range)
+
+    alert-offset : le 4 (encoded h (ofAlert p)) 60 ≡ 72
+    unfolding encoded
+    alert-offset = number-at 8 60 (fields (ofAlert p)) (simp (length-append, id, whole)) 4 72 _ refl (omega arith)
+
+    alert-count : le 2 (encoded h (ofAlert p)) 64 ≡ 1
+    unfolding encoded
+    alert-count = number-at 9 64 (fields (ofAlert p)) (simp (length-append, id, whole)) 2 1 _ refl (omega arith)
+
+    alert-pad : le 2 (encoded h (ofAlert p)) 66 ≡ 0
+    unfolding encoded
+    alert-pad = number-at 10 66 (fields (ofAlert p)) (simp (length-append, id, whole)) 2 0 _ refl (omega arith)
+
+    alert-pad-2 : le 4 (encoded h (ofAlert p)) 68 ≡ 0
+    unfolding encoded
+    alert-pad-2 = number-at 11 68 (fields (ofAlert p)) (simp (length-append, id, whole)) 4 0 _ refl (omega arith)
+
+    alert-array : octets 12 (encoded h (ofAlert p)) 72 ≡ joined (octetsOf 4 1 ∷ octetVectorFields 84 8)
+    unfolding encoded
+    alert-array = ap (take 12) (drop-joined 12 (fields (ofAlert p)) 72 (simp (length-append, id, whole)))
+
+    alert-value : octets 8 (encoded h (ofAlert p)) 84 ≡ joined (octetsOf 4 8 ∷ octetsOf 4 1 ∷ [])
+    unfolding encoded
+    alert-value = ap (take 8) (drop-joined 15 (fields (ofAlert p)) 84 (simp (length-append, id, whole)))
+
+    alert-vector : alertVector (encoded h (ofAlert p)) ≡ record { size = 12; offset = record { 0 = 72 }; count = 1 }
+    alert-vector = simp (alert-offset, alert-count)
+
+    alert-elements : elementsOf (part (encoded h (ofAlert p)) (alertVector (encoded h (ofAlert p)))) ≡ record { type = 1; value = record { size = 1; offset = record { 0 = 84 }; count = 8 } } ∷ []
+    alert-elements = ap (λ (v : Vector). elementsOf (part (encoded h (ofAlert p)) v)) alert-vector ∙ ap elementsOf alert-array ∙ read-array where
+      read-array : elementsOf (joined (octetsOf 4 1 ∷ octetVectorFields 84 8)) ≡ record { type = 1; value = record { size = 1; offset = record { 0 = 84 }; count = 8 } } ∷ []
+      read-array = unfold elementsAt le in refl
+
+    pub alert-content : contentOf alert (encoded h (ofAlert p)) ≡ contentRead (ofAlert p)
+    unfolding contentOf
+    alert-content = let a = alert-scheme in let b = alert-code in let v = alert-vector in let e = alert-elements in cc
+
+    pub alert-pads : padsZero (encoded h (ofAlert p)) (padsOf alert) ≡ true
+    unfolding padsZero
+    alert-pads = simp (zeros-le 2 (encoded h (ofAlert p)) 66, zeros-le 4 (encoded h (ofAlert p)) 68, alert-pad, alert-pad-2)
+
+    pub alert-rules : allKeepRule 72 (sizeOf (ofAlert p)) (vectorsOf (contentRead (ofAlert p))) ≡ true
+    unfolding allKeepRule vectorsOf keepsRule
+    alert-rules = refl
+
+    pub alert-shows : Shows (ofAlert p) (encoded h (ofAlert p))
+    unfolding nestedOf keepsRule le
+    alert-shows =
+        let n = length-encoded h id (ofAlert p) whole in
+        let e : shown 72 (encoded h (ofAlert p)) (alertVector (encoded h (ofAlert p))) ≡ joined (octetsOf 4 1 ∷ octetVectorFields 84 8) =
+        rw alert-vector (shown-field 72 (encoded h (ofAlert p)) _ _ (rw n) alert-array) in
+        (e, (simp e (shown-field 72 (encoded h (ofAlert p)) _ _ (rw n) alert-value), signed-back (p .code) range))

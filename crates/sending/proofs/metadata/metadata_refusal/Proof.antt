@@ -1,0 +1,45 @@
+-- Assumes nothing.
+use Prim.Native.Nat.{ℕ}
+use mathlib.Core.Path.{_≡_}
+use lib.ListN.{length}
+use borrow.Author.Needs.{needs, length-unmapped}
+use Rattle.sending.proofs.Tellings.{meta-few, metadata-refusals}
+use Rattle.sending.proofs.metadata.metadata_refusal.Statement.{statement}
+use Rattle.sending.proofs.metadata.metadata_refusal.Tie as tie
+
+stage-refusal-requires : tie.Need-stage-refusal-requires
+stage-refusal-requires c κs = search needs
+
+returns : tie.Need-returns
+returns c = search (needs, metadata-refusals)
+
+returns-2 : tie.Need-returns-2
+returns-2 c = search (needs, metadata-refusals)
+
+metadata-allowed-requires : tie.Need-metadata-allowed-requires
+metadata-allowed-requires c κs = meta-few _ _ (c .before .before .stage-refusal .ensures) (c .before .if1 .left)
+
+returns-3 : tie.Need-returns-3
+returns-3 c = search (needs, metadata-refusals)
+
+has-room-requires : tie.Need-has-room-requires
+has-room-requires c κs = search needs
+
+returns-4 : tie.Need-returns-4
+returns-4 c = search (needs, metadata-refusals)
+
+returns-5 : tie.Need-returns-5
+returns-5 c = search (needs, metadata-refusals)
+
+pub metadata-refusal-spec : {M : Type 1} → statement M
+metadata-refusal-spec =
+    tie.close
+    (tie.spec
+    stage-refusal-requires
+    returns
+    returns-2
+    metadata-allowed-requires
+    returns-3
+    has-room-requires
+    returns-4
+    returns-5)

@@ -1,0 +1,39 @@
+// ALERT.
+ghost use mathlib.Core.Path.{_≡_};
+ghost use Rattle.encode.specs.Encode.{ofAlert};
+ghost use Rattle.conversation.specs.Turns.{ALERT};
+ghost use Rattle.conversation.specs.Outcomes.{Outcome};
+ghost use Rattle.conversation.specs.Writing.{writingAlert};
+ghost use Rattle.sending.specs.Ready.{Ready, Appended};
+use super::ALERT;
+use super::after_message;
+use super::answer;
+use super::heading_of;
+use super::scheme::named_refusal;
+use super::scheme::scheme_id;
+use conversation::Answer;
+use conversation::Record;
+use encode::alert::write;
+
+// An ALERT at the transcript's end.
+fn append_alert(r: Record, transcript: &mut [u8], id: [u8; 16], code: i32) -> Record
+    requires { ⌜ Ready r (now transcript) 92 ⌝ }
+    ensures { λ a. ⌜ Appended r (now (transcript .entry)) ALERT (ofAlert (record { scheme = id; code = code })) (now (transcript .exit)) a ⌝ }
+{
+    let heading = heading_of(r, ALERT);
+    write(transcript, r.used, heading, id, code);
+    after_message(r, ALERT, 92)
+}
+
+// Writes an ALERT of the chosen scheme: an error code, with a pulse.
+pub fn write_alert(r: Record, transcript: &mut [u8], code: i32) -> Answer
+    ensures { λ a. ⌜ _≡_ {A = Outcome} (record { answer = a; transcript = now (transcript .exit) }) (writingAlert r (now (transcript .entry)) code) ⌝ }
+{
+    let n = named_refusal(r, ALERT, 92, 0, transcript.len());
+    if n != 0 {
+        return answer(n, r);
+    }
+    let id = scheme_id(r);
+    let next = append_alert(r, transcript, id, code);
+    answer(0, next)
+}

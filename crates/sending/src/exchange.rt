@@ -1,0 +1,58 @@
+// AP_REQUEST and CHALLENGE.
+ghost use mathlib.Core.Path.{_≡_};
+ghost use Rattle.encode.specs.Encode.{ofExchange};
+ghost use Rattle.conversation.specs.Outcomes.{Outcome};
+ghost use Rattle.conversation.specs.Writing.{askedBy, writingExchange};
+ghost use Rattle.sending.specs.Ready.{PayloadReady, Appended};
+use super::EXCHANGE;
+use super::after_message;
+use super::answer;
+use super::heading_of;
+use super::scheme::named_refusal;
+use super::scheme::scheme_id;
+use conversation::Answer;
+use conversation::Record;
+use conversation::turns::writing_token;
+use encode::exchange::write;
+
+// An exchange or metadata at the transcript's end.
+pub(crate) fn append_payload(
+    r: Record,
+    transcript: &mut [u8],
+    kind: u8,
+    id: [u8; 16],
+    value: &[u8],
+) -> Record
+    requires { ⌜ PayloadReady r (now transcript) kind (now value) ⌝ }
+    ensures { λ a. ⌜ Appended r (now (transcript .entry)) kind (ofExchange (record { scheme = id; value = now (value .entry) })) (now (transcript .exit)) a ⌝ }
+{
+    let heading = heading_of(r, kind);
+    let n = value.len();
+    write(transcript, r.used, heading, id, value);
+    after_message(r, kind, 64 + n)
+}
+
+// Where an initiator's AP_REQUEST of the first token is kept: it has named place 0.
+fn asked_by(r: Record) -> usize
+    ensures { λ a. ⌜ a ≡ askedBy r ⌝ }
+{
+    if writing_token(r.acceptor, r.stage) == 0 {
+        return 0;
+    }
+    r.asked
+}
+
+// Writes an exchange of the rule's scheme.
+pub fn write_exchange(r: Record, transcript: &mut [u8], value: &[u8]) -> Answer
+    ensures { λ a. ⌜ _≡_ {A = Outcome} (record { answer = a; transcript = now (transcript .exit) }) (writingExchange r (now (transcript .entry)) (now (value .entry))) ⌝ }
+{
+    let n = named_refusal(r, EXCHANGE, 64, value.len(), transcript.len());
+    if n != 0 {
+        return answer(n, r);
+    }
+    let id = scheme_id(r);
+    let asked = asked_by(r);
+    let mut next = append_payload(r, transcript, EXCHANGE, id, value);
+    next.asked = asked;
+    answer(0, next)
+}

@@ -1,0 +1,85 @@
+// The rule's scheme of an exchange, VERIFY or ALERT.
+ghost use mathlib.Core.Path.{_≡_};
+ghost use Prim.Native.Nat.{_+_, _≤_, _<_};
+ghost use Rattle.conversation.specs.State.{schemeAt};
+ghost use Rattle.conversation.specs.Writing.{schemeNow, firstOfReply, schemeAllowed};
+ghost use Rattle.sending.specs.Refusals.{namedRefusal};
+ghost use Rattle.sending.specs.Ready.{Bounded};
+use super::has_room;
+use super::stage_refusal;
+use conversation::Record;
+use conversation::turns::writing_token;
+use octets::same_id;
+use schemes::choosing::choose_own;
+use schemes::list::id_of;
+
+// The own place of the scheme that the next message names.
+fn scheme_now(r: Record) -> usize
+    ensures { λ a. ⌜ a ≡ schemeNow r ⌝ }
+{
+    let token = writing_token(r.acceptor, r.stage);
+    if token == 0 {
+        return 0;
+    }
+    if token == 1 {
+        return r.asked;
+    }
+    r.chosen
+}
+
+// Whether the AP_REQUEST's scheme stands first in the reply.
+fn first_of_reply(r: Record) -> bool
+    requires { ⌜ Bounded r ⌝ }
+    ensures { λ a. ⌜ a ≡ firstOfReply r ⌝ }
+{
+    if r.count <= r.asked {
+        return false;
+    }
+    let left = choose_own(r.common, r.marks);
+    if left.left == 0 {
+        return false;
+    }
+    let list = r.list;
+    let asked = id_of(list, r.asked as u32);
+    let first = id_of(list, left.place);
+    same_id(&asked, &first)
+}
+
+// 15, where the scheme follows from the rule.
+fn scheme_allowed(r: Record) -> bool
+    requires { ⌜ Bounded r ⌝ }
+    ensures { λ a. ⌜ a ≡ schemeAllowed r ⌝ }
+{
+    let token = writing_token(r.acceptor, r.stage);
+    if token == 1 {
+        return first_of_reply(r);
+    }
+    scheme_now(r) < r.count
+}
+
+// The id of that scheme.
+pub(crate) fn scheme_id(r: Record) -> [u8; 16]
+    requires { ⌜ (r .count ≤ 16) × (schemeNow r < r .count) ⌝ }
+    ensures { λ a. ⌜ a ≡ schemeAt r (schemeNow r) ⌝ }
+{
+    let place = scheme_now(r);
+    let list = r.list;
+    id_of(list, place as u32)
+}
+
+// The first refusal of a message of n octets behind its header, or 0.
+pub(crate) fn named_refusal(r: Record, kind: u8, header: usize, n: usize, len: usize) -> u32
+    ensures { λ a. ⌜ a ≡ namedRefusal r kind (header + n) len ⌝ }
+{
+    let stage = stage_refusal(r, kind);
+    if stage != 0 {
+        return stage;
+    }
+    if scheme_allowed(r) {} else {
+        return 15;
+    }
+    if has_room(r.used, header, n, len) {} else {
+        return 16;
+    }
+    0
+}
