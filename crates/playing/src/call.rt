@@ -44,6 +44,11 @@ fn random(s: &[u8], d: &mut [u8]) -> bool {
     }
 }
 
+// MARKS as a set of 16 bits: four digits are no more.
+fn bits(marks: u32) -> u16 {
+    (marks % 65536) as u16
+}
+
 // A line that is none of the calls: nothing is called.
 fn bad(fd: i32, e: End) -> End {
     show::bad_line(fd);
@@ -97,7 +102,7 @@ fn reply(fd: i32, line: &[u8], at: usize, e: End, transcript: &mut [u8]) -> End 
     if random(rest(line, behind(line, at)), &mut value) {} else {
         return bad(fd, e);
     }
-    let a = write_reply(e.record, transcript, (m % 65536) as u16, value);
+    let a = write_reply(e.record, transcript, bits(m), value);
     replied(fd, e, a, transcript)
 }
 
@@ -170,7 +175,7 @@ fn choice(fd: i32, line: &[u8], at: usize, e: End) -> End {
     let Number::Is(m) = marks else {
         return bad(fd, e);
     };
-    let a = choose(e.record, (m % 65536) as u16);
+    let a = choose(e.record, bits(m));
     if a.refusal != 0 {
         return refused(fd, e, a);
     }

@@ -194,8 +194,9 @@ fn play_lines(fd: i32, script: &[u8], ours: &mut [u8], theirs: &mut [u8], lent: 
     let mut from = 0;
     while from < script.len() {
         let end = find(script, from, script.len(), b'\n');
-        ends = play_line(fd, part(script, from, end), ends, ours, theirs, lent);
+        let line = part(script, from, end);
         from = end + 1;
+        ends = play_line(fd, line, ends, ours, theirs, lent);
     }
     show::used(fd, used(ends.initiator), used(ends.acceptor));
 }
