@@ -1,0 +1,265 @@
+/*
+ * Runs MIT's SPNEGO with NEGOEX inside, over the mechanisms of mech.c.
+ *
+ *   drive converse DIR OWN PEER     both ends in one process: the initiator lists OWN, the acceptor PEER
+ *   drive offer FILE OWN REPLY      hands the NEGOEX token in FILE to an acceptor that lists OWN, as its first token;
+ *                                   the SPNEGO token that carried it goes to FILE with `.spnego` behind the name,
+ *                                   and the NEGOEX token of the answer, if there is one, to REPLY
+ *
+ * Lists are letters: A to F for the mechanisms 1 to 6. `converse` writes each turn NN of end i or a as DIR/NN-E.spnego, and
+ * the NEGOEX token in it, if there is one, as DIR/NN-E.negoex. Both print one line a call: the end, the call's number,
+ * the routine error, whether more is to come, the minor status and the library's text for it.
+ */
+#include <stdio.h>
+#include <stdlib.h>
+#include <string.h>
+#include <gssapi/gssapi.h>
+#include <gssapi/gssapi_ext.h>
+
+#define LIMIT 200000
+
+static unsigned char negoex_elements[] = { 0x2B, 0x06, 0x01, 0x04, 0x01, 0x82, 0x37, 0x02, 0x02, 0x1E };
+static unsigned char spnego_elements[] = { 0x2B, 0x06, 0x01, 0x05, 0x05, 0x02 };
+static gss_OID_desc spnego = { sizeof spnego_elements, spnego_elements };
+
+static void fail(const char *what)
+{
+    fprintf(stderr, "drive: %s\n", what);
+    exit(2);
+}
+
+static void save(const char *path, const void *octets, size_t length)
+{
+    FILE *file = fopen(path, "wb");
+    if (file == NULL || fwrite(octets, 1, length, file) != length || fclose(file) != 0)
+        fail("a file cannot be written");
+}
+
+static size_t load(const char *path, unsigned char *octets, size_t room)
+{
+    FILE *file = fopen(path, "rb");
+    size_t length;
+    if (file == NULL)
+        fail("a file cannot be opened");
+    length = fread(octets, 1, room, file);
+    if (ferror(file) || length == room)
+        fail("a file cannot be read, or is too long");
+    fclose(file);
+    return length;
+}
+
+/* Puts a DER element's tag and length before the octets that end at `end`; `start` is where they begin. */
+static unsigned char *before(unsigned char *start, unsigned char *end, unsigned char tag)
+{
+    size_t length = (size_t)(end - start);
+    if (length < 128) {
+        *--start = (unsigned char)length;
+    } else {
+        int octets = 0;
+        for (; length > 0; length >>= 8, octets++)
+            *--start = (unsigned char)length;
+        *--start = (unsigned char)(0x80 + octets);
+    }
+    *--start = tag;
+    return start;
+}
+
+/* A NegTokenInit in its GSS-API frame, with NEGOEX as its one mechanism and `token` as the mechanism's token. */
+static gss_buffer_desc wrap(const unsigned char *token, size_t length)
+{
+    static unsigned char room[LIMIT + 100];
+    unsigned char *end = room + sizeof room, *start = end - length, *list;
+    gss_buffer_desc made;
+    memcpy(start, token, length);
+    start = before(before(start, end, 0x04), end, 0xA2);
+    list = start;
+    start -= sizeof negoex_elements;
+    memcpy(start, negoex_elements, sizeof negoex_elements);
+    start = before(before(before(start, list, 0x06), list, 0x30), list, 0xA0);
+    start = before(before(start, end, 0x30), end, 0xA0);
+    list = start;
+    start -= spnego.length;
+    memcpy(start, spnego_elements, spnego.length);
+    start = before(before(start, list, 0x06), end, 0x60);
+    made.value = start;
+    made.length = (size_t)(end - start);
+    return made;
+}
+
+struct span { const unsigned char *at; size_t length; };
+
+/* Takes the first element off `rest`; answers its tag, and its content in `inside`; 0 where there is none. */
+static int element(struct span *rest, struct span *inside)
+{
+    size_t length, header = 2;
+    int tag;
+    if (rest->length < 2)
+        return 0;
+    tag = rest->at[0];
+    length = rest->at[1];
+    if (length >= 128) {
+        size_t octets = length - 128;
+        if (octets > 4 || rest->length < 2 + octets)
+            return 0;
+        for (length = 0; octets > 0; octets--)
+            length = length * 256 + rest->at[header++];
+    }
+    if (length > rest->length - header)
+        return 0;
+    inside->at = rest->at + header;
+    inside->length = length;
+    rest->at += header + length;
+    rest->length -= header + length;
+    return tag;
+}
+
+/* The token in element 2 of a NegTokenInit or a NegTokenResp; its length is 0 where there is none. */
+static struct span unwrap(gss_buffer_t spnego_token)
+{
+    struct span rest = { spnego_token->value, spnego_token->length }, inside, none = { NULL, 0 };
+    int tag = element(&rest, &inside);
+    if (tag == 0x60) {
+        rest = inside;
+        if (element(&rest, &inside) != 0x06)
+            return none;
+        tag = element(&rest, &inside);
+    }
+    rest = inside;
+    if ((tag != 0xA0 && tag != 0xA1) || element(&rest, &inside) != 0x30)
+        return none;
+    rest = inside;
+    while ((tag = element(&rest, &inside)) != 0)
+        if (tag == 0xA2) {
+            rest = inside;
+            return element(&rest, &inside) == 0x04 ? inside : none;
+        }
+    return none;
+}
+
+static int is_negoex(struct span token)
+{
+    return token.length >= 8 && memcmp(token.at, "NEGOEXTS", 8) == 0;
+}
+
+/* The mechanisms that the letters of `list` name. */
+static gss_OID_set mechanisms(const char *list)
+{
+    unsigned char arc[] = { 0x2B, 0x06, 0x01, 0x04, 0x01, 0x81, 0xFD, 0x59, 0x01, 0 };
+    gss_OID_desc mech = { sizeof arc, arc };
+    gss_OID_set set;
+    OM_uint32 minor;
+    if (gss_create_empty_oid_set(&minor, &set) != GSS_S_COMPLETE)
+        fail("no set of mechanisms");
+    for (; *list != '\0'; list++) {
+        arc[sizeof arc - 1] = (unsigned char)(*list - 'A' + 1);
+        if (gss_add_oid_set_member(&minor, &mech, &set) != GSS_S_COMPLETE)
+            fail("no mechanism of this letter");
+    }
+    return set;
+}
+
+static gss_cred_id_t credential(const char *list, int usage)
+{
+    gss_OID_set_desc wanted = { 1, &spnego };
+    gss_OID_set own = mechanisms(list);
+    gss_cred_id_t made;
+    OM_uint32 minor;
+    if (gss_acquire_cred(&minor, GSS_C_NO_NAME, GSS_C_INDEFINITE, &wanted, usage, &made, NULL, NULL) != GSS_S_COMPLETE)
+        fail("no credential: is GSS_MECH_CONFIG set?");
+    if (gss_set_neg_mechs(&minor, made, own) != GSS_S_COMPLETE)
+        fail("the list of mechanisms was not taken");
+    gss_release_oid_set(&minor, &own);
+    return made;
+}
+
+static void report(char end, int call, OM_uint32 major, OM_uint32 minor)
+{
+    OM_uint32 ignored, more = 0;
+    gss_buffer_desc text = { 0, NULL };
+    const char *state = GSS_ERROR(major) ? "error" : major & GSS_S_CONTINUE_NEEDED ? "goes-on" : "done";
+    if (minor != 0)
+        gss_display_status(&ignored, minor, GSS_C_MECH_CODE, &spnego, &more, &text);
+    printf("%c %d routine=%u %s minor=%u %.*s\n", end, call, (unsigned)GSS_ROUTINE_ERROR(major) >> 16, state, (unsigned)minor,
+           (int)text.length, text.value == NULL ? "" : (char *)text.value);
+    gss_release_buffer(&ignored, &text);
+}
+
+static void keep(const char *folder, int turn, char end, gss_buffer_t token)
+{
+    char path[4096];
+    struct span inner = unwrap(token);
+    snprintf(path, sizeof path, "%s/%02d-%c.spnego", folder, turn, end);
+    save(path, token->value, token->length);
+    if (is_negoex(inner)) {
+        snprintf(path, sizeof path, "%s/%02d-%c.negoex", folder, turn, end);
+        save(path, inner.at, inner.length);
+    }
+}
+
+static OM_uint32 initiate(gss_cred_id_t own, gss_ctx_id_t *context, gss_name_t target, gss_buffer_t in, gss_buffer_t out, int turn)
+{
+    OM_uint32 minor, major;
+    major = gss_init_sec_context(&minor, own, context, target, &spnego, GSS_C_MUTUAL_FLAG | GSS_C_INTEG_FLAG, 0,
+                                 GSS_C_NO_CHANNEL_BINDINGS, in, NULL, out, NULL, NULL);
+    report('i', turn, major, minor);
+    return major;
+}
+
+static OM_uint32 accept_token(gss_cred_id_t own, gss_ctx_id_t *context, gss_buffer_t in, gss_buffer_t out, int turn)
+{
+    OM_uint32 minor, major;
+    major = gss_accept_sec_context(&minor, context, own, in, GSS_C_NO_CHANNEL_BINDINGS, NULL, NULL, out, NULL, NULL, NULL);
+    report('a', turn, major, minor);
+    return major;
+}
+
+static int converse(const char *folder, const char *own, const char *peer)
+{
+    gss_cred_id_t initiator = credential(own, GSS_C_INITIATE), acceptor = credential(peer, GSS_C_ACCEPT);
+    gss_ctx_id_t contexts[2] = { GSS_C_NO_CONTEXT, GSS_C_NO_CONTEXT };
+    gss_buffer_desc tokens[2] = { { 0, NULL }, { 0, NULL } }, service = { 12, "host@example" };
+    OM_uint32 minor, majors[2] = { GSS_S_CONTINUE_NEEDED, GSS_S_CONTINUE_NEEDED };
+    gss_name_t target;
+    if (gss_import_name(&minor, &service, GSS_C_NT_HOSTBASED_SERVICE, &target) != GSS_S_COMPLETE)
+        fail("no name");
+    for (int turn = 0; turn < 100; turn++) {
+        int end = turn % 2;
+        gss_buffer_t in = &tokens[1 - end], out = &tokens[end];
+        gss_release_buffer(&minor, out);
+        if (majors[end] != GSS_S_CONTINUE_NEEDED || (turn > 0 && in->length == 0))
+            break;
+        majors[end] = end == 0 ? initiate(initiator, &contexts[0], target, in, out, turn)
+                               : accept_token(acceptor, &contexts[1], in, out, turn);
+        if (out->length > 0)
+            keep(folder, turn, end == 0 ? 'i' : 'a', out);
+    }
+    return majors[0] == GSS_S_COMPLETE && majors[1] == GSS_S_COMPLETE ? 0 : 1;
+}
+
+static int offer(const char *path, const char *own, const char *reply)
+{
+    static unsigned char token[LIMIT];
+    char beside[4096];
+    gss_cred_id_t acceptor = credential(own, GSS_C_ACCEPT);
+    gss_ctx_id_t context = GSS_C_NO_CONTEXT;
+    gss_buffer_desc in = wrap(token, load(path, token, sizeof token)), out = { 0, NULL };
+    struct span inner;
+    OM_uint32 major;
+    snprintf(beside, sizeof beside, "%s.spnego", path);
+    save(beside, in.value, in.length);
+    major = accept_token(acceptor, &context, &in, &out, 0);
+    inner = unwrap(&out);
+    if (is_negoex(inner))
+        save(reply, inner.at, inner.length);
+    return GSS_ERROR(major) ? 1 : 0;
+}
+
+int main(int count, char **words)
+{
+    if (count == 5 && strcmp(words[1], "converse") == 0)
+        return converse(words[2], words[3], words[4]);
+    if (count == 5 && strcmp(words[1], "offer") == 0)
+        return offer(words[2], words[3], words[4]);
+    fail("usage: drive converse DIR OWN PEER | drive offer FILE OWN REPLY");
+    return 2;
+}

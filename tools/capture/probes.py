@@ -1,0 +1,134 @@
+#!/usr/bin/python3
+"""Writes the probe tokens: one file a token, NAME.negoex, into the folder that is given.
+
+`PROBES` is the list that the table of docs/PEERS.md is made from: a name, what the token is, and the environment of the
+mechanism (see mech.c) at the acceptor that is asked about it. The layouts are those of document 01.
+"""
+import hashlib
+import hmac
+import struct
+import sys
+
+A = bytes.fromhex('33221100554477668899AABBCCDDEEFF')
+CONVERSATION = bytes(range(0x41, 0x51))
+RANDOM = bytes(range(32))
+KEY = bytes(range(1, 17))                      # that of mech.c, for CAPTURE_ETYPE=23
+MECHANISM = bytes.fromhex('2B0601040181FD590101')
+FIRST = b'T00'
+AP_TOKEN = bytes([0x60, 2 + len(MECHANISM) + len(FIRST), 0x06, len(MECHANISM)]) + MECHANISM + FIRST
+
+
+def heading(kind, sequence, header, length, conversation=CONVERSATION, signature=b'NEGOEXTS'):
+    return signature + struct.pack('<IIII', kind, sequence, header, length) + conversation
+
+
+def nego(schemes=(96, 1), extensions=(0, 0), payload=A, random=RANDOM, version=0, pads=(0, 0), header=96, kind=0, more=0,
+         signature=b'NEGOEXTS'):
+    return (heading(kind, 0, header, 96 + len(payload) + more, signature=signature) + random + struct.pack('<Q', version)
+            + struct.pack('<IHH', *schemes, pads[0]) + struct.pack('<IHH', *extensions, pads[1]) + payload)
+
+
+def exchange(kind, sequence, payload, vector=None, conversation=CONVERSATION):
+    offset, length = vector or (64, len(payload))
+    return heading(kind, sequence, 64, 64 + len(payload), conversation) + A + struct.pack('<II', offset, length) + payload
+
+
+def metadata(sequence, payload=b'meta', vector=None):
+    return exchange(2, sequence, payload, vector)
+
+
+def ap_request(sequence, conversation=CONVERSATION):
+    return exchange(5, sequence, AP_TOKEN, conversation=conversation)
+
+
+def rc4_checksum(octets):
+    """RFC 4757's checksum, type -138, for the initiator's key usage of NEGOEX: 23, which this checksum counts as 13."""
+    signing = hmac.new(KEY, b'signaturekey\0', hashlib.md5).digest()
+    return hmac.new(signing, hashlib.md5(struct.pack('<I', 13) + octets).digest(), hashlib.md5).digest()
+
+
+def verify(sequence, before, pad=0, size=20, scheme=1, kind=-138, damage=0):
+    value = bytearray(rc4_checksum(before))
+    value[0] ^= damage
+    return (heading(6, sequence, 80, 80 + len(value)) + A + struct.pack('<IIi', size, scheme, kind)
+            + struct.pack('<II', 80, len(value)) + struct.pack('<I', pad) + bytes(value))
+
+
+def alert(sequence, vector_pad=0, pad=0, code=0):
+    return (heading(7, sequence, 72, 92) + A + struct.pack('<i', code) + struct.pack('<IHH', 72, 1, vector_pad)
+            + struct.pack('<I', pad) + struct.pack('<III', 1, 84, 8) + struct.pack('<II', 8, 1))
+
+
+def extension(kind, at=0, length=0):
+    return struct.pack('<iII', kind, at, length)
+
+
+def opening():
+    return nego() + ap_request(1)
+
+
+def with_verify(**changes):
+    return opening() + verify(2, opening(), **changes)
+
+
+def mit_extension(kind):
+    """A NEGO whose extension vector stands where MIT's own NEGO has it: offset 86, count 90, then four pad octets."""
+    octets = bytearray(nego(payload=A + extension(kind)))
+    octets[86:96] = struct.pack('<IHI', 112, 1, 0)
+    return bytes(octets)
+
+
+# The acceptor's mechanism is done after one token, and its key is the one that the probes' checksums are made with.
+RC4 = {'CAPTURE_HOPS': '1', 'CAPTURE_ETYPE': '23'}
+
+PROBES = [
+    ('p1', 'P1: empty', b'', {}),
+    ('p2', 'P2: 39 octets', nego()[:39], {}),
+    ('p3', 'P3: NEGO of 112, scheme A at 96', nego(), {}),
+    ('p4', 'P4: its scheme offset 95', nego(schemes=(95, 1)), {}),
+    ('p5', 'P5: 97', nego(schemes=(97, 1)), {}),
+    ('p6', 'P6: count 0, offset 4,294,967,295', nego(schemes=(0xFFFFFFFF, 0)), {}),
+    ('p7', 'P7: count 2, offset 4,294,967,280', nego(schemes=(0xFFFFFFF0, 2)), {}),
+    ('p8', 'P8: NEGO of 108, no scheme, extension type -2', nego((0, 0), (96, 1), extension(-2)), {}),
+    ('p9', 'P9: 2,147,483,647', nego((0, 0), (96, 1), extension(0x7FFFFFFF)), {}),
+    ('p10', 'P10: -2,147,483,648', nego((0, 0), (96, 1), extension(-0x80000000)), {}),
+    ('into-header', 'scheme offset 40: the random value begins with A', nego(schemes=(40, 1), random=A + bytes(16)), {}),
+    ('wrapped-exchange', 'metadata, offset 4,294,967,280, length 80: the sum wraps to 64',
+     nego() + metadata(1, b'meta', (0xFFFFFFF0, 80)), {}),
+    ('critical', 'A and extension type -2', nego(extensions=(112, 1), payload=A + extension(-2)), {}),
+    ('not-critical', 'A and extension type 5', nego(extensions=(112, 1), payload=A + extension(5)), {}),
+    ('critical-mit-place', 'the type -2 with its vector at 86', mit_extension(-2), {}),
+    ('not-critical-mit-place', 'the type 5 with its vector at 86', mit_extension(5), {}),
+    ('ap', 'NEGO, AP_REQUEST', opening(), RC4),
+    ('verify', 'NEGO, AP_REQUEST, VERIFY of checksum type -138', with_verify(), RC4),
+    ('verify-damaged', 'the same, first octet of the value changed', with_verify(damage=1), RC4),
+    ('verify-no-exchange', 'NEGO, VERIFY', nego() + verify(1, nego()), RC4),
+    ('metadata', 'NEGO, metadata for A, AP_REQUEST', nego() + metadata(1) + ap_request(2), RC4),
+    ('metadata-twice', 'NEGO, metadata for A twice, AP_REQUEST', nego() + metadata(1) + metadata(2, b'again') + ap_request(3), RC4),
+    ('alert', 'NEGO, AP_REQUEST, ALERT', opening() + alert(2), RC4),
+    ('pad-nego-86', 'P3 with 86 and 87 nonzero', nego(pads=(0x5AA5, 0)), {}),
+    ('pad-nego-94', 'P3 with 94 and 95 nonzero', nego(pads=(0, 0x5AA5)), {}),
+    ('pad-verify', '76 to 79 of the VERIFY nonzero', with_verify(pad=0x12345678), RC4),
+    ('pad-alert-66', '66 and 67 of the ALERT nonzero', opening() + alert(2, vector_pad=0x5AA5), RC4),
+    ('pad-alert-68', '68 to 71 of the ALERT nonzero', opening() + alert(2, pad=0x12345678), RC4),
+    ('no-1', 'a token of 65,536 octets: NEGO, metadata', nego() + metadata(1, bytes(65536 - 176)), {}),
+    ('no-3', 'signature NEGOEXTT', nego(signature=b'NEGOEXTT'), {}),
+    ('no-4', 'NEGO, then a message of type 8', nego() + exchange(8, 1, b''), {}),
+    ('no-5', 'NEGO with header length 112', nego(header=112), {}),
+    ('no-6', 'NEGO with message length 113, one more than there are', nego(more=1), {}),
+    ('no-7', 'NEGO, AP_REQUEST with number 2', nego() + ap_request(2), RC4),
+    ('no-8', 'NEGO, AP_REQUEST of another conversation', nego() + ap_request(1, bytes(16)), RC4),
+    ('no-10', 'NEGO of version 1', nego(version=1), {}),
+    ('no-13-size', 'VERIFY with checksum header length 24', with_verify(size=24), RC4),
+    ('no-13-scheme', 'VERIFY with checksum scheme 2', with_verify(scheme=2), RC4),
+]
+
+
+def main():
+    for name, _, token, _ in PROBES:
+        with open(f'{sys.argv[1]}/{name}.negoex', 'wb') as file:
+            file.write(token)
+
+
+if __name__ == '__main__':
+    main()
