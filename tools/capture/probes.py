@@ -1,8 +1,9 @@
 #!/usr/bin/python3
 """Writes the probe tokens: one file a token, NAME.negoex, into the folder that is given.
 
-`PROBES` is the list that the table of docs/PEERS.md is made from: a name, what the token is, and the environment of the
-mechanism (see mech.c) at the acceptor that is asked about it. The layouts are those of document 01.
+`PROBES` and `NUMBERS` are the rows of the tables in docs/PEERS.md: a name, what the token is, the environment of the
+mechanism (see mech.c) at the acceptor that is asked about it, and, where the structural reading reads the token, the number
+and place that document 01 gives for it as an acceptor's first token. The layouts are document 01's.
 """
 import hashlib
 import hmac
@@ -42,9 +43,9 @@ def ap_request(sequence, conversation=CONVERSATION):
 
 
 def rc4_checksum(octets):
-    """RFC 4757's checksum, type -138, for the initiator's key usage of NEGOEX: 23, which this checksum counts as 13."""
+    """RFC 4757's checksum, type -138, with the key usage of an initiator's VERIFY, 25."""
     signing = hmac.new(KEY, b'signaturekey\0', hashlib.md5).digest()
-    return hmac.new(signing, hashlib.md5(struct.pack('<I', 13) + octets).digest(), hashlib.md5).digest()
+    return hmac.new(signing, hashlib.md5(struct.pack('<I', 25) + octets).digest(), hashlib.md5).digest()
 
 
 def verify(sequence, before, pad=0, size=20, scheme=1, kind=-138, damage=0):
@@ -81,53 +82,65 @@ def mit_extension(kind):
 # The acceptor's mechanism is done after one token, and its key is the one that the probes' checksums are made with.
 RC4 = {'CAPTURE_HOPS': '1', 'CAPTURE_ETYPE': '23'}
 
+
+def probe(name, words, token, environment=None, in_turn=''):
+    return {'name': name, 'words': words, 'token': token, 'environment': environment or {}, 'in_turn': in_turn}
+
+
+# The worked examples, then the points at which implementations differ.
 PROBES = [
-    ('p1', 'P1: empty', b'', {}),
-    ('p2', 'P2: 39 octets', nego()[:39], {}),
-    ('p3', 'P3: NEGO of 112, scheme A at 96', nego(), {}),
-    ('p4', 'P4: its scheme offset 95', nego(schemes=(95, 1)), {}),
-    ('p5', 'P5: 97', nego(schemes=(97, 1)), {}),
-    ('p6', 'P6: count 0, offset 4,294,967,295', nego(schemes=(0xFFFFFFFF, 0)), {}),
-    ('p7', 'P7: count 2, offset 4,294,967,280', nego(schemes=(0xFFFFFFF0, 2)), {}),
-    ('p8', 'P8: NEGO of 108, no scheme, extension type -2', nego((0, 0), (96, 1), extension(-2)), {}),
-    ('p9', 'P9: 2,147,483,647', nego((0, 0), (96, 1), extension(0x7FFFFFFF)), {}),
-    ('p10', 'P10: -2,147,483,648', nego((0, 0), (96, 1), extension(-0x80000000)), {}),
-    ('into-header', 'scheme offset 40: the random value begins with A', nego(schemes=(40, 1), random=A + bytes(16)), {}),
-    ('wrapped-exchange', 'metadata, offset 4,294,967,280, length 80: the sum wraps to 64',
-     nego() + metadata(1, b'meta', (0xFFFFFFF0, 80)), {}),
-    ('critical', 'A and extension type -2', nego(extensions=(112, 1), payload=A + extension(-2)), {}),
-    ('not-critical', 'A and extension type 5', nego(extensions=(112, 1), payload=A + extension(5)), {}),
-    ('critical-mit-place', 'the type -2 with its vector at 86', mit_extension(-2), {}),
-    ('not-critical-mit-place', 'the type 5 with its vector at 86', mit_extension(5), {}),
-    ('ap', 'NEGO, AP_REQUEST', opening(), RC4),
-    ('verify', 'NEGO, AP_REQUEST, VERIFY of checksum type -138', with_verify(), RC4),
-    ('verify-damaged', 'the same, first octet of the value changed', with_verify(damage=1), RC4),
-    ('verify-no-exchange', 'NEGO, VERIFY', nego() + verify(1, nego()), RC4),
-    ('metadata', 'NEGO, metadata for A, AP_REQUEST', nego() + metadata(1) + ap_request(2), RC4),
-    ('metadata-twice', 'NEGO, metadata for A twice, AP_REQUEST', nego() + metadata(1) + metadata(2, b'again') + ap_request(3), RC4),
-    ('alert', 'NEGO, AP_REQUEST, ALERT', opening() + alert(2), RC4),
-    ('pad-nego-86', 'P3 with 86 and 87 nonzero', nego(pads=(0x5AA5, 0)), {}),
-    ('pad-nego-94', 'P3 with 94 and 95 nonzero', nego(pads=(0, 0x5AA5)), {}),
-    ('pad-verify', '76 to 79 of the VERIFY nonzero', with_verify(pad=0x12345678), RC4),
-    ('pad-alert-66', '66 and 67 of the ALERT nonzero', opening() + alert(2, vector_pad=0x5AA5), RC4),
-    ('pad-alert-68', '68 to 71 of the ALERT nonzero', opening() + alert(2, pad=0x12345678), RC4),
-    ('no-1', 'a token of 65,536 octets: NEGO, metadata', nego() + metadata(1, bytes(65536 - 176)), {}),
-    ('no-3', 'signature NEGOEXTT', nego(signature=b'NEGOEXTT'), {}),
-    ('no-4', 'NEGO, then a message of type 8', nego() + exchange(8, 1, b''), {}),
-    ('no-5', 'NEGO with header length 112', nego(header=112), {}),
-    ('no-6', 'NEGO with message length 113, one more than there are', nego(more=1), {}),
-    ('no-7', 'NEGO, AP_REQUEST with number 2', nego() + ap_request(2), RC4),
-    ('no-8', 'NEGO, AP_REQUEST of another conversation', nego() + ap_request(1, bytes(16)), RC4),
-    ('no-10', 'NEGO of version 1', nego(version=1), {}),
-    ('no-13-size', 'VERIFY with checksum header length 24', with_verify(size=24), RC4),
-    ('no-13-scheme', 'VERIFY with checksum scheme 2', with_verify(scheme=2), RC4),
+    probe('p1', 'P1: empty', b''),
+    probe('p2', 'P2: 39 octets', nego()[:39]),
+    probe('p3', 'P3: NEGO of 112, scheme A at 96', nego()),
+    probe('p4', 'P4: its scheme offset is 95', nego(schemes=(95, 1))),
+    probe('p5', 'P5: 97', nego(schemes=(97, 1))),
+    probe('p6', 'P6: scheme count 0, offset 4,294,967,295', nego(schemes=(0xFFFFFFFF, 0))),
+    probe('no-scheme', 'scheme count 0, offset 0', nego(schemes=(0, 0))),
+    probe('p7', 'P7: scheme count 2, offset 4,294,967,280', nego(schemes=(0xFFFFFFF0, 2))),
+    probe('p8', 'P8: NEGO of 108, no scheme, extension type -2', nego((0, 0), (96, 1), extension(-2))),
+    probe('p9', 'P9: extension type 2,147,483,647', nego((0, 0), (96, 1), extension(0x7FFFFFFF))),
+    probe('p10', 'P10: extension type -2,147,483,648', nego((0, 0), (96, 1), extension(-0x80000000))),
+    probe('into-header', 'scheme offset 40; the random value begins with A', nego(schemes=(40, 1), random=A + bytes(16))),
+    probe('wrapped-sum', 'NEGO, metadata of offset 4,294,967,280 and length 80 (64 after a wrap)',
+          nego() + metadata(1, b'meta', (0xFFFFFFF0, 80))),
+    probe('critical', 'NEGO with A and extension type -2', nego(extensions=(112, 1), payload=A + extension(-2))),
+    probe('not-critical', 'NEGO with A and extension type 5', nego(extensions=(112, 1), payload=A + extension(5))),
+    probe('critical-86', "the type -2, its vector at MIT's place, 86", mit_extension(-2)),
+    probe('not-critical-86', "the type 5, its vector at MIT's place, 86", mit_extension(5)),
+    probe('ap', 'NEGO, AP_REQUEST', opening(), RC4),
+    probe('verify', 'NEGO, AP_REQUEST, VERIFY of checksum type -138', with_verify(), RC4, '14 at=193'),
+    probe('verify-damaged', 'the same with one bit of the value changed', with_verify(damage=1), RC4, '14 at=193'),
+    probe('verify-alone', 'NEGO, VERIFY', nego() + verify(1, nego()), RC4, '14 at=112'),
+    probe('alert', 'NEGO, AP_REQUEST, ALERT', opening() + alert(2), RC4, '14 at=193'),
+    probe('metadata', 'NEGO, metadata for A, AP_REQUEST', nego() + metadata(1) + ap_request(2), RC4),
+    probe('metadata-twice', 'NEGO, metadata for A twice, AP_REQUEST',
+          nego() + metadata(1) + metadata(2, b'again') + ap_request(3), RC4, '15 at=180'),
+    probe('pad-nego-86', 'P3 with pads 86 and 87 nonzero', nego(pads=(0x5AA5, 0))),
+    probe('pad-nego-94', 'P3 with pads 94 and 95 nonzero', nego(pads=(0, 0x5AA5))),
+    probe('pad-verify', 'the VERIFY above with pads 76 to 79 nonzero', with_verify(pad=0x12345678), RC4),
+    probe('pad-alert-66', 'the ALERT above with pads 66 and 67 nonzero', opening() + alert(2, vector_pad=0x5AA5), RC4),
+    probe('pad-alert-68', 'the ALERT above with pads 68 to 71 nonzero', opening() + alert(2, pad=0x12345678), RC4),
+]
+
+# A token for each number that the rows above do not give.
+NUMBERS = [
+    probe('no-1', '65,536 octets: NEGO, metadata', nego() + metadata(1, bytes(65536 - 176))),
+    probe('no-3', 'signature NEGOEXTT', nego(signature=b'NEGOEXTT')),
+    probe('no-4', 'NEGO, a message of type 8', nego() + exchange(8, 1, b'')),
+    probe('no-5', 'NEGO with header length 112', nego(header=112)),
+    probe('no-6', 'NEGO with message length 113, one above the octets left', nego(more=1)),
+    probe('no-7', 'NEGO, AP_REQUEST with sequence 2', nego() + ap_request(2), RC4),
+    probe('no-8', 'NEGO, AP_REQUEST of another conversation', nego() + ap_request(1, bytes(16)), RC4),
+    probe('no-10', 'NEGO of version 1', nego(version=1)),
+    probe('no-13-size', 'the VERIFY above with checksum header length 24', with_verify(size=24), RC4),
+    probe('no-13-scheme', 'the VERIFY above with checksum scheme 2', with_verify(scheme=2), RC4),
 ]
 
 
 def main():
-    for name, _, token, _ in PROBES:
-        with open(f'{sys.argv[1]}/{name}.negoex', 'wb') as file:
-            file.write(token)
+    for one in PROBES + NUMBERS:
+        with open(f'{sys.argv[1]}/{one["name"]}.negoex', 'wb') as file:
+            file.write(one['token'])
 
 
 if __name__ == '__main__':
