@@ -5,16 +5,21 @@
  *   drive offer FILE OWN REPLY      hands the NEGOEX token in FILE to an acceptor that lists OWN, as its first token;
  *                                   the SPNEGO token that carried it goes to FILE with `.spnego` behind the name,
  *                                   and the NEGOEX token of the answer, if there is one, to REPLY
+ *   drive answer FILE OWN NEXT      hands the NEGOEX token in FILE to an initiator that lists OWN, as the reply to its first
+ *                                   token; for that its kinds 0, 2 and 5 become the acceptor's 1, 3 and 4, its numbers go on
+ *                                   from the first token's, its conversation becomes the first token's, and a VERIFY in it
+ *                                   is signed anew, with checksum type -138; NEXT is as REPLY
  *
  * Lists are letters: A to F for the mechanisms 1 to 6. `converse` writes each turn NN of end i or a as DIR/NN-E.spnego, and
- * the NEGOEX token in it, if there is one, as DIR/NN-E.negoex. Both print one line a call: the end, the call's number,
- * the routine error, whether more is to come, the minor status and the library's text for it.
+ * the NEGOEX token in it, if there is one, as DIR/NN-E.negoex. All print one line a call: the end, the call's number, the
+ * routine error, whether more is to come, the minor status and the library's text for it.
  */
 #include <stdio.h>
 #include <stdlib.h>
 #include <string.h>
 #include <gssapi/gssapi.h>
 #include <gssapi/gssapi_ext.h>
+#include <krb5/krb5.h>
 
 #define LIMIT 200000
 
@@ -81,6 +86,27 @@ static gss_buffer_desc wrap(const unsigned char *token, size_t length)
     start -= spnego.length;
     memcpy(start, spnego_elements, spnego.length);
     start = before(before(start, list, 0x06), end, 0x60);
+    made.value = start;
+    made.length = (size_t)(end - start);
+    return made;
+}
+
+/* A NegTokenResp of state 1 (not done yet) that names NEGOEX, with `token` as its token. */
+static gss_buffer_desc wrap_reply(const unsigned char *token, size_t length)
+{
+    static const unsigned char state[] = { 0xA0, 0x03, 0x0A, 0x01, 0x01 };
+    static unsigned char room[LIMIT + 100];
+    unsigned char *end = room + sizeof room, *start = end - length, *name;
+    gss_buffer_desc made;
+    memcpy(start, token, length);
+    start = before(before(start, end, 0x04), end, 0xA2);
+    name = start;
+    start -= sizeof negoex_elements;
+    memcpy(start, negoex_elements, sizeof negoex_elements);
+    start = before(before(start, name, 0x06), name, 0xA1);
+    start -= sizeof state;
+    memcpy(start, state, sizeof state);
+    start = before(before(start, end, 0x30), end, 0xA1);
     made.value = start;
     made.length = (size_t)(end - start);
     return made;
@@ -254,12 +280,97 @@ static int offer(const char *path, const char *own, const char *reply)
     return GSS_ERROR(major) ? 1 : 0;
 }
 
+static size_t number_at(const unsigned char *octets)
+{
+    return octets[0] | (size_t)octets[1] << 8 | (size_t)octets[2] << 16 | (size_t)octets[3] << 24;
+}
+
+/* The length of the message at `at` as it is stored, cut to what is left; at least a common header's. */
+static size_t message_length(const unsigned char *at, size_t left)
+{
+    size_t stored = number_at(at + 20);
+    return stored < 40 ? 40 : stored > left ? left : stored;
+}
+
+/* Signs the VERIFY at `at` of the reply as an acceptor does, with the key of mech.c: all that comes before is signed. */
+static void sign(struct span first, unsigned char *reply, size_t at)
+{
+    unsigned char octets[16];
+    krb5_keyblock key = { 0, ENCTYPE_ARCFOUR_HMAC, sizeof octets, octets };
+    krb5_data before_it = { 0, (unsigned)(first.length + at), malloc(first.length + at) };
+    krb5_checksum made;
+    krb5_context context;
+    for (size_t k = 0; k < sizeof octets; k++)
+        octets[k] = (unsigned char)(k + 1);
+    if (before_it.data == NULL || krb5_init_context(&context) != 0)
+        fail("no checksum can be made");
+    memcpy(before_it.data, first.at, first.length);
+    memcpy(before_it.data + first.length, reply, at);
+    if (krb5_c_make_checksum(context, CKSUMTYPE_HMAC_MD5_ARCFOUR, &key, 23, &before_it, &made) != 0 || made.length != 16)
+        fail("no checksum was made");
+    memcpy(reply + at + 80, made.contents, 16);
+    krb5_free_checksum_contents(context, &made);
+    krb5_free_context(context);
+    free(before_it.data);
+}
+
+/* Makes a first token's messages those of a reply to `first`; one of another conversation stays so. */
+static void turn_round(unsigned char *token, size_t length, struct span first)
+{
+    static const unsigned char kinds[] = { 1, 1, 3, 3, 4, 4, 6, 7 };
+    unsigned char own[16] = { 0 };
+    size_t messages = 0, at, here;
+    for (at = 0; first.length - at >= 40; messages++)
+        at += message_length(first.at + at, first.length - at);
+    if (length >= 40)
+        memcpy(own, token + 24, sizeof own);
+    for (at = 0; length - at >= 40; at += here) {
+        unsigned char *message = token + at;
+        here = message_length(message, length - at);
+        if (number_at(message + 8) < sizeof kinds)
+            message[8] = kinds[message[8]];
+        message[12] = (unsigned char)(message[12] + messages);
+        if (memcmp(message + 24, own, sizeof own) == 0)
+            memcpy(message + 24, first.at + 24, sizeof own);
+        if (number_at(message + 8) == 6 && here == 96)
+            sign(first, token, at);
+    }
+}
+
+static int answer(const char *path, const char *own, const char *next)
+{
+    static unsigned char token[LIMIT];
+    size_t length = load(path, token, sizeof token);
+    gss_cred_id_t initiator = credential(own, GSS_C_INITIATE);
+    gss_ctx_id_t context = GSS_C_NO_CONTEXT;
+    gss_buffer_desc first = { 0, NULL }, in, out = { 0, NULL }, service = { 12, "host@example" };
+    gss_name_t target;
+    struct span inner;
+    OM_uint32 minor, major;
+    if (gss_import_name(&minor, &service, GSS_C_NT_HOSTBASED_SERVICE, &target) != GSS_S_COMPLETE)
+        fail("no name");
+    if (initiate(initiator, &context, target, GSS_C_NO_BUFFER, &first, 0) != GSS_S_CONTINUE_NEEDED)
+        fail("no first token");
+    inner = unwrap(&first);
+    if (!is_negoex(inner) || inner.length < 40)
+        fail("no NEGOEX in the first token");
+    turn_round(token, length, inner);
+    in = wrap_reply(token, length);
+    major = initiate(initiator, &context, target, &in, &out, 2);
+    inner = unwrap(&out);
+    if (is_negoex(inner))
+        save(next, inner.at, inner.length);
+    return GSS_ERROR(major) ? 1 : 0;
+}
+
 int main(int count, char **words)
 {
     if (count == 5 && strcmp(words[1], "converse") == 0)
         return converse(words[2], words[3], words[4]);
     if (count == 5 && strcmp(words[1], "offer") == 0)
         return offer(words[2], words[3], words[4]);
-    fail("usage: drive converse DIR OWN PEER | drive offer FILE OWN REPLY");
+    if (count == 5 && strcmp(words[1], "answer") == 0)
+        return answer(words[2], words[3], words[4]);
+    fail("usage: drive converse DIR OWN PEER | drive offer FILE OWN REPLY | drive answer FILE OWN NEXT");
     return 2;
 }

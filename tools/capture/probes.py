@@ -2,8 +2,9 @@
 """Writes the probe tokens: one file a token, NAME.negoex, into the folder that is given.
 
 `PROBES` and `NUMBERS` are the rows of the tables in docs/PEERS.md: a name, what the token is, the environment of the
-mechanism (see mech.c) at the acceptor that is asked about it, and, where the structural reading reads the token, the number
-and place that document 01 gives for it as an acceptor's first token. The layouts are document 01's.
+mechanism (see mech.c) at the acceptor that is asked about it, where the structural reading reads the token the number and
+place that document 01 gives for it as an acceptor's first token, and whether it is also tried as a reply (which `drive` signs
+anew, so that a damaged checksum is not). The layouts are document 01's.
 """
 import hashlib
 import hmac
@@ -55,8 +56,8 @@ def verify(sequence, before, pad=0, size=20, scheme=1, kind=-138, damage=0):
             + struct.pack('<II', 80, len(value)) + struct.pack('<I', pad) + bytes(value))
 
 
-def alert(sequence, vector_pad=0, pad=0, code=0):
-    return (heading(7, sequence, 72, 92) + A + struct.pack('<i', code) + struct.pack('<IHH', 72, 1, vector_pad)
+def alert(sequence, vector_pad=0, pad=0, count=1):
+    return (heading(7, sequence, 72, 92) + A + struct.pack('<i', 0) + struct.pack('<IHH', 72, count, vector_pad)
             + struct.pack('<I', pad) + struct.pack('<III', 1, 84, 8) + struct.pack('<II', 8, 1))
 
 
@@ -83,8 +84,9 @@ def mit_extension(kind):
 RC4 = {'CAPTURE_HOPS': '1', 'CAPTURE_ETYPE': '23'}
 
 
-def probe(name, words, token, environment=None, in_turn=''):
-    return {'name': name, 'words': words, 'token': token, 'environment': environment or {}, 'in_turn': in_turn}
+def probe(name, words, token, environment=None, in_turn='', as_reply=True):
+    return {'name': name, 'words': words, 'token': token, 'environment': environment or {}, 'in_turn': in_turn,
+            'as_reply': as_reply}
 
 
 # The worked examples, then the points at which implementations differ.
@@ -103,13 +105,14 @@ PROBES = [
     probe('into-header', 'scheme offset 40; the random value begins with A', nego(schemes=(40, 1), random=A + bytes(16))),
     probe('wrapped-sum', 'NEGO, metadata of offset 4,294,967,280 and length 80 (64 after a wrap)',
           nego() + metadata(1, b'meta', (0xFFFFFFF0, 80))),
+    probe('long-exchange', 'NEGO, metadata of 4 octets whose length is 65,540', nego() + metadata(1, b'meta', (64, 65540))),
     probe('critical', 'NEGO with A and extension type -2', nego(extensions=(112, 1), payload=A + extension(-2))),
     probe('not-critical', 'NEGO with A and extension type 5', nego(extensions=(112, 1), payload=A + extension(5))),
     probe('critical-86', "the type -2, its vector at MIT's place, 86", mit_extension(-2)),
     probe('not-critical-86', "the type 5, its vector at MIT's place, 86", mit_extension(5)),
     probe('ap', 'NEGO, AP_REQUEST', opening(), RC4),
     probe('verify', 'NEGO, AP_REQUEST, VERIFY of checksum type -138', with_verify(), RC4, '14 at=193'),
-    probe('verify-damaged', 'the same with one bit of the value changed', with_verify(damage=1), RC4, '14 at=193'),
+    probe('verify-damaged', 'the same with one bit of the value changed', with_verify(damage=1), RC4, '14 at=193', as_reply=False),
     probe('verify-alone', 'NEGO, VERIFY', nego() + verify(1, nego()), RC4, '14 at=112'),
     probe('alert', 'NEGO, AP_REQUEST, ALERT', opening() + alert(2), RC4, '14 at=193'),
     probe('metadata', 'NEGO, metadata for A, AP_REQUEST', nego() + metadata(1) + ap_request(2), RC4),
@@ -119,6 +122,8 @@ PROBES = [
     probe('pad-nego-94', 'P3 with pads 94 and 95 nonzero', nego(pads=(0, 0x5AA5))),
     probe('pad-verify', 'the VERIFY above with pads 76 to 79 nonzero', with_verify(pad=0x12345678), RC4),
     probe('pad-alert-66', 'the ALERT above with pads 66 and 67 nonzero', opening() + alert(2, vector_pad=0x5AA5), RC4),
+    probe('alert-none', 'the ALERT above with count 0', opening() + alert(2, count=0), RC4, '14 at=193'),
+    probe('pad-alert-none', 'the ALERT above with count 0, pad 66 being 1', opening() + alert(2, vector_pad=1, count=0), RC4),
     probe('pad-alert-68', 'the ALERT above with pads 68 to 71 nonzero', opening() + alert(2, pad=0x12345678), RC4),
 ]
 
