@@ -8,7 +8,8 @@
  *   drive answer FILE OWN NEXT      hands the NEGOEX token in FILE to an initiator that lists OWN, as the reply to its first
  *                                   token; for that its kinds 0, 2 and 5 become the acceptor's 1, 3 and 4, its numbers go on
  *                                   from the first token's, its conversation becomes the first token's, and a VERIFY in it
- *                                   is signed anew, with checksum type -138; NEXT is as REPLY
+ *                                   is signed anew, with checksum type -138, and then damaged where the environment has
+ *                                   CAPTURE_DAMAGE; NEXT is as REPLY
  *
  * Lists are letters: A to F for the mechanisms 1 to 6. `converse` writes each turn NN of end i or a as DIR/NN-E.spnego, and
  * the NEGOEX token in it, if there is one, as DIR/NN-E.negoex. All print one line a call: the end, the call's number, the
@@ -309,6 +310,8 @@ static void sign(struct span first, unsigned char *reply, size_t at)
     if (krb5_c_make_checksum(context, CKSUMTYPE_HMAC_MD5_ARCFOUR, &key, 23, &before_it, &made) != 0 || made.length != 16)
         fail("no checksum was made");
     memcpy(reply + at + 80, made.contents, 16);
+    if (getenv("CAPTURE_DAMAGE") != NULL)
+        reply[at + 80] ^= 1;
     krb5_free_checksum_contents(context, &made);
     krb5_free_context(context);
     free(before_it.data);

@@ -2,9 +2,8 @@
 """Writes the probe tokens: one file a token, NAME.negoex, into the folder that is given.
 
 `PROBES` and `NUMBERS` are the rows of the tables in docs/PEERS.md: a name, what the token is, the environment of the
-mechanism (see mech.c) at the acceptor that is asked about it, where the structural reading reads the token the number and
-place that document 01 gives for it as an acceptor's first token, and whether it is also tried as a reply (which `drive` signs
-anew, so that a damaged checksum is not). The layouts are document 01's.
+mechanism (see mech.c) at the end that is asked about it, and, where the structural reading reads the token, the number and
+place that document 01 gives for it as an acceptor's first token. The layouts are document 01's.
 """
 import hashlib
 import hmac
@@ -43,10 +42,11 @@ def ap_request(sequence, conversation=CONVERSATION):
     return exchange(5, sequence, AP_TOKEN, conversation=conversation)
 
 
-def rc4_checksum(octets):
-    """RFC 4757's checksum, type -138, with the key usage of an initiator's VERIFY, 25."""
+def rc4_checksum(octets, usage=25):
+    """RFC 4757's checksum, type -138, which counts key usage 23 as 13. MIT takes 25 from an initiator."""
     signing = hmac.new(KEY, b'signaturekey\0', hashlib.md5).digest()
-    return hmac.new(signing, hashlib.md5(struct.pack('<I', 25) + octets).digest(), hashlib.md5).digest()
+    counted = struct.pack('<I', 13 if usage == 23 else usage)
+    return hmac.new(signing, hashlib.md5(counted + octets).digest(), hashlib.md5).digest()
 
 
 def verify(sequence, before, pad=0, size=20, scheme=1, kind=-138, damage=0):
@@ -84,9 +84,8 @@ def mit_extension(kind):
 RC4 = {'CAPTURE_HOPS': '1', 'CAPTURE_ETYPE': '23'}
 
 
-def probe(name, words, token, environment=None, in_turn='', as_reply=True):
-    return {'name': name, 'words': words, 'token': token, 'environment': environment or {}, 'in_turn': in_turn,
-            'as_reply': as_reply}
+def probe(name, words, token, environment=None, in_turn=''):
+    return {'name': name, 'words': words, 'token': token, 'environment': environment or {}, 'in_turn': in_turn}
 
 
 # The worked examples, then the points at which implementations differ.
@@ -112,7 +111,8 @@ PROBES = [
     probe('not-critical-86', "the type 5, its vector at MIT's place, 86", mit_extension(5)),
     probe('ap', 'NEGO, AP_REQUEST', opening(), RC4),
     probe('verify', 'NEGO, AP_REQUEST, VERIFY of checksum type -138', with_verify(), RC4, '14 at=193'),
-    probe('verify-damaged', 'the same with one bit of the value changed', with_verify(damage=1), RC4, '14 at=193', as_reply=False),
+    probe('verify-damaged', 'the same with one bit of the value changed', with_verify(damage=1), {**RC4, 'CAPTURE_DAMAGE': '1'},
+          '14 at=193'),
     probe('verify-alone', 'NEGO, VERIFY', nego() + verify(1, nego()), RC4, '14 at=112'),
     probe('alert', 'NEGO, AP_REQUEST, ALERT', opening() + alert(2), RC4, '14 at=193'),
     probe('metadata', 'NEGO, metadata for A, AP_REQUEST', nego() + metadata(1) + ap_request(2), RC4),
