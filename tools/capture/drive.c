@@ -293,8 +293,9 @@ static size_t message_length(const unsigned char *at, size_t left)
     return stored < 40 ? 40 : stored > left ? left : stored;
 }
 
-/* Signs the VERIFY at `at` of the reply as an acceptor does, with the key of mech.c: all that comes before is signed. */
-static void sign(struct span first, unsigned char *reply, size_t at)
+/* Signs the VERIFY at `at` of the reply as an acceptor does, with the key of mech.c: all that comes before is signed, and the
+   checksum goes to `value`. */
+static void sign(struct span first, unsigned char *reply, size_t at, unsigned char *value)
 {
     unsigned char octets[16];
     krb5_keyblock key = { 0, ENCTYPE_ARCFOUR_HMAC, sizeof octets, octets };
@@ -309,9 +310,9 @@ static void sign(struct span first, unsigned char *reply, size_t at)
     memcpy(before_it.data + first.length, reply, at);
     if (krb5_c_make_checksum(context, CKSUMTYPE_HMAC_MD5_ARCFOUR, &key, 23, &before_it, &made) != 0 || made.length != 16)
         fail("no checksum was made");
-    memcpy(reply + at + 80, made.contents, 16);
+    memcpy(value, made.contents, 16);
     if (getenv("CAPTURE_DAMAGE") != NULL)
-        reply[at + 80] ^= 1;
+        value[0] ^= 1;
     krb5_free_checksum_contents(context, &made);
     krb5_free_context(context);
     free(before_it.data);
@@ -335,8 +336,8 @@ static void turn_round(unsigned char *token, size_t length, struct span first)
         message[12] = (unsigned char)(message[12] + messages);
         if (memcmp(message + 24, own, sizeof own) == 0)
             memcpy(message + 24, first.at + 24, sizeof own);
-        if (number_at(message + 8) == 6 && here == 96)
-            sign(first, token, at);
+        if (number_at(message + 8) == 6 && here >= 92 && number_at(message + 68) == here - 16)
+            sign(first, token, at, message + here - 16);
     }
 }
 

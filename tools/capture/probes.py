@@ -29,9 +29,9 @@ def nego(schemes=(96, 1), extensions=(0, 0), payload=A, random=RANDOM, version=0
             + struct.pack('<IHH', *schemes, pads[0]) + struct.pack('<IHH', *extensions, pads[1]) + payload)
 
 
-def exchange(kind, sequence, payload, vector=None, conversation=CONVERSATION):
+def exchange(kind, sequence, payload, vector=None, conversation=CONVERSATION, header=64):
     offset, length = vector or (64, len(payload))
-    return heading(kind, sequence, 64, 64 + len(payload), conversation) + A + struct.pack('<II', offset, length) + payload
+    return heading(kind, sequence, header, 64 + len(payload), conversation) + A + struct.pack('<II', offset, length) + payload
 
 
 def metadata(sequence, payload=b'meta', vector=None):
@@ -133,6 +133,7 @@ NUMBERS = [
     probe('no-3', 'signature NEGOEXTT', nego(signature=b'NEGOEXTT')),
     probe('no-4', 'NEGO, a message of type 8', nego() + exchange(8, 1, b'')),
     probe('no-5', 'NEGO with header length 112', nego(header=112)),
+    probe('no-5-exchange', 'NEGO, AP_REQUEST with header length 72', nego() + exchange(5, 1, AP_TOKEN, header=72), RC4),
     probe('no-6', 'NEGO with message length 113, one above the octets left', nego(more=1)),
     probe('no-7', 'NEGO, AP_REQUEST with sequence 2', nego() + ap_request(2), RC4),
     probe('no-8', 'NEGO, AP_REQUEST of another conversation', nego() + ap_request(1, bytes(16)), RC4),
