@@ -73,7 +73,7 @@ fn hex_digit(x: u8) -> u8
 }
 
 // An octet as two digits.
-fn hex(d: &mut [u8], at: usize, x: u8) -> usize
+pub fn hex(d: &mut [u8], at: usize, x: u8) -> usize
     ensures { λ r. ⌜ text (now (d .exit)) r ≡ written (hexOf x ∷ []) (text (now (d .entry)) at) ⌝ }
 {
     let v = [hex_digit(x / 16), hex_digit(x % 16)];
