@@ -1,11 +1,10 @@
 -- 14 and 15 of one message, and what is carried on, in the words of the code.
 -- Assumes nothing.
-use Prim.Native.Nat.{ℕ, _+_, _<_, _≤_}
-use mathlib.Core.Path.{_≡_, refl, sym, ap, _∙_}
+use Prim.Native.Nat.{ℕ, _+_, _≤_}
+use mathlib.Core.Path.{_≡_, sym, ap, _∙_}
 use mathlib.Core.Bool.{Bool, true, false, cond, not, _&&_, _||_}
 use mathlib.Core.List.{List}
 use native.Mathlib.Omega.{arith}
-use lib.ListN.{length}
 use lib.Dec.{eqb}
 use borrow.Author.Tests.{eq-eqb, ne-eqb}
 use Rattle.octets.specs.Octets.{le}
@@ -15,7 +14,7 @@ use Rattle.conversation.specs.declared.Record.{Record}
 use Rattle.conversation.specs.declared.Scan.{Scan}
 use Rattle.conversation.specs.State.{ownOf}
 use Rattle.conversation.specs.Turns.{kindOf, after, reads}
-use Rattle.conversation.specs.Admitting.{schemeIn, schemeFits, passed, Admitted, on, stop, orStop, admitKind, admit}
+use Rattle.conversation.specs.Admitting.{schemeIn, schemeFits, passed, on, stop, orStop, admitKind, admit}
 
 pub kind-peer : (a : Bool) (n x : ℕ) → a ≡ true → x ≡ kindOf false n → x ≡ kindOf (not a) n
 kind-peer a n x e h = rw e h

@@ -1,18 +1,16 @@
 -- 15: which scheme a message may name, in the words of the code.
 -- Assumes nothing.
-use Prim.Native.Nat.{ℕ, zero, suc, _+_, _*_, _/_, _<_, _≤_, compare·suc-suc}
+use Prim.Native.Nat.{ℕ, suc, _*_, _/_, _<_, _≤_, compare·suc-suc}
 use mathlib.Core.Path.{_≡_, refl, sym, ap, _∙_}
-use mathlib.Core.Bool.{Bool, true, false, cond, not, _&&_, _||_}
-use mathlib.Core.Logic.{_⊎_, inl, inr}
+use mathlib.Core.Bool.{Bool, true, false, cond, not, _&&_}
 use mathlib.Core.List.{List, [], _∷_}
 use native.Mathlib.Omega.{arith}
-use lib.ListN.{length, getD, take, drop, length-take, length-drop}
-use lib.Dec.{eqb, ltb}
+use lib.ListN.{length, length-take, length-drop}
+use lib.Dec.{ltb}
 use borrow.Author.Tests.{eq-eqb, ne-eqb, lt-ltb, le-ltb, not-true}
 use Rattle.octets.specs.Octets.{octets, sameOctets, sameId}
 use Rattle.octets.proofs.Same.{both, same-eq}
 use Rattle.message.specs.Show.{idsAt, idsOf}
-use Rattle.message.proofs.Tables.{which}
 use Rattle.schemes.specs.Lists.{Id, mem, place, distinct, bit}
 use Rattle.schemes.specs.Sets.{left}
 use Rattle.schemes.proofs.Ids.{same-as, length-ids, id-at, mem-place}

@@ -2,9 +2,8 @@
 -- Assumes nothing.
 use Prim.Native.Nat.{ℕ, zero, suc, _+_, _-_, _<_, _≤_, min}
 use mathlib.Core.Path.{_≡_, refl, sym, ap, _∙_}
-use mathlib.Core.Bool.{Bool, true, false, cond}
-use mathlib.Core.Logic.{_⊎_, inl, inr}
-use mathlib.Core.List.{List, [], _∷_, _++_}
+use mathlib.Core.Bool.{Bool, true, false}
+use mathlib.Core.List.{List, [], _∷_}
 use native.Mathlib.Omega.{arith}
 use lib.ListN.{length}
 use lib.Dec.{eqb, leb}
@@ -12,17 +11,16 @@ use borrow.Author.Tests.{le-leb, lt-leb, leb-true}
 use Rattle.vector.specs.declared.TokenPlace.{TokenPlace}
 use Rattle.message.specs.Layout.{size, front}
 use Rattle.message.specs.Check.{Row, firstFailing}
-use Rattle.message.proofs.Tables.{which}
-use Rattle.token.specs.Token.{Chain, refused as cutAt, chainOf, passes}
-use Rattle.put.specs.Put.{put, Written}
+use Rattle.token.specs.Token.{refused as cutAt, chainOf, passes}
+use Rattle.put.specs.Put.{Written}
 use Rattle.conversation.specs.declared.Record.{Record}
 use Rattle.conversation.specs.declared.Scan.{Scan}
 use Rattle.conversation.specs.declared.Answer.{Answer}
 use Rattle.conversation.specs.State.{limitRows}
 use Rattle.conversation.specs.Turns.{mayRead}
-use Rattle.conversation.specs.Outcomes.{Outcome, answered, refused, decide, row}
+use Rattle.conversation.specs.Outcomes.{Outcome, answered, refused, row}
 use Rattle.conversation.specs.Admitting.{Admitted, on, stop, admit}
-use Rattle.conversation.specs.Reading.{conversationOf, startOf, Judged, whole, halted, thenJudge, judge, judged, taken, takenAs, finish, readingToken}
+use Rattle.conversation.specs.Reading.{conversationOf, startOf, Judged, whole, thenJudge, judge, judged, taken, takenAs, finish, readingToken}
 use Rattle.conversation.proofs.Decides.{first-none, first-stop, first-on, decide-passed, decide-refused}
 use Rattle.conversation.proofs.Tokens.{judged-first}
 use Rattle.receiving.specs.declared.Judgement.{Judgement}

@@ -1,8 +1,8 @@
 -- One turn of the loop over a peer's token, in the words of the code: x is what the loop began with, n the messages let through before.
 -- Assumes nothing.
-use Prim.Native.Nat.{ℕ, zero, suc, _+_, _-_, _<_, _≤_}
+use Prim.Native.Nat.{ℕ, _+_, _-_, _<_, _≤_}
 use mathlib.Core.Path.{_≡_, refl, sym, ap, _∙_}
-use mathlib.Core.Bool.{Bool, true, false, cond}
+use mathlib.Core.Bool.{true, false}
 use mathlib.Core.Logic.{_⊎_, inl, inr}
 use mathlib.Core.List.{List, [], _∷_, _++_}
 use native.Mathlib.Numerals.{add-one}
@@ -15,7 +15,7 @@ use Rattle.octets.specs.Octets.{octets}
 use Rattle.message.specs.declared.Header.{Header}
 use Rattle.message.specs.declared.Read.{Read}
 use Rattle.message.specs.declared.Read.the-variants as answer
-use Rattle.message.specs.Layout.{headOf, size, front}
+use Rattle.message.specs.Layout.{headOf, size}
 use Rattle.message.specs.Check.{commonRows, firstFailing, said, fieldsOf}
 use Rattle.message.proofs.Tables.{which, verdict-read, verdict-refused}
 use Rattle.token.specs.Token.{nextRows, passes, nextVerdict, Chain, chainOf}
@@ -26,7 +26,7 @@ use Rattle.schemes.proofs.Pads.{pad-more, pad-full}
 use Rattle.conversation.specs.declared.Record.{Record}
 use Rattle.conversation.specs.declared.Scan.{Scan}
 use Rattle.conversation.specs.Turns.{reads}
-use Rattle.conversation.specs.Admitting.{Admitted, on, stop, admit}
+use Rattle.conversation.specs.Admitting.{Admitted, admit}
 use Rattle.conversation.specs.Reading.{conversationOf, startOf, Judged, whole, halted, thenJudge, judge, judged}
 use Rattle.receiving.specs.declared.Admission.{Admission}
 use Rattle.receiving.specs.declared.Admission.the-variants as admission

@@ -1,7 +1,7 @@
 -- The record behind an accepted token, in the words of the code.
 -- Assumes nothing.
-use Prim.Native.Nat.{ℕ, _+_, _*_, _<_, _≤_}
-use mathlib.Core.Path.{_≡_, refl, sym, ap, _∙_}
+use Prim.Native.Nat.{ℕ, _+_, _≤_}
+use mathlib.Core.Path.{_≡_, sym, ap, _∙_}
 use mathlib.Core.Bool.{Bool, true, false, cond}
 use mathlib.Core.List.{List}
 use native.Mathlib.Omega.{arith}
@@ -11,7 +11,7 @@ use borrow.Author.Tests.{eq-eqb, ne-eqb}
 use Rattle.message.specs.Show.{idsAt, idsOf}
 use Rattle.schemes.specs.declared.Kept.{Kept}
 use Rattle.schemes.specs.Lists.{Id}
-use Rattle.schemes.specs.Sets.{commonSet, keptPlaces, ones, padTo}
+use Rattle.schemes.specs.Sets.{commonSet, keptPlaces, ones}
 use Rattle.schemes.specs.Answers.{keptOf}
 use Rattle.schemes.proofs.Ids.{length-ids}
 use Rattle.schemes.proofs.Mentions.{kept-few}

@@ -1,6 +1,5 @@
 // 15: which scheme a message may name.
 ghost use mathlib.Core.Path.{_≡_};
-ghost use Prim.Native.Nat.{_≤_};
 ghost use lib.ListN.{length};
 ghost use Rattle.schemes.specs.Lists.{mem};
 ghost use Rattle.conversation.specs.State.{replied};

@@ -2,7 +2,7 @@
 ghost use mathlib.Core.Path.{_≡_};
 ghost use Prim.Native.Nat.{_+_, _≤_, min};
 ghost use lib.ListN.{length};
-ghost use Rattle.conversation.specs.Outcomes.{Outcome, answered, refused, room};
+ghost use Rattle.conversation.specs.Outcomes.{Outcome, answered};
 ghost use Rattle.conversation.specs.Reading.{finish, readingToken};
 ghost use Rattle.receiving.specs.Receiving.{Taking, Judging, judgedAs, refusalBefore, accepted, haltedAs};
 use conversation::Answer;
