@@ -55,7 +55,7 @@ fn bad(fd: i32, e: End) -> End {
     e
 }
 
-// The end behind a call that was refused or adds nothing: the record that the call returned.
+// The end behind a refused call: it goes on with the record that the call returned.
 fn refused(fd: i32, e: End, a: Answer) -> End {
     show::refused(fd, a.refusal, a.place);
     with_record(e, a.next)
