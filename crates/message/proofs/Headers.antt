@@ -2,7 +2,7 @@
 -- result, or what a test says.
 -- Assumes nothing.
 use Prim.Native.Nat.{ℕ, _≤_, _<_}
-use mathlib.Core.Path.{_≡_, refl, ap, subst, _∙_}
+use mathlib.Core.Path.{_≡_, refl, subst}
 use mathlib.Core.Bool.{true}
 use mathlib.Core.List.{List}
 use native.Mathlib.Omega.{arith}
@@ -11,7 +11,7 @@ use borrow.Author.Tests.{le-leb, lt-leb, eq-eqb, ne-eqb, leb-true, eqb-true}
 use Rattle.octets.specs.Octets.{le}
 use Rattle.message.specs.declared.Header.{Header}
 use Rattle.message.specs.Layout.{Head, shapeOf, headerOf, headOf}
-use Rattle.message.specs.Check.{SIGNATURE, Verdict, read, refused, commonRows, allPass, headerVerdict, fieldsOf, Passed}
+use Rattle.message.specs.Check.{SIGNATURE, read, refused, commonRows, allPass, headerVerdict, fieldsOf, Passed}
 use Rattle.message.proofs.Shapes.{header-least}
 use Rattle.message.proofs.Tables.{given, verdict-read}
 

@@ -4,5 +4,4 @@ pub mod Headers
 pub mod Elements
 pub mod Bodies
 pub mod Readings
-pub mod Shows
 pub mod Local

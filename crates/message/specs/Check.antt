@@ -1,15 +1,20 @@
 -- The checks of one message: one ordered table of (number, test) over what the message says. Document 01, "Refusal numbers".
 --
 -- Glossary
---   Row                 a test, with the number that refuses where it fails
---   allPass             every test of a table holds; firstFailing: the number of the first that fails, 0 where none does
---   FirstFails n rs     the first test of a table that fails has the number n
---   commonRows n h      2 to 6, of a head with n octets left from the message's first on
---   padRows             9; the one place that speaks of pads
---   contentRows         10 to 13, of a message of `len` octets
---   bodyRows, refusalOf 9 to 13 of a message of a given layout, and the first of them that refuses it
---   messageRows s       2 to 6 and 9 to 13 of the message at the front of s: all that can be asked of a message by itself
---   Verdict             what a message's reading says: its header's fields, or a refusal's number; said gives it for the answers of src/
+--   Row                  a test, with the number that refuses where it fails
+--   allPass              every test of a table holds; firstFailing: the number of the first that fails, 0 where none does
+--   FirstFails n rs      the first test of a table that fails has the number n
+--   commonRows n h       2 to 6, of a head with n octets left from the message's first on; SIGNATURE: the one that 3 asks for
+--   padRows              9; the one place that speaks of pads; zeros: octets are zero; padsZero: all pads are
+--   versionOk            10; allKeepRule: 11; noneCritical, criticalOk: 12; checksumOk: 13
+--   contentRows          10 to 13, of a message of `len` octets
+--   bodyRows, refusalOf  9 to 13 of a message of a given layout, and the first of them that refuses it; frontRows s: of the message at the front of s
+--   messageRows s        2 to 6 and 9 to 13 of the message at the front of s: all that can be asked of a message by itself
+--   Verdict              what a message's reading says: its header's fields, or a refusal's number; said gives it for the answers of src/
+--   verdict rs v         the verdict v, where every row of rs passes
+--   fieldsOf h           the header's fields that later checks and the listing go by
+--   headerVerdict        the verdict by 2 to 6; bodyVerdict: by 9 to 13; messageVerdict: by both
+--   Passed s h           the header of the message at the front of s passed 2 to 6 as h
 use Prim.Native.Nat.{ℕ, zero, suc, _+_, _≤_}
 use mathlib.Core.Path.{_≡_}
 use mathlib.Core.Bool.{Bool, true, false, cond, not, _&&_}

@@ -2,14 +2,18 @@
 -- Document 01, "Layouts".
 --
 -- Glossary
---   Shape           the four layouts of a message; shapeOf k is that of type number k, headerOf its header length
---   Pad             octets of a header that carry nothing; padsOf gives a layout's
---   Head, headOf    the common header of 40 octets
---   Element         an extension or an alert: its type and its value's vector; elementsOf a is those of an array's octets a
---   Content         what follows the common header, a constructor a layout; contentOf reads it
---   size s          the length that the message at the front of s says it has
---   front s         the octets of that message
---   vectorsOf c     all vectors of a content, the header's in order, then the nested
+--   Shape             the four layouts of a message; shapeOf k is that of type number k, by pickShape; headerOf its header length
+--   Pad               octets of a header that carry nothing; padsOf gives a layout's
+--   Head, headOf      the common header of 40 octets
+--   size s            the length that the message at the front of s says it has; front s: the octets of that message
+--   octetVector m at  a vector of octets, as it stands at a place; vectorAt n m at: one of elements of n octets
+--   Element           an extension or an alert: its type and its value's vector; elementAt reads one
+--   elementsOf a      the elements in an array's octets a; elementsAt n a at: n of them from a place on
+--   schemeVector m    the scheme vector of a NEGO; extensionVector: its extension vector; exchangeVector, checksumVector, alertVector: those of the
+--                     other layouts
+--   Content           what follows the common header, a constructor a layout; contentOf reads it
+--   valuesOf es       the vectors of the elements' values
+--   vectorsOf c       all vectors of a content, the header's in order, then the nested
 use Prim.Native.Nat.{ℕ, zero, suc, _+_, _/_}
 use mathlib.Core.Bool.{cond}
 use mathlib.Core.List.{List, [], _∷_}

@@ -1,6 +1,6 @@
-// One message: its kind, its header, its checks by itself, and its vectors.
+// One message: its kind, its header, and its checks by itself.
 ghost use mathlib.Core.Path.{_≡_};
-ghost use Prim.Native.Nat.{_+_, _≤_};
+ghost use Prim.Native.Nat.{_≤_};
 ghost use lib.ListN.{length};
 ghost use Rattle.message.specs.Layout.{shapeOf, headerOf};
 ghost use Rattle.message.specs.Check.{said, refusalOf, headerVerdict, messageVerdict, bodyVerdict, Passed};

@@ -13,11 +13,10 @@ use Rattle.octets.specs.Octets.{octets}
 use Rattle.message.specs.Show.{idsAt}
 use Rattle.schemes.specs.declared.Schemes.{Schemes}
 use Rattle.schemes.specs.Lists.{Id, bit, joinIds}
-use Rattle.schemes.specs.Sets.{left, ones, padTo}
+use Rattle.schemes.specs.Sets.{left, padTo}
 use Rattle.schemes.specs.Answers.{schemesOf}
 use Rattle.schemes.proofs.Ids.{length-ids}
 use Rattle.schemes.proofs.Mentions.{ids-snoc}
-use Rattle.schemes.proofs.Replies.{odd-bit}
 
 -- ---- an id copied behind others
 module _ (d id : List ℕ) (n : ℕ) where
@@ -141,27 +140,7 @@ module _ (list : List ℕ) (c : ℕ) where
 
 pub ruleset gatherings = (gather-start, gather-end, gather-room, gather-skip, gather-take)
 
--- ---- for callers: the whole list, and the gathered octets read back
-pub left-all : (l : List Id) → left l (ones (length l)) 0 ≡ l
-unfolding left ones
-left-all [] = refl
-left-all (x ∷ l) = let o = odd-bit (ones (length l)) in rw (o .0, o .1, left-all l)
-
-pub ids-gathered : (n : ℕ) (s : List ℕ) (c m : ℕ) (zs : List ℕ) → n * 16 ≤ length s
-    → idsAt (length (left (idsAt n s) c m)) (joinIds (left (idsAt n s) c m) ++ zs) ≡ left (idsAt n s) c m
-unfolding left idsAt
-ids-gathered zero s c m zs h = refl
-ids-gathered (suc n) s c m zs h =
-    let e : length (take 16 s) ≡ 16 = simp length-take (omega arith) in
-    go (bit c 0 && not (bit m 0)) (left (idsAt n (drop 16 s)) (c / 2) (m / 2)) e (ids-gathered n (drop 16 s) (c / 2) (m / 2) zs (simp length-drop (omega arith)))
-  where
-    go : (d : Bool) (l : List Id) → length (take 16 s) ≡ 16 → idsAt (length l) (joinIds l ++ zs) ≡ l
-        → idsAt (length (cond d (take 16 s ∷ l) l)) (joinIds (cond d (take 16 s ∷ l) l) ++ zs) ≡ cond d (take 16 s ∷ l) l
-    go true l e i =
-        let q : take 16 s ++ joinIds l ++ zs ≡ take 16 s ++ (joinIds l ++ zs) = append-assoc (take 16 s) (joinIds l) zs in
-        rw (q, take-at (take 16 s) (joinIds l ++ zs) 16 e, drop-at (take 16 s) (joinIds l ++ zs) 16 e, i)
-    go false l e i = i
-
+-- ---- for callers: the gathered octets are the schemes', joined
 pub gathered-octets : (n : ℕ) (s : List ℕ) (c m : ℕ) → n * 16 ≤ length s
     → take (16 * schemesOf (left (idsAt n s) c m) .count) (schemesOf (left (idsAt n s) c m) .octets) ≡ joinIds (left (idsAt n s) c m)
 unfolding schemesOf

@@ -1,6 +1,6 @@
 -- A list with zeros behind it: one number more, and an id that is copied out of a list.
 -- Assumes nothing.
-use Prim.Native.Nat.{ℕ, suc, _+_, _*_, _-_, _≤_, _<_}
+use Prim.Native.Nat.{ℕ, suc, _+_, _-_, _≤_, _<_}
 use mathlib.Core.Path.{_≡_, sym, ap, _∙_}
 use mathlib.Core.List.{List, [], _∷_, _++_, append-nil}
 use native.Mathlib.Numerals.{add-one}
@@ -20,22 +20,20 @@ pub pad-full : (n : ℕ) (l : List ℕ) → length l ≡ n → padTo n l ≡ l
 pad-full n l h = let e : n - length l ≡ 0 = omega arith in rw e (append-nil l)
 
 -- ---- one turn of the copy
-module _ (list : List ℕ) (k : ℕ) (sized : length list ≡ 256) (inside : k < 16) where
-  module _ (id : List ℕ) (j : ℕ) (inv : id ≡ padTo 16 (take j (drop (16 * k) list))) where
-    pub id-more : j < 16 → set id j (getD list (16 * k + j) 0) ≡ padTo 16 (take (j + 1) (drop (16 * k) list))
-    id-more h =
-        let s : List ℕ = drop (16 * k) list in
-        let l : length s ≡ 256 - 16 * k = length-drop (16 * k) list ∙ omega arith in
-        let t : length (take j s) ≡ j = length-take-le j s (omega arith) in
-        let x : ℕ = getD list (16 * k + j) 0 in
-        let q : take (j + 1) s ≡ take j s ++ (x ∷ []) = rw add-one (take-suc s j 0 (omega arith) ∙ rw getD-drop) in
-        rw (inv, q) (pad-more 16 (take j s) x j t h)
+module _ (s : List ℕ) (at : ℕ) (inside : at + 16 ≤ length s) (id : List ℕ) (j : ℕ) (inv : id ≡ padTo 16 (take j (drop at s))) where
+  pub id-more : j < 16 → set id j (getD s (at + j) 0) ≡ padTo 16 (take (j + 1) (drop at s))
+  id-more h =
+      let v : List ℕ = drop at s in
+      let l : length v ≡ length s - at = length-drop at s in
+      let t : length (take j v) ≡ j = length-take-le j v (omega arith) in
+      let x : ℕ = getD s (at + j) 0 in
+      let q : take (j + 1) v ≡ take j v ++ (x ∷ []) = rw add-one (take-suc v j 0 (omega arith) ∙ rw getD-drop) in
+      rw (inv, q) (pad-more 16 (take j v) x j t h)
 
-    pub id-end : 16 ≤ j → j ≤ 16 → id ≡ octets 16 list (16 * k)
-    id-end h g =
-        let e : j ≡ 16 = omega arith in
-        let s : List ℕ = drop (16 * k) list in
-        let l : length (take 16 s) ≡ 16 = simp (length-take, length-drop) (omega arith) in
-        inv ∙ rw e (pad-full 16 (take 16 s) l)
+  pub id-end : 16 ≤ j → j ≤ 16 → id ≡ octets 16 s at
+  id-end h g =
+      let e : j ≡ 16 = omega arith in
+      let l : length (octets 16 s at) ≡ 16 = simp (length-take, length-drop) (omega arith) in
+      inv ∙ rw e (pad-full 16 (octets 16 s at) l)
 
 pub ruleset copies = (id-more, id-end)

@@ -14,7 +14,7 @@ use lib.Bits.{bitAnd, and-step, and-le-l}
 use lib.Count.{ones, ones-step, trailingZeros, trailing-le, under}
 use lib.Pow.{shr-shr}
 use Rattle.schemes.specs.Lists.{Id, first, bit}
-use Rattle.schemes.specs.Sets.{left, openPlaces, named, padTo}
+use Rattle.schemes.specs.Sets.{setOf, left, openPlaces, named, padTo}
 use Rattle.schemes.specs.Answers.{markedAt, placesFrom, leftPlaces, leftOf}
 use Rattle.schemes.specs.declared.Left.{Left}
 use Rattle.schemes.proofs.Digits.{bit-shift}
@@ -59,12 +59,13 @@ half q b = omega (arith, small b)
 odd : (q : ℕ) (b : Bool) → (q * 2 + cond b 1 0) % 2 ≡ cond b 1 0
 odd q b = omega (arith, small b)
 
-pub marked-bound : (ks : List ℕ) (m : ℕ) → markedAt ks m < 2 ^ length ks
-unfolding markedAt
-marked-bound [] m = omega arith
-marked-bound (k ∷ ks) m =
-    let p : 2 ^ suc (length ks) ≡ 2 ^ length ks * 2 = pow-suc 2 (length ks) in
-    omega (arith, marked-bound ks m, small (bit m k))
+-- a set has no bit from the list's length on
+pub set-bound : {A : Type 0} (p : A → Bool) (l : List A) → setOf p l < 2 ^ length l
+unfolding setOf
+set-bound p [] = omega arith
+set-bound p (x ∷ l) =
+    let w : 2 ^ suc (length l) ≡ 2 ^ length l * 2 = pow-suc 2 (length l) in
+    omega (arith, set-bound p l, small (p x))
 
 -- the common set less the marks, by the places ks
 abbrev pub opened : List ℕ → ℕ → ℕ → ℕ
@@ -72,10 +73,10 @@ opened ks c m = less (length ks) c (markedAt ks m)
 
 -- the first place left, or 0 where there is none
 pub first-open : (ks : List ℕ) (c m : ℕ) → getD (openPlaces ks c m) 0 0 ≡ getD ks (trailingZeros (length ks) (opened ks c m)) 0
-unfolding openPlaces markedAt trailingZeros
+unfolding openPlaces setOf trailingZeros
 first-open [] c m = refl
 first-open (k ∷ ks) c m =
-    rw (less-step (length ks) c (markedAt ks m) (bit m k) (marked-bound ks m))
+    rw (less-step (length ks) c (markedAt ks m) (bit m k) (set-bound (λ k. bit m k) ks))
     (go (bit c 0 && not (bit m k)) (first-open ks (c / 2) m))
   where
     go : (d : Bool) → getD (openPlaces ks (c / 2) m) 0 0 ≡ getD ks (trailingZeros (length ks) (opened ks (c / 2) m)) 0
@@ -90,11 +91,11 @@ no-ones = refl
 
 -- how many places are left
 pub count-open : (ks : List ℕ) (c m : ℕ) → c < 2 ^ length ks → length (openPlaces ks c m) ≡ ones (opened ks c m)
-unfolding openPlaces markedAt
+unfolding openPlaces setOf
 count-open [] c m h = let z : c ≡ 0 = omega arith in rw z (no-ones)
 count-open (k ∷ ks) c m h =
     let p : 2 ^ suc (length ks) ≡ 2 ^ length ks * 2 = pow-suc 2 (length ks) in
-    rw (less-step (length ks) c (markedAt ks m) (bit m k) (marked-bound ks m))
+    rw (less-step (length ks) c (markedAt ks m) (bit m k) (set-bound (λ k. bit m k) ks))
     (go (bit c 0 && not (bit m k)) (count-open ks (c / 2) m (omega arith)))
   where
     go : (d : Bool) → length (openPlaces ks (c / 2) m) ≡ ones (opened ks (c / 2) m)
@@ -159,7 +160,7 @@ halved m k = sym (rw add-one at (shr-shr m k 1))
 
 -- by these places the marks are what they are
 pub marked-places : (k n m : ℕ) → m / 2 ^ k < 2 ^ n → markedAt (placesFrom k n) m ≡ m / 2 ^ k
-unfolding markedAt placesFrom
+unfolding setOf placesFrom
 marked-places k zero m h = omega arith
 marked-places k (suc n) m h =
     let p : 2 ^ suc n ≡ 2 ^ n * 2 = pow-suc 2 n in

@@ -1,19 +1,19 @@
 -- The sets say what rule 2 says: what the acceptor writes, and what the initiator has left of it.
 -- Assumes nothing.
-use Prim.Native.Nat.{ℕ, zero, suc, _+_, _*_, _-_, _/_, _%_, _≤_, _<_}
+use Prim.Native.Nat.{ℕ, suc, _+_, _*_, _-_, _/_, _%_, _<_}
 use mathlib.Core.Path.{_≡_, refl, sym, ap, _∙_}
-use mathlib.Core.Bool.{Bool, true, false, not, _&&_, _||_, cond}
-use mathlib.Core.Logic.{_⊎_, inl, inr}
+use mathlib.Core.Bool.{true, false, not, _&&_, _||_}
+use mathlib.Core.Logic.{inl, inr}
 use mathlib.Core.List.{List, [], _∷_, _++_, map, append-assoc, append-nil}
 use native.Mathlib.Omega.{arith}
 use lib.ListN.{length, getD, replicate}
-use lib.Dec.{eqb, ltb}
-use borrow.Author.Tests.{eqb-true, eq-eqb, ne-eqb, lt-ltb}
+use lib.Dec.{eqb}
+use borrow.Author.Tests.{eq-eqb, ne-eqb, lt-ltb}
 use Rattle.octets.specs.Octets.{sameOctets}
 use Rattle.octets.proofs.Same.{same-refl, same-eq}
 use Rattle.message.proofs.Tables.{which}
-use Rattle.schemes.specs.Lists.{Id, mem, place, distinct, keep, bit, marked, usable, leftOver}
-use Rattle.schemes.specs.Sets.{commonSet, left, has, noted, mentions, keptPlaces, ones, openPlaces, named, padTo}
+use Rattle.schemes.specs.Lists.{Id, mem, place, distinct, keep, bit, marked, leftOver}
+use Rattle.schemes.specs.Sets.{setOf, commonSet, left, has, noted, mentions, keptPlaces, ones, openPlaces, named, padTo}
 use Rattle.schemes.proofs.Choice.{no-true, and-l, and-r, mem-head, mem-tail, keep-ext, keep-keep, keep-distinct, mem-keep, not-mem-same, place-inj}
 
 even-bit : (n : ℕ) → (bit (0 + 2 * n) 0 ≡ false) × ((0 + 2 * n) / 2 ≡ n)
@@ -24,7 +24,7 @@ odd-bit n = (eq-eqb ((1 + 2 * n) % 2) 1 (omega arith), omega arith)
 
 -- the acceptor: the common schemes less its marks, in its own order
 pub left-keep : (l peer : List Id) (m : ℕ) → distinct l ≡ true → left l (commonSet l peer) m ≡ keep (λ s. mem s peer && not (marked l m s)) l
-unfolding left commonSet distinct place
+unfolding left setOf distinct place
 left-keep [] peer m d = refl
 left-keep (x ∷ l) peer m d =
     let n : not (mem x l) ≡ true = and-l (not (mem x l)) (distinct l) d in

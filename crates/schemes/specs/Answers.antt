@@ -9,13 +9,13 @@
 --   leftOf ps          the first of the places left (0 where there is none) and how many there are
 --   withBit m k        the set m and k
 --   schemesOf l        ids as octets with zeros behind them, and how many there are
-use Prim.Native.Nat.{ℕ, zero, suc, _+_, _*_, _^_, _≤_, _<_}
+use Prim.Native.Nat.{ℕ, zero, suc, _+_, _^_, _≤_, _<_}
 use mathlib.Core.Path.{_≡_}
 use mathlib.Core.Bool.{false, cond}
-use mathlib.Core.List.{List, [], _∷_, _++_}
+use mathlib.Core.List.{List, [], _∷_}
 use lib.ListN.{length, getD, take}
 use Rattle.schemes.specs.Lists.{Id, bit, joinIds}
-use Rattle.schemes.specs.Sets.{has, openPlaces, padTo}
+use Rattle.schemes.specs.Sets.{setOf, has, openPlaces, padTo}
 use Rattle.schemes.specs.declared.Kept.{Kept}
 use Rattle.schemes.specs.declared.Left.{Left}
 use Rattle.schemes.specs.declared.Schemes.{Schemes}
@@ -33,9 +33,8 @@ pub record Noting (k : Kept) (p n : ℕ) : Type 0 where
   pub room : p < n → has p (placesIn k) ≡ false → k .count < 16
 
 -- The marks count own places, and the initiator's common set counts places of the reply: these are the marks by the reply's places.
-unfoldable pub markedAt : List ℕ → ℕ → ℕ
-markedAt [] m = 0
-markedAt (k ∷ ks) m = cond (bit m k) 1 0 + 2 * markedAt ks m
+abbrev pub markedAt : List ℕ → ℕ → ℕ
+markedAt ks m = setOf (λ k. bit m k) ks
 
 unfoldable pub placesFrom : ℕ → ℕ → List ℕ
 placesFrom k zero = []

@@ -1,16 +1,17 @@
 -- Lists of schemes, failure marks, and the choice. Document 01, "Who may send what, and when".
 --
 -- Glossary
---   Id                 a scheme id: its octets
---   mem s l            l mentions s; place l s: the place of the first mention, from 0, or l's length where there is none
---   distinct l         no scheme stands in l twice
---   keep p l           the schemes of l with p, in l's order
---   bit m k            bit k of the set m
---   marked own m s     the own list's marks m have s: bit k for place k of the own list
---   usable, leftOver   listed by both ends and marked by neither; the acceptor's list, with those only
---   rule2              the choice: the first of them
---   joinIds l          the octets of the schemes, one behind the other
---   listOk octets      what 19 asks of an own list, handed over as octets
+--   Id                a scheme id: its octets
+--   mem s l           l mentions s; place l s: the place of the first mention, from 0, or l's length where there is none
+--   distinct l        no scheme stands in l twice
+--   keep p l          the schemes of l with p, in l's order; first l: the first of l
+--   bit m k           bit k of the set m
+--   marked own m s    the own list's marks m have s: bit k for place k of the own list
+--   usable, leftOver  listed by both ends and marked by neither; the acceptor's list, with those only
+--   rule2             the choice: the first of them
+--   oneTo16 l         1 to 16 different schemes
+--   joinIds l         the octets of the schemes, one behind the other
+--   listOk octets     what 19 asks of an own list, handed over as octets
 use Prim.Native.Nat.{ℕ, zero, suc, _+_, _/_, _%_}
 use mathlib.Core.Bool.{Bool, true, false, cond, not, _&&_}
 use mathlib.Core.List.{List, [], _∷_, _++_}

@@ -1,14 +1,17 @@
 -- The two sets of 16 bits and the initiator's kept places. Document 01, "Who may send what, and when".
 --
 -- Glossary
---   commonSet own peer   the acceptor's common schemes: bit k for place k of the own list
---   left own c m         the own schemes at the bits of c less those of m, in the own order
---   keptPlaces own l     the own places of the reply's different own schemes, in the order of their first mention
---   ones n               the lowest n bits
---   openPlaces ks c m    the kept places at the bits of c, less those whose own place m marks
---   named own ks         the schemes at places of the own list
---   below n m            the set m has no bit from n on; keptBelow: no kept place at a bit of c is n or more
---   padTo n l            l with zeros behind it, n numbers in all
+--   setOf p l           the set of the places of l with p
+--   commonSet own peer  the acceptor's common schemes: bit k for place k of the own list
+--   left own c m        the own schemes at the bits of c less those of m, in the own order
+--   has p ps            the place p is one of ps; noted n p ps: ps, with p behind them where it is one of n and not there yet
+--   mentions own l ps   ps, with the own places of the ids of l noted in order
+--   keptPlaces own l    the own places of the reply's different own schemes, in the order of their first mention
+--   ones n              the lowest n bits
+--   openPlaces ks c m   the kept places at the bits of c, less those whose own place m marks
+--   named own ks        the schemes at places of the own list
+--   below n m           the set m has no bit from n on; keptBelow: no kept place at a bit of c is n or more
+--   padTo n l           l with zeros behind it, n numbers in all
 use Prim.Native.Nat.{ℕ, zero, suc, _+_, _*_, _-_, _/_, _^_}
 use mathlib.Core.Bool.{Bool, true, false, cond, not, _&&_, _||_}
 use mathlib.Core.List.{List, [], _∷_, _++_, map}
@@ -16,10 +19,14 @@ use lib.ListN.{length, getD, replicate}
 use lib.Dec.{eqb, ltb}
 use Rattle.schemes.specs.Lists.{Id, mem, place, bit}
 
+-- bit k for the k-th of a list, where it has p
+unfoldable pub setOf : {A : Type 0} → (A → Bool) → List A → ℕ
+setOf p [] = 0
+setOf p (x ∷ l) = cond (p x) 1 0 + 2 * setOf p l
+
 -- "and the common schemes: at the acceptor by the same places"
-unfoldable pub commonSet : List Id → List Id → ℕ
-commonSet [] peer = 0
-commonSet (x ∷ l) peer = cond (mem x peer) 1 0 + 2 * commonSet l peer
+abbrev pub commonSet : List Id → List Id → ℕ
+commonSet own peer = setOf (λ x. mem x peer) own
 
 unfoldable pub left : List Id → ℕ → ℕ → List Id
 left [] c m = []

@@ -1,6 +1,6 @@
 // Lists of schemes in octets, 16 a scheme.
 ghost use mathlib.Core.Path.{_≡_};
-ghost use Prim.Native.Nat.{_*_, _≤_, _<_};
+ghost use Prim.Native.Nat.{_+_, _*_, _≤_, _<_};
 ghost use lib.ListN.{length};
 ghost use Rattle.octets.specs.Octets.{octets};
 ghost use Rattle.message.specs.Show.{idsAt};
@@ -67,17 +67,24 @@ pub fn list_ok(own: &[u8]) -> bool
     distinct_ids(own, n)
 }
 
-// The id at a place of a list of 16.
+// The id at a place of octets.
+pub fn id_at(s: &[u8], at: usize) -> [u8; 16]
+    requires { ⌜ at + 16 ≤ length (now s) ⌝ }
+    ensures { λ r. ⌜ r ≡ octets 16 (now (s .entry)) at ⌝ }
+{
+    let mut id = [0u8; 16];
+    let mut j: usize = 0;
+    while j < 16 {
+        id[j] = s[at + j];
+        j += 1;
+    }
+    id
+}
+
+// The k-th id of a list of 16.
 pub fn id_of(list: [u8; 256], k: u32) -> [u8; 16]
     requires { ⌜ k < 16 ⌝ }
     ensures { λ r. ⌜ r ≡ octets 16 list (16 * k) ⌝ }
 {
-    let at = 16 * k as usize;
-    let mut id = [0u8; 16];
-    let mut j: usize = 0;
-    while j < 16 {
-        id[j] = list[at + j];
-        j += 1;
-    }
-    id
+    id_at(&list, 16 * k as usize)
 }

@@ -2,14 +2,15 @@
 -- Document 01, "The listing".
 --
 -- Glossary
---   quoted t          the codes of the characters of t
---   decimal n         a number of 32 bits in decimal; decimal64 n: one of 64 bits
---   signed z          a signed number in decimal, as pieces of text: its minus sign, where it has one, and its digits
---   hexOf x           an octet as two hexadecimal digits
---   idText i          the usual text of the id i, as pieces of text: its octets in order, and dashes
---   Text              a slice, with the place behind what is written in it; text d at is that of slice and place
---   appended t v      t with the piece v behind it, where there is room; as it was where there is none
---   written ps t      t with the pieces ps appended in order
+--   quoted t      the codes of the characters of t
+--   decimal n     a number of 32 bits in decimal; decimal64 n: one of 64 bits; decimalTo m n: in at most m digits
+--   signed z      a signed number in decimal, as pieces of text: its minus sign, where it has one, and its digits
+--   hexOf x       an octet as two hexadecimal digits; hexDigit: one digit
+--   idText i      the usual text of the id i, as pieces of text: its octets in order, and dashes
+--   idOrder       where the octets and dashes of that text come from; glyphOf i k: the piece from the place k; glyphs: those from places
+--   Text          a slice, with the place behind what is written in it; text d at is that of slice and place
+--   appended t v  t with the piece v behind it, where there is room; as it was where there is none
+--   written ps t  t with the pieces ps appended in order
 use Prim.Native.Nat.{ℕ, zero, suc, _+_, _/_, _%_}
 use Prim.Native.Char.{code}
 use Prim.Native.String.{String}

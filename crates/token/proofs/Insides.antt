@@ -1,7 +1,7 @@
 -- Every nonempty vector of an accepted token, nested ones too, lies inside its own message: at or behind its header, at or before its end.
 -- Assumes nothing.
 use Prim.Native.Nat.{ℕ, _+_}
-use mathlib.Core.Path.{_≡_, sym, ap, subst, _∙_}
+use mathlib.Core.Path.{_≡_, sym, subst}
 use mathlib.Core.Bool.{true}
 use mathlib.Core.List.{List, [], _∷_, List·Memᴰ, List·Memᴰ·head, List·Memᴰ·tail}
 use native.Mathlib.Omega.{arith}
@@ -12,7 +12,7 @@ use Rattle.vector.specs.declared.Vector.{Vector}
 use Rattle.vector.specs.Vector.{extent, keepsRule}
 use Rattle.vector.proofs.Rule.{Inside, rule-inside}
 use Rattle.message.specs.Layout.{Content, headOf, shapeOf, headerOf, contentOf, vectorsOf, size, front}
-use Rattle.message.specs.Check.{allPass, allKeepRule, contentRows, bodyRows, frontRows}
+use Rattle.message.specs.Check.{allKeepRule, contentRows, bodyRows, frontRows}
 use Rattle.message.proofs.Tables.{given}
 use Rattle.token.specs.Token.{Placed, Accepted, tokenOf}
 use Rattle.token.specs.Split.{Message, Numbered, placedFrom}

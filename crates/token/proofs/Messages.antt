@@ -1,26 +1,25 @@
 -- One turn of the loop over a token's messages, in the words of the code: x is what the loop began with, n the messages read before.
 -- Assumes nothing.
-use Prim.Native.Nat.{ℕ, zero, suc, _+_, _-_, _<_, _≤_}
+use Prim.Native.Nat.{ℕ, suc, _+_, _-_, _<_, _≤_}
 use mathlib.Core.Path.{_≡_, refl, sym, ap, _∙_}
-use mathlib.Core.Bool.{Bool, true, false, cond}
+use mathlib.Core.Bool.{true, false}
 use mathlib.Core.Logic.{_⊎_, inl, inr}
 use mathlib.Core.List.{List, [], _∷_}
 use native.Mathlib.Omega.{arith}
 use lib.ListN.{length, take, drop, length-drop}
 use lib.Seq.{take-all}
 use lib.Dec.{eqb}
-use borrow.Author.Tests.{eq-eqb, ne-eqb, le-leb, lt-leb, eqb-false}
+use borrow.Author.Tests.{ne-eqb, le-leb, lt-leb, eqb-false}
 use Rattle.octets.specs.Octets.{le}
-use Rattle.vector.specs.declared.TokenPlace.{TokenPlace}
 use Rattle.message.specs.declared.Header.{Header}
 use Rattle.message.specs.declared.Read.{Read}
 use Rattle.message.specs.declared.Read.the-variants as answer
-use Rattle.message.specs.Layout.{headOf, size, front}
+use Rattle.message.specs.Layout.{headOf, size}
 use Rattle.message.specs.Check.{commonRows, firstFailing, said, fieldsOf}
 use Rattle.message.proofs.Tables.{which, verdict-read, verdict-refused}
-use Rattle.token.specs.Token.{nextRows, passes, nextVerdict, Placed, Chain, end, refused, message, chainOf, Reading, Accepted, Refused, before, readingOf, tokenOf, Outcome, messages, refusal, outcomeOf, told, refusedAt}
+use Rattle.token.specs.Token.{nextRows, passes, nextVerdict, Placed, Chain, refused, message, chainOf, Reading, Accepted, Refused, before, readingOf, tokenOf, Outcome, messages, refusal, outcomeOf, told, refusedAt}
 use Rattle.token.specs.declared.Answer.{Answer}
-use Rattle.token.proofs.Cuts.{passes-sized, turn-pass, turn-fail, placed}
+use Rattle.token.proofs.Cuts.{passes-sized, turn-pass, turn-fail}
 
 -- n more messages
 abbrev pub more : ℕ → Outcome → Outcome

@@ -3,10 +3,10 @@
 -- Assumes nothing.
 use Prim.Native.Nat.{ℕ, zero, suc, _+_, _-_, _<_, _≤_}
 use mathlib.Core.Path.{_≡_, refl, sym, ap, subst, _∙_}
-use mathlib.Core.Bool.{Bool, true, false}
+use mathlib.Core.Bool.{true, false}
 use mathlib.Core.Logic.{_⊎_, inl, inr}
 use mathlib.Core.List.{List, [], _∷_, _++_, append-assoc}
-use native.Mathlib.Nat.{add-zero, add-assoc}
+use native.Mathlib.Nat.{add-zero}
 use native.Mathlib.Omega.{arith}
 use lib.ListN.{length, take, drop, length-append, take-append-drop}
 use lib.Seq.{take-append-le, take-at, drop-at, take-take, length-take-le, drop-nil}
@@ -14,13 +14,12 @@ use lib.Dec.{leb, eqb}
 use borrow.Author.Tests.{eq-eqb, ne-eqb, le-leb, lt-leb, leb-true, leb-false, eqb-true, eqb-false}
 use Rattle.octets.proofs.Same.{id-eq}
 use Rattle.message.specs.Layout.{Head, headOf, size, front}
-use Rattle.message.specs.Check.{allPass, firstFailing, FirstFails, commonRows, frontRows}
+use Rattle.message.specs.Check.{firstFailing, FirstFails, commonRows, frontRows}
 use Rattle.message.proofs.Tables.{which, given, pass-append, refuses-first, first-refuses}
-use Rattle.message.proofs.Headers.{Sized}
-use Rattle.message.proofs.Local.{head-front, front-front, common-front, rows-front}
-use Rattle.token.specs.Token.{orderRows, nextRows, passes, Placed, Chain, end, message, chainOf, Reading, Accepted, Refused, before, readingOf, tokenOf, refused}
+use Rattle.message.proofs.Local.{head-front, common-front, rows-front}
+use Rattle.token.specs.Token.{orderRows, nextRows, passes, Placed, Chain, message, chainOf, Reading, Accepted, Refused, before, readingOf, tokenOf, refused}
 use Rattle.token.specs.Split.{Message, Numbered, join, placedFrom, Split, Stop}
-use Rattle.token.proofs.Cuts.{passes-parts, passes-sized, skip-chain, drop-one, turn-pass, turn-fail, placed}
+use Rattle.token.proofs.Cuts.{passes-parts, passes-sized, drop-one, turn-pass, turn-fail, placed}
 
 -- 1. a message by itself, and with anything behind it
 

@@ -2,9 +2,8 @@
 use borrow.Author.Needs.{needs}
 use Prim.Native.Nat.{_+_, _≤_}
 use mathlib.Core.Path.{_≡_}
-use native.Mathlib.Omega.{arith}
 use lib.ListN.{length}
-use Rattle.token.proofs.Messages.{more, outcomeFrom, ends-within, readings}
+use Rattle.token.proofs.Messages.{more, outcomeFrom, readings}
 use Rattle.token.proofs.read_messages.Statement.{statement}
 use Rattle.token.proofs.read_messages.Tie as tie
 

@@ -1,0 +1,58 @@
+-- The vector readers' answers, in the words of the code.
+-- Assumes nothing.
+use Prim.Native.Nat.{ℕ, zero, suc, _+_, _*_, _-_, _≤_, _<_}
+use mathlib.Core.Path.{_≡_, refl, sym, ap, _∙_}
+use mathlib.Core.Bool.{true, false}
+use mathlib.Core.Logic.{_⊎_, inl, inr}
+use mathlib.Core.List.{List, []}
+use native.Mathlib.Omega.{arith}
+use lib.ListN.{length, take, drop}
+use borrow.Author.Tests.{le-leb, lt-leb}
+use Rattle.vector.specs.declared.Vector.{Vector}
+use Rattle.vector.specs.Vector.{extent, keepsRule, shown}
+use Rattle.vector.proofs.Rule.{rule-inside, shown-empty, shown-none}
+use Rattle.message.specs.Layout.{octetVector}
+use Rattle.message.specs.Show.{idAt, nestedOf}
+use Rattle.message.proofs.Tables.{which}
+
+-- a slice that has no room for the header shows nothing
+pub shown-short : (header : ℕ) (m : List ℕ) (v : Vector) → length m < header → [] ≡ shown header m v
+shown-short header m v h = go (which (keepsRule header (length m) v)) where
+  empty : (n : ℕ) → extent v ≡ n → keepsRule header (length m) v ≡ true → extent v ≡ 0
+  empty zero e t = e
+  empty (suc n) e t = let i = rule-inside header (length m) v t (λ z. omega arith) in absurd (omega (arith, i))
+
+  go : (keepsRule header (length m) v ≡ true) ⊎ (keepsRule header (length m) v ≡ false) → [] ≡ shown header m v
+  go (inr t) = shown-none header m v false (sym t) refl
+  go (inl t) = shown-empty header m v (empty (extent v) refl t)
+
+-- a reader's answer, of the vector that it read
+pub shown-read : (header : ℕ) (m : List ℕ) (v w : Vector) (r : List ℕ) → v ≡ w → r ≡ shown header m v → r ≡ shown header m w
+shown-read header m v w r e h = h ∙ ap (shown header m) e
+
+module _ (header : ℕ) (m : List ℕ) (v : Vector) (k : ℕ) where
+  module _ (a : List ℕ) (a-is : a ≡ shown header m v) where
+    pub nested-none : length a < 12 * k + 12 → [] ≡ nestedOf header m v k
+    unfolding nestedOf
+    nested-none h = simp (← a-is, lt-leb _ _ h)
+
+    pub nested-read : 12 * k + 12 ≤ length a → (w : Vector) → w ≡ octetVector a (12 * k + 4) → (r : List ℕ) → r ≡ shown header m w → r ≡ nestedOf header m v k
+    unfolding nestedOf
+    nested-read h w w-is r r-is = simp (← a-is, le-leb _ _ h) (shown-read header m w _ r w-is r-is)
+
+  pub nested-short : length m < header → [] ≡ nestedOf header m v k
+  nested-short h = nested-none [] (shown-short header m v h) (omega arith)
+
+pub nested-same : (header : ℕ) (m : List ℕ) (v w : Vector) (k : ℕ) (r : List ℕ) → v ≡ w → r ≡ nestedOf header m v k → r ≡ nestedOf header m w k
+nested-same header m v w k r e h = h ∙ ap (λ (u : Vector). nestedOf header m u k) e
+
+module _ (m : List ℕ) (at : ℕ) where
+  pub id-none : length m < at + 16 → [] ≡ idAt m at
+  unfolding idAt
+  id-none h = simp (lt-leb _ _ h)
+
+  pub id-read : at + 16 ≤ length m → take 16 (drop at m) ≡ idAt m at
+  unfolding idAt
+  id-read h = simp (le-leb _ _ h)
+
+pub ruleset shows = (shown-short, shown-read, nested-none, nested-read, nested-short, nested-same, id-none, id-read)
