@@ -11,11 +11,6 @@ use put::put_u16;
 use put::put_u32;
 use vector::MessageOffset;
 
-pub mod alert;
-pub mod exchange;
-pub mod nego;
-pub mod verify;
-
 // What a message of any kind is written with.
 pub struct Heading {
     pub kind: Kind,
@@ -30,14 +25,14 @@ pub enum Stored {
 }
 
 // Whether `size` octets have room at `at`, as whole numbers.
-pub(crate) fn has_room(len: usize, at: usize, size: usize) -> bool
+pub fn has_room(len: usize, at: usize, size: usize) -> bool
     ensures { λ r. ⌜ r ≡ leb (at + size) len ⌝ }
 {
     if at <= len { size <= len - at } else { false }
 }
 
 // The common header of a message of `size` octets.
-pub(crate) fn put_head(d: &mut [u8], at: usize, heading: Heading, size: u32) -> usize
+pub fn put_head(d: &mut [u8], at: usize, heading: Heading, size: u32) -> usize
     requires { ⌜ at + 40 ≤ length (now d) ⌝ }
     ensures { λ r. ⌜ Written (now (d .entry)) at 40 (joined (headFields heading size)) (now (d .exit)) r ⌝ }
 {
@@ -52,7 +47,7 @@ pub(crate) fn put_head(d: &mut [u8], at: usize, heading: Heading, size: u32) -> 
 }
 
 // A vector of elements, with its pad.
-pub(crate) fn put_vector(d: &mut [u8], at: usize, offset: MessageOffset, count: u16) -> usize
+pub fn put_vector(d: &mut [u8], at: usize, offset: MessageOffset, count: u16) -> usize
     requires { ⌜ at + 8 ≤ length (now d) ⌝ }
     ensures { λ r. ⌜ Written (now (d .entry)) at 8 (joined (vectorFields (offset .0) count)) (now (d .exit)) r ⌝ }
 {
@@ -62,7 +57,7 @@ pub(crate) fn put_vector(d: &mut [u8], at: usize, offset: MessageOffset, count: 
 }
 
 // A vector of octets.
-pub(crate) fn put_octet_vector(d: &mut [u8], at: usize, offset: MessageOffset, size: u32) -> usize
+pub fn put_octet_vector(d: &mut [u8], at: usize, offset: MessageOffset, size: u32) -> usize
     requires { ⌜ at + 8 ≤ length (now d) ⌝ }
     ensures { λ r. ⌜ Written (now (d .entry)) at 8 (joined (octetVectorFields (offset .0) size)) (now (d .exit)) r ⌝ }
 {

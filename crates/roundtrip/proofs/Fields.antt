@@ -15,6 +15,7 @@ use Rattle.octets.specs.Octets.{le, octets, signed32}
 use Rattle.octets.proofs.Le.{le-add}
 use Rattle.vector.specs.declared.Vector.{Vector}
 use Rattle.vector.specs.Vector.{extent, keepsRule, shown}
+use Rattle.vector.proofs.Rule.{inside-rule}
 use Rattle.put.specs.Put.{octetsOf, unsigned32, joined}
 use Rattle.put.proofs.Laws.{joined-append}
 
@@ -62,6 +63,17 @@ module _ (i at : ℕ) (fs : List (List ℕ)) (starts : length (joined (take i fs
 pub shown-field : (header : ℕ) (m f : List ℕ) (v : Vector) → keepsRule header (length m) v ≡ true → octets (extent v) m (v .offset .0) ≡ f → shown header m v ≡ f
 unfolding shown
 shown-field header m f v k e = rw k e
+
+-- "Written messages put the payload directly after the header": a vector of so many elements from the header's end on
+abbrev pub behindHeader : ℕ → ℕ → ℕ → Vector
+behindHeader size header count = record { size = size; offset = record { 0 = header }; count = count }
+
+module _ (size header count : ℕ) (f : List ℕ) (whole : count * size ≡ length f) where
+  pub payload-rule : keepsRule header (header + length f) (behindHeader size header count) ≡ true
+  payload-rule = inside-rule _ _ _ (record { behind = omega arith; before = omega arith })
+
+  pub payload-shown : (m : List ℕ) → length m ≡ header + length f → octets (length f) m header ≡ f → shown header m (behindHeader size header count) ≡ f
+  payload-shown m n e = shown-field header m f (behindHeader size header count) (rw n payload-rule) (rw whole e)
 
 -- two's complement, there and back
 pub signed-back : (z : ℤ) → mag z < 2147483648 → signed32 (unsigned32 z) ≡ z

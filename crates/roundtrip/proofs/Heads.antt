@@ -1,6 +1,6 @@
 -- The header of a written message, and its checks from what its layout says.
 -- Assumes nothing.
-use Prim.Native.Nat.{ℕ, zero, _%_, _<_, _≤_}
+use Prim.Native.Nat.{ℕ, _%_, _<_, _≤_}
 use mathlib.Core.Path.{_≡_, refl, sym, ap, _∙_}
 use mathlib.Core.Bool.{true}
 use mathlib.Core.List.{List, [], _∷_, _++_, append-nil}

@@ -2,7 +2,7 @@
 -- they show.
 -- Assumes nothing.
 use Prim.Native.Nat.{ℕ, _+_, _*_, _/_, _%_, _<_, _≤_}
-use mathlib.Core.Path.{_≡_, refl, sym, ap, _∙_}
+use mathlib.Core.Path.{_≡_, refl, ap, _∙_}
 use mathlib.Core.Bool.{true}
 use mathlib.Core.List.{List, [], _∷_, _++_}
 use native.Mathlib.Omega.{arith}
@@ -11,7 +11,6 @@ use lib.Signed.{mag}
 use Rattle.octets.specs.Octets.{le, octets}
 use Rattle.vector.specs.declared.Vector.{Vector}
 use Rattle.vector.specs.Vector.{keepsRule, part, shown}
-use Rattle.vector.proofs.Rule.{inside-rule}
 use Rattle.message.specs.Layout.{nego, exchange, verify, alert, padsOf, contentOf, vectorsOf, schemeVector, exchangeVector, checksumVector, alertVector, elementsAt, elementsOf}
 use Rattle.message.specs.Check.{padsZero, allKeepRule}
 use Rattle.message.specs.Show.{idsOf, schemesIn, nestedOf}
@@ -21,17 +20,21 @@ use Rattle.encode.specs.declared.Heading.{Heading}
 use Rattle.encode.specs.Encode.{Offer, Payload, Checksum, Pulse, Contents, ofNego, ofExchange, ofVerify, ofAlert, sizeOf, headFields, bodyFields, octetVectorFields, encoded}
 use Rattle.roundtrip.specs.ReadBack.{contentRead, Shows}
 use Rattle.encode.proofs.Sizes.{length-encoded}
-use Rattle.roundtrip.proofs.Fields.{number-at, octets-at, drop-joined, shown-field, signed-back, unsigned-small}
+use Rattle.roundtrip.proofs.Fields.{number-at, octets-at, drop-joined, shown-field, behindHeader, payload-rule, payload-shown, signed-back, unsigned-small}
 
 module _ (h : Heading) (id : length (h .conversation) ≡ 16) where
   abbrev fields : Contents → List (List ℕ)
   fields c = headFields h (sizeOf c) ++ bodyFields c
 
+  -- the first field behind the common header
+  first-field : (c : Contents) (x : List ℕ) (rest : List (List ℕ)) → bodyFields c ≡ x ∷ rest → (n : ℕ) → length x ≡ n → octets n (encoded h c) 40 ≡ x
+  unfolding encoded
+  first-field c x rest e n w = octets-at 6 40 (fields c) (simp (length-append, id)) x rest e n w
+
   -- NEGO
   module _ (o : Offer) (whole : length (o .random) ≡ 32) (ids : length (o .schemes) % 16 ≡ 0) (count : length (o .schemes) ≤ 1048560) where
     nego-random : octets 32 (encoded h (ofNego o)) 40 ≡ o .random
-    unfolding encoded
-    nego-random = octets-at 6 40 (fields (ofNego o)) (simp (length-append, id)) (o .random) _ refl 32 whole
+    nego-random = first-field (ofNego o) (o .random) _ refl 32 whole
 
     nego-version : le 8 (encoded h (ofNego o)) 72 ≡ 0
     unfolding encoded
@@ -69,31 +72,29 @@ module _ (h : Heading) (id : length (h .conversation) ≡ 16) where
     unfolding padsZero
     nego-pads = simp (zeros-le 2 (encoded h (ofNego o)) 86, zeros-le 2 (encoded h (ofNego o)) 94, nego-pad, nego-pad-2)
 
-    nego-schemes : (n : ℕ) → n ≡ length (o .schemes) → octets n (encoded h (ofNego o)) 96 ≡ o .schemes
+    nego-schemes : octets (length (o .schemes)) (encoded h (ofNego o)) 96 ≡ o .schemes
     unfolding encoded
-    nego-schemes n e = octets-at 14 96 (fields (ofNego o)) (simp (length-append, id, whole)) (o .schemes) _ refl n (sym e)
+    nego-schemes = octets-at 14 96 (fields (ofNego o)) (simp (length-append, id, whole)) (o .schemes) _ refl (length (o .schemes)) refl
 
-    nego-rule : keepsRule 96 (96 + length (o .schemes)) (record { size = 16; offset = record { 0 = 96 }; count = length (o .schemes) / 16 }) ≡ true
-    nego-rule = inside-rule _ _ _ (record { behind = omega arith; before = omega arith })
+    counted : length (o .schemes) / 16 * 16 ≡ length (o .schemes)
+    counted = omega arith
 
     pub nego-rules : allKeepRule 96 (sizeOf (ofNego o)) (vectorsOf (contentRead (ofNego o))) ≡ true
     unfolding allKeepRule vectorsOf keepsRule
-    nego-rules = rw nego-rule
+    nego-rules = rw (payload-rule 16 96 (length (o .schemes) / 16) (o .schemes) counted)
 
     pub nego-shows : Shows (ofNego o) (encoded h (ofNego o))
     unfolding schemesIn
     nego-shows =
-        let n = length-encoded h id (ofNego o) whole in
-        let v : schemeVector (encoded h (ofNego o)) ≡ record { size = 16; offset = record { 0 = 96 }; count = length (o .schemes) / 16 } = simp (nego-offset, nego-count) in
+        let v : schemeVector (encoded h (ofNego o)) ≡ behindHeader 16 96 (length (o .schemes) / 16) = simp (nego-offset, nego-count) in
         let e : shown 96 (encoded h (ofNego o)) (schemeVector (encoded h (ofNego o))) ≡ o .schemes =
-        rw v (shown-field 96 (encoded h (ofNego o)) (o .schemes) _ (rw n nego-rule) (nego-schemes (length (o .schemes) / 16 * 16) (omega arith))) in
+        rw v (payload-shown 16 96 (length (o .schemes) / 16) (o .schemes) counted (encoded h (ofNego o)) (length-encoded h id (ofNego o) whole) nego-schemes) in
         (e, ap idsOf e)
 
   -- the messages of header 64
   module _ (p : Payload) (whole : length (p .scheme) ≡ 16) (size : length (p .value) ≤ 4294967231) where
     exchange-scheme : octets 16 (encoded h (ofExchange p)) 40 ≡ p .scheme
-    unfolding encoded
-    exchange-scheme = octets-at 6 40 (fields (ofExchange p)) (simp (length-append, id)) (p .scheme) _ refl 16 whole
+    exchange-scheme = first-field (ofExchange p) (p .scheme) _ refl 16 whole
 
     exchange-offset : le 4 (encoded h (ofExchange p)) 56 ≡ 64
     unfolding encoded
@@ -103,9 +104,9 @@ module _ (h : Heading) (id : length (h .conversation) ≡ 16) where
     unfolding encoded
     exchange-length = number-at 8 60 (fields (ofExchange p)) (simp (length-append, id, whole)) 4 (length (p .value)) _ refl (omega arith)
 
-    exchange-value : (n : ℕ) → n ≡ length (p .value) → octets n (encoded h (ofExchange p)) 64 ≡ p .value
+    exchange-value : octets (length (p .value)) (encoded h (ofExchange p)) 64 ≡ p .value
     unfolding encoded
-    exchange-value n e = octets-at 9 64 (fields (ofExchange p)) (simp (length-append, id, whole)) (p .value) _ refl n (sym e)
+    exchange-value = octets-at 9 64 (fields (ofExchange p)) (simp (length-append, id, whole)) (p .value) _ refl (length (p .value)) refl
 
     pub exchange-content : contentOf exchange (encoded h (ofExchange p)) ≡ contentRead (ofExchange p)
     unfolding contentOf
@@ -115,24 +116,19 @@ module _ (h : Heading) (id : length (h .conversation) ≡ 16) where
     unfolding padsZero
     exchange-pads = refl
 
-    exchange-rule : keepsRule 64 (64 + length (p .value)) (record { size = 1; offset = record { 0 = 64 }; count = length (p .value) }) ≡ true
-    exchange-rule = inside-rule _ _ _ (record { behind = omega arith; before = omega arith })
-
     pub exchange-rules : allKeepRule 64 (sizeOf (ofExchange p)) (vectorsOf (contentRead (ofExchange p))) ≡ true
     unfolding allKeepRule vectorsOf
-    exchange-rules = rw exchange-rule
+    exchange-rules = rw (payload-rule 1 64 (length (p .value)) (p .value) (omega arith))
 
     pub exchange-shows : Shows (ofExchange p) (encoded h (ofExchange p))
     exchange-shows =
-        let n = length-encoded h id (ofExchange p) whole in
-        let v : exchangeVector (encoded h (ofExchange p)) ≡ record { size = 1; offset = record { 0 = 64 }; count = length (p .value) } = simp (exchange-offset, exchange-length) in
-        rw v (shown-field 64 (encoded h (ofExchange p)) (p .value) _ (rw n exchange-rule) (exchange-value (length (p .value) * 1) (omega arith)))
+        let v : exchangeVector (encoded h (ofExchange p)) ≡ behindHeader 1 64 (length (p .value)) = simp (exchange-offset, exchange-length) in
+        rw v (payload-shown 1 64 (length (p .value)) (p .value) (omega arith) (encoded h (ofExchange p)) (length-encoded h id (ofExchange p) whole) exchange-value)
 
   -- VERIFY
   module _ (k : Checksum) (whole : length (k .scheme) ≡ 16) (range : mag (k .type) < 2147483648) (size : length (k .value) ≤ 4294967215) where
     verify-scheme : octets 16 (encoded h (ofVerify k)) 40 ≡ k .scheme
-    unfolding encoded
-    verify-scheme = octets-at 6 40 (fields (ofVerify k)) (simp (length-append, id)) (k .scheme) _ refl 16 whole
+    verify-scheme = first-field (ofVerify k) (k .scheme) _ refl 16 whole
 
     verify-header : le 4 (encoded h (ofVerify k)) 56 ≡ 20
     unfolding encoded
@@ -158,9 +154,9 @@ module _ (h : Heading) (id : length (h .conversation) ≡ 16) where
     unfolding encoded
     verify-pad = number-at 12 76 (fields (ofVerify k)) (simp (length-append, id, whole)) 4 0 _ refl (omega arith)
 
-    verify-value : (n : ℕ) → n ≡ length (k .value) → octets n (encoded h (ofVerify k)) 80 ≡ k .value
+    verify-value : octets (length (k .value)) (encoded h (ofVerify k)) 80 ≡ k .value
     unfolding encoded
-    verify-value n e = octets-at 13 80 (fields (ofVerify k)) (simp (length-append, id, whole)) (k .value) _ refl n (sym e)
+    verify-value = octets-at 13 80 (fields (ofVerify k)) (simp (length-append, id, whole)) (k .value) _ refl (length (k .value)) refl
 
     pub verify-content : contentOf verify (encoded h (ofVerify k)) ≡ contentRead (ofVerify k)
     unfolding contentOf
@@ -170,24 +166,19 @@ module _ (h : Heading) (id : length (h .conversation) ≡ 16) where
     unfolding padsZero
     verify-pads = simp (zeros-le 4 (encoded h (ofVerify k)) 76, verify-pad)
 
-    verify-rule : keepsRule 80 (80 + length (k .value)) (record { size = 1; offset = record { 0 = 80 }; count = length (k .value) }) ≡ true
-    verify-rule = inside-rule _ _ _ (record { behind = omega arith; before = omega arith })
-
     pub verify-rules : allKeepRule 80 (sizeOf (ofVerify k)) (vectorsOf (contentRead (ofVerify k))) ≡ true
     unfolding allKeepRule vectorsOf
-    verify-rules = rw verify-rule
+    verify-rules = rw (payload-rule 1 80 (length (k .value)) (k .value) (omega arith))
 
     pub verify-shows : Shows (ofVerify k) (encoded h (ofVerify k))
     verify-shows =
-        let n = length-encoded h id (ofVerify k) whole in
-        let v : checksumVector (encoded h (ofVerify k)) ≡ record { size = 1; offset = record { 0 = 80 }; count = length (k .value) } = simp (verify-offset, verify-length) in
-        (rw v (shown-field 80 (encoded h (ofVerify k)) (k .value) _ (rw n verify-rule) (verify-value (length (k .value) * 1) (omega arith))), signed-back (k .type) range)
+        let v : checksumVector (encoded h (ofVerify k)) ≡ behindHeader 1 80 (length (k .value)) = simp (verify-offset, verify-length) in
+        (rw v (payload-shown 1 80 (length (k .value)) (k .value) (omega arith) (encoded h (ofVerify k)) (length-encoded h id (ofVerify k) whole) verify-value), signed-back (k .type) range)
 
   -- ALERT, whose array and value are the same in every message
   module _ (p : Pulse) (whole : length (p .scheme) ≡ 16) (range : mag (p .code) < 2147483648) where
     alert-scheme : octets 16 (encoded h (ofAlert p)) 40 ≡ p .scheme
-    unfolding encoded
-    alert-scheme = octets-at 6 40 (fields (ofAlert p)) (simp (length-append, id)) (p .scheme) _ refl 16 whole
+    alert-scheme = first-field (ofAlert p) (p .scheme) _ refl 16 whole
 
     alert-code : le 4 (encoded h (ofAlert p)) 56 ≡ unsigned32 (p .code)
     unfolding encoded

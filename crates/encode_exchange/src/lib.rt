@@ -1,0 +1,47 @@
+// INITIATOR_META_DATA, ACCEPTOR_META_DATA, CHALLENGE and AP_REQUEST.
+ghost use mathlib.Core.Path.{_≡_};
+ghost use Prim.Native.Nat.{_+_, _≤_};
+ghost use lib.ListN.{length};
+ghost use Rattle.put.specs.Put.{Written};
+ghost use Rattle.encode.specs.Encode.{encoded, ofExchange, told, storing};
+use encode::Heading;
+use encode::Stored;
+use encode::has_room;
+use encode::put_head;
+use encode::put_octet_vector;
+use message::Kind;
+use put::put_octets;
+use vector::MessageOffset;
+
+// The message, where it has room.
+fn put_exchange(d: &mut [u8], at: usize, heading: Heading, scheme: [u8; 16], value: &[u8]) -> usize
+    requires { ⌜ (at + (64 + length (now value)) ≤ length (now d)) × (length (now value) ≤ 4294967231) ⌝ }
+    ensures { λ r. ⌜ Written (now (d .entry)) at (64 + length (now (value .entry))) (encoded heading (ofExchange (record { scheme = scheme; value = now (value .entry) }))) (now (d .exit)) r ⌝ }
+{
+    let n = value.len();
+    let a = put_head(d, at, heading, (64 + n) as u32);
+    let b = put_octets(d, a, &scheme);
+    let e = put_octet_vector(d, b, MessageOffset(Kind::EXCHANGE_HEADER), n as u32);
+    put_octets(d, e, value)
+}
+
+// Writes a message that carries an exchange or metadata at a place.
+pub fn write(d: &mut [u8], at: usize, heading: Heading, scheme: [u8; 16], value: &[u8]) -> Stored
+    ensures { λ r. ⌜ told r (now (d .exit)) ≡ storing (now (d .entry)) at heading (ofExchange (record { scheme = scheme; value = now (value .entry) })) ⌝ }
+{
+    if heading.kind.0 < Kind::INITIATOR_META_DATA {
+        return Stored::Nothing;
+    }
+    if Kind::AP_REQUEST < heading.kind.0 {
+        return Stored::Nothing;
+    }
+    let n = value.len();
+    if 4294967231 < n {
+        return Stored::Nothing;
+    }
+    if has_room(d.len(), at, 64 + n) {
+        Stored::Next(put_exchange(d, at, heading, scheme, value))
+    } else {
+        Stored::Nothing
+    }
+}
