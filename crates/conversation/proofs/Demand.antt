@@ -1,24 +1,24 @@
 -- Demand 3, for any two runs.
 -- Assumes nothing.
-use Prim.Native.Nat.{ℕ, zero, suc, _+_, _*_, _≤_, _<_, _/_, _%_}
+use Prim.Native.Nat.{ℕ, _*_, _≤_, _/_, _%_}
 use mathlib.Core.Path.{_≡_, refl, sym, ap, subst, _∙_}
 use mathlib.Core.Bool.{Bool, true, false, cond, not, _&&_}
 use mathlib.Core.Logic.{_⊎_, inl, inr}
-use mathlib.Core.List.{List, [], _∷_, _++_, List·Memᴰ, List·Memᴰ·head, List·Memᴰ·tail, List·Memᴰ·cases-cons, List·Memᴰ·not-nil}
-use mathlib.Core.Option.{Option, none, some}
+use mathlib.Core.List.{List, [], _∷_, List·Memᴰ, List·Memᴰ·head, List·Memᴰ·tail, List·Memᴰ·cases-cons, List·Memᴰ·not-nil}
+use mathlib.Core.Option.{some, Option·some-ne-none}
 use native.Mathlib.Omega.{arith}
-use lib.ListN.{length, take, length-append, replicate}
+use lib.ListN.{length, take}
 use lib.Seq.{take-at}
 use lib.Dec.{eqb, leb}
-use borrow.Author.Tests.{eq-eqb, eqb-true, leb-true, le-leb}
+use borrow.Author.Tests.{eq-eqb, leb-true, le-leb}
 use Rattle.message.specs.Show.{idsOf}
-use Rattle.message.proofs.Tables.{AllTrue, given}
+use Rattle.message.proofs.Tables.{AllTrue}
 use Rattle.encode.specs.Encode.{ofNego, encodable}
 use Rattle.roundtrip.specs.ReadBack.{Sent}
 use Rattle.roundtrip.proofs.RoundTrip.{AllIds, ids-joined, nego-begins}
-use Rattle.schemes.specs.Lists.{Id, mem, distinct, keep, bit, marked, usable, leftOver, rule2, oneTo16, joinIds}
+use Rattle.schemes.specs.Lists.{Id, mem, distinct, first, bit, leftOver, rule2, oneTo16, joinIds}
 use Rattle.schemes.specs.Sets.{left, padTo}
-use Rattle.schemes.specs.Longer.{Longer, SameMarks, NoLater}
+use Rattle.schemes.specs.Longer.{Longer, SameMarks}
 use Rattle.schemes.proofs.Choice.{no-true, and-l, and-r, still-usable, still-common, longer}
 use Rattle.conversation.specs.declared.Record.{Record}
 use Rattle.conversation.specs.declared.Answer.{Answer}
@@ -26,8 +26,9 @@ use Rattle.conversation.specs.State.{ownOf, limitRows}
 use Rattle.conversation.specs.Turns.{NEGO, typeOf}
 use Rattle.conversation.specs.Outcomes.{zeroId}
 use Rattle.conversation.specs.Writing.{heading, messageOf, offered, replyMessage}
-use Rattle.conversation.specs.Runs.{Sized, Call, offer, reply, metadata, exchange, verify, alert, read, choose, Opening, World, world, next, Entry, run, marksIn, isAccepted, isLawful, listOf, MarksKept, Replied, Choice, Demand3}
+use Rattle.conversation.specs.Runs.{Sized, Call, offer, reply, metadata, exchange, verify, alert, read, choose, Opening, World, world, next, Entry, run, isAccepted, isLawful, MarksKept, Replied, Choice, Demand3}
 use Rattle.conversation.proofs.Tokens.{Heads}
+use Rattle.conversation.proofs.Once.{marks-once}
 use Rattle.conversation.proofs.Ends.{ok-distinct, Ask, Fair, run-fair, world-ok, own-opened, count-joined, length-joined}
 
 -- 1. a written NEGO, whatever follows it
@@ -149,6 +150,24 @@ by-rule2 o cs x m h call = go (x .acceptor) (rw call at (fair-run o cs x h)) whe
   go : (b : Bool) → FairIn o cs b (choose m) (x .said) → ByRule2 o cs m (x .said)
   go false f = record { refuses = f .0; answers = f .1; lawful = f .2 }
   go true f = record { refuses = λ e. absurd (f .0 e); answers = λ e. no-true (sym (f .2) ∙ e); lawful = λ e. no-true (sym (f .1) ∙ e) }
+
+-- the acceptor's marks are one set
+pub replied-once : (o : Opening) (cs : List (Bool × Call)) (m n : ℕ) → Replied o cs m → Replied o cs n → m ≡ n
+replied-once o cs m n r s =
+    marks-once o cs true _ _ m n (r .entry) (s .entry) (record { at = refl; marks = refl; accepted = r .accepted }) (record { at = refl; marks = refl; accepted = s .accepted }) .1
+
+-- "No common scheme" is said exactly when there is none: a lawful choosing call is refused with 17 where rule 2 leaves nothing, and only there (`refuses`)
+pub none-refused : (o : Opening) (cs : List (Bool × Call)) (x : Entry) (m ma : ℕ) → List·Memᴰ x (run (world o) cs) → x .call ≡ choose m → isLawful (x .said) ≡ true
+    → Replied o cs ma → leftOver (o .acceptor) (o .initiator) ma m ≡ [] → x .said .refusal ≡ 17
+none-refused o cs x m ma h call l r none-left =
+    let b = by-rule2 o cs x m h call in
+    elim (b .lawful l) [
+      | inl e ↦ e
+      | inr e ↦
+          let g = b .answers e in
+          let same : leftOver (o .acceptor) (o .initiator) (g .0) m ≡ [] = subst (λ (n : ℕ). leftOver (o .acceptor) (o .initiator) n m ≡ []) (replied-once o cs ma (g .0) r (g .1 .0)) none-left in
+          absurd (Option·some-ne-none (x .said .choice) (sym (g .1 .1 .0) ∙ ap first same))
+    ]
 
 no-mem-nil : (s : Id) (l : List Id) → l ≡ [] → mem s l ≡ true → ⊥
 unfolding mem

@@ -1,97 +1,40 @@
 -- Demand 3: an invariant of the two ends of a run, kept by every call, and what each call then answers.
 -- Assumes nothing.
-use Prim.Native.Nat.{ℕ, zero, suc, _+_, _*_, _≤_, _<_, _/_, _%_}
+use Prim.Native.Nat.{ℕ, _+_, _*_, _≤_, _/_, _%_}
 use mathlib.Core.Path.{_≡_, refl, sym, ap, subst, _∙_}
 use mathlib.Core.Bool.{Bool, true, false, cond, not, _&&_, _||_}
 use mathlib.Core.Logic.{_⊎_, inl, inr}
 use mathlib.Core.List.{List, [], _∷_, _++_, List·Memᴰ, List·Memᴰ·head, List·Memᴰ·tail, List·Memᴰ·cases-cons, List·Memᴰ·not-nil, append-nil, append-assoc}
-use mathlib.Core.Option.{Option, none, some}
+use mathlib.Core.Option.{some}
 use native.Mathlib.Omega.{arith}
-use lib.ListN.{length, take, drop, length-take, length-drop, length-append}
+use lib.ListN.{length, length-take, length-drop, length-append}
 use lib.Seq.{take-at, drop-at}
-use lib.Dec.{eqb, leb, ltb}
-use lib.IntN.{ℤ}
-use borrow.Author.Tests.{eq-eqb, eqb-true, eqb-false, leb-true, ne-eqb, not-true}
+use lib.Dec.{eqb, leb}
+use borrow.Author.Tests.{eq-eqb, eqb-true}
 use Rattle.octets.specs.Octets.{octets}
-use Rattle.message.specs.Layout.{headOf}
 use Rattle.message.specs.Show.{idsAt, idsOf}
 use Rattle.message.specs.Check.{Row, FirstFails}
 use Rattle.message.proofs.Tables.{which, AllTrue}
-use Rattle.encode.specs.declared.Heading.{Heading}
-use Rattle.encode.specs.Encode.{ofNego, encoded}
-use Rattle.schemes.specs.Lists.{Id, mem, distinct, first, keep, marked, usable, leftOver, rule2, oneTo16, listOk, joinIds}
-use Rattle.schemes.specs.Sets.{commonSet, left, keptPlaces, ones, openPlaces, named, below, padTo}
-use Rattle.schemes.specs.Longer.{Longer, SameMarks, NoLater}
-use Rattle.schemes.proofs.Choice.{no-true, and-l, and-r, still-usable, still-common, longer}
+use Rattle.schemes.specs.Lists.{Id, distinct, first, leftOver, rule2, oneTo16, listOk, joinIds}
+use Rattle.schemes.specs.Sets.{commonSet, left, keptPlaces, ones, named, below, padTo}
+use Rattle.schemes.proofs.Choice.{no-true, and-r}
 use Rattle.schemes.proofs.Replies.{replyOf, left-keep, left-of-reply}
 use Rattle.conversation.specs.declared.Record.{Record}
 use Rattle.conversation.specs.declared.Answer.{Answer}
 use Rattle.conversation.specs.declared.Scan.{Scan}
-use Rattle.conversation.specs.State.{NONE, ownOf, replied, limitRows, fresh}
-use Rattle.conversation.specs.Turns.{NEGO, METADATA, EXCHANGE, VERIFY, ALERT, writing, reading, kindOf, typeOf, afterOpening, afterFurther, after, writes, reads, placeAfter, mayWrite, mayRead}
-use Rattle.conversation.specs.Outcomes.{Outcome, zeroId, answered, refused, decide, row, room, fits, WrittenAs, unchanged, wrote, appended}
-use Rattle.conversation.specs.Writing.{heading, messageOf, stageRows, offered, offering, someLeft, firstOr, replyMessage, naming, replying, metadataAllowed, metadataMessage, writingMetadata, schemeAllowed, exchangeMessage, askedBy, writingExchange, verifyMessage, writingVerify, alertMessage, writingAlert, opening}
+use Rattle.conversation.specs.State.{ownOf, limitRows, fresh}
+use Rattle.conversation.specs.Turns.{NEGO, writing, reading, kindOf, after, writes, reads, placeAfter, mayWrite, mayRead}
+use Rattle.conversation.specs.Outcomes.{Outcome, zeroId, answered, row, fits, WrittenAs, unchanged, wrote, appended}
+use Rattle.conversation.specs.Writing.{stageRows, offered, offerRows, offering, someLeft, firstOr, replyMessage, naming, replying, opening}
 use Rattle.conversation.specs.Admitting.{listedBy}
-use Rattle.conversation.specs.Reading.{conversationOf, Judged, whole, halted, judged, commonAfter, keptAfter, taken, finish, readingToken}
+use Rattle.conversation.specs.Reading.{conversationOf, whole, judged, commonAfter, keptAfter, taken}
 use Rattle.conversation.specs.Choosing.{openTo, mayChoose, chose, choosing}
-use Rattle.conversation.specs.Runs.{Sized, Call, offer, reply, metadata, exchange, verify, alert, read, choose, End, act, turnAfter, moved, Opening, World, world, outcomeAt, next, Entry, run, marksIn, isAccepted, isLawful, listOf, MarksKept, Replied, Choice, Demand3}
-use Rattle.conversation.proofs.Rows.{decide-out, without, fails-other, fails-one, fails-each, fails-until, true-behind, front-true}
-use Rattle.conversation.proofs.Tokens.{Heads, heads-more, heads-here, empty-judged, First, judged-first, Other, judged-number}
+use Rattle.conversation.specs.Runs.{Sized, Call, offer, reply, metadata, exchange, verify, alert, read, choose, End, act, Opening, World, world, outcomeAt, next, Entry, run, isAccepted, isLawful}
+use Rattle.conversation.proofs.Rows.{decide-out, fails-other, fails-one, fails-each, fails-until, true-behind, front-true}
+use Rattle.conversation.proofs.Tokens.{Heads, heads-more, heads-here, empty-judged, judged-first}
+use Rattle.conversation.proofs.Goals.{positive, none-written, no-after, NotFirst, nego-start, no17, not-some, Goal, refusal, stopped, metadata-goal, exchange-goal, verify-goal, alert-goal, read-goal}
 
--- 1. the turn's table
-
-zero-cond : (b : Bool) → _≡_ {A = ℕ} (cond b 0 0) 0
-zero-cond true = refl
-zero-cond false = refl
-
-positive : (n : ℕ) → not (eqb n 0) ≡ true → 1 ≤ n
-positive zero e = no-true e
-positive (suc n) e = omega arith
-
--- nothing is written while no token is
-none-written : (position : ℕ) (v : Bool) (kind : ℕ) → after 3 position v kind ≡ 0
-unfolding after
-none-written position v kind = zero-cond (eqb kind 4 && v)
-
-no-after : (n : ℕ) → n ≡ 0 → not (eqb n 0) ≡ true → ⊥
-no-after n e h = let w = positive n h in omega arith
-
--- a turn begins with a NEGO
-abbrev NotFirst : ℕ → Type 0
-NotFirst kind = (token : ℕ) (v : Bool) → leb token 1 ≡ true → after token 0 v kind ≡ 0
-
-metadata-not-first : NotFirst METADATA
-unfolding after afterOpening
-metadata-not-first token v e = rw e
-
-exchange-not-first : NotFirst EXCHANGE
-unfolding after afterOpening
-exchange-not-first token v e = rw e
-
-verify-not-first : NotFirst VERIFY
-unfolding after afterOpening
-verify-not-first token true e = refl
-verify-not-first token false e = rw e
-
-alert-not-first : NotFirst ALERT
-unfolding after afterOpening
-alert-not-first token v e = rw e
-
--- a NEGO stands at the start of the first token or of the reply
-nego-start : (token position : ℕ) (v : Bool) → not (eqb (after token position v NEGO) 0) ≡ true → (leb token 1 ≡ true) × (position ≡ 0)
-unfolding after afterOpening afterFurther
-nego-start token position v e = elim (which (leb token 1)) [
-  | inl a ↦ elim (which (eqb position 0)) [
-    | inl b ↦ (a, eqb-true _ _ b)
-    | inr b ↦ no-true (rw (a, b) at e)
-  ]
-  | inr a ↦ elim (which (eqb token 2)) [
-    | inl b ↦ no-true (rw (a, b) at e)
-    | inr b ↦ no-true (rw (a, b) at e)
-  ]
-]
-
--- 2. the invariant
+-- 1. the invariant
 
 -- the stages in which the two ends can be at once
 pub record Together (i a : ℕ) : Type 0 where
@@ -101,9 +44,6 @@ pub record Together (i a : ℕ) : Type 0 where
 
 pub ok-distinct : (l : List Id) → oneTo16 l ≡ true → distinct l ≡ true
 ok-distinct l e = and-r (leb 1 (length l) && leb (length l) 16) (distinct l) e
-
-abbrev pub no17 : Answer → Type 0
-no17 a = a .refusal ≡ 17 → ⊥
 
 module _ (o : Opening) (Q : ℕ → Type 0)
     (heads-offer : (r : Record) (random : Sized 32) → r .acceptor ≡ false → r .list ≡ padTo 256 (joinIds (o .initiator)) → r .count ≡ length (o .initiator) → r .conversation ≡ o .conversation .0 → AllTrue (limitRows r) → Heads 0 (o .initiator) (offered r (random .0)))
@@ -144,7 +84,7 @@ module _ (o : Opening) (Q : ℕ → Type 0)
       acc-ok : AccOk (w .a)
       stages : Together (w .i .record-of .stage) (w .a .record-of .stage)
 
-    -- 3. what each call answers
+    -- 2. what each call answers
 
     abbrev pub ChooseSays : ℕ → Answer → Type 0
     ChooseSays m a =
@@ -195,7 +135,7 @@ module _ (o : Opening) (Q : ℕ → Type 0)
     Ask false k a = Unit {0}
     Ask true k a = AskAcc k a
 
-    -- 4. the initiator's calls
+    -- 3. the initiator's calls
 
     module _ (e f : End) (ok : IniOk e) (ok′ : AccOk f) (tg : Together (e .record-of .stage) (f .record-of .stage)) where
       abbrev r : Record
@@ -204,21 +144,11 @@ module _ (o : Opening) (Q : ℕ → Type 0)
       abbrev d : List ℕ
       d = e .transcript
 
-      record IniGoal (k : Call) (P : Answer → Type 0) (out : Outcome) : Type 0 where
-        then-ok : IniOk (moved e k out)
-        then-together : Together (out .answer .next .stage) (f .record-of .stage)
-        fair : P (out .answer)
+      abbrev beside : ℕ → Type 0
+      beside k = Together k (f .record-of .stage)
 
-      ini-refused : (k : Call) (P : Answer → Type 0) (n p : ℕ) → (n ≡ 0 → ⊥) → P (answered n p r) → IniGoal k P (refused r d n p)
-      ini-refused k P n p z h = record {
-        then-ok = record { role = ok .role; own = ok .own; bytes = ok .bytes; count = ok .count; talk = ok .talk; at = rw (ne-eqb n 0 z) (ok .at) };
-        then-together = tg;
-        fair = h;
-      }
-
-      -- a refusal by a table that has no 17
-      ini-stopped : (k : Call) (rows : List Row) → without 0 rows ≡ true → without 17 rows ≡ true → (n : ℕ) → FirstFails n rows → IniGoal k no17 (refused r d n 0)
-      ini-stopped k rows z s n g = ini-refused k no17 n 0 (fails-other 0 rows n z g) (λ q. fails-other 17 rows n s g q)
+      abbrev IniGoal : (k : Call) (P : Answer → Type 0) → Outcome → Type 0
+      IniGoal = Goal e IniOk beside
 
       -- a message behind the NEGO
       ini-more : (kind n : ℕ) (w : WrittenAs) (x : List ℕ) → NotFirst kind → mayWrite r kind ≡ true → IniAt r (e .turn) → IniAt (wrote r (placeAfter r kind) n w) (e .turn ++ x)
@@ -230,15 +160,8 @@ module _ (o : Opening) (Q : ℕ → Type 0)
           absurd (no-after _ (none-written (r .position) (r .verified) kind) (let h′ : not (eqb (after (writing false 2) (r .position) (r .verified) kind) 0) ≡ true = rw (ok .role, st) at h in h′))
       ini-more kind n w x nf h (ini-later st) = ini-later st
 
-      ini-write : (k : Call) (kind : ℕ) (more : List Row) (x : List ℕ) (w : WrittenAs) → NotFirst kind → turnAfter e k ≡ e .turn ++ x → without 0 more ≡ true → without 17 more ≡ true → IniGoal k no17 (decide (stageRows r kind ++ more) r d (appended r d (placeAfter r kind) x w))
-      ini-write k kind more x w nf t z s =
-          decide-out (IniGoal k no17) (stageRows r kind ++ more) r d (appended r d (placeAfter r kind) x w)
-          (ini-stopped k (stageRows r kind ++ more) z s)
-          (λ g. record {
-            then-ok = record { role = ok .role; own = ok .own; bytes = ok .bytes; count = ok .count; talk = ok .talk; at = rw t (ini-more kind (length x) w x nf (true-behind (limitRows r) (row 18 (mayWrite r kind)) more g) (ok .at)) };
-            then-together = tg;
-            fair = λ q. omega arith;
-          })
+      ini-on : (kind : ℕ) (w : WrittenAs) (x d′ : List ℕ) → NotFirst kind → mayWrite r kind ≡ true → IniOk (record { record-of = wrote r (placeAfter r kind) (length x) w; transcript = d′; turn = e .turn ++ x })
+      ini-on kind w x d′ nf h = record { role = ok .role; own = ok .own; bytes = ok .bytes; count = ok .count; talk = ok .talk; at = ini-more kind (length x) w x nf h (ok .at) }
 
       ini-nego : (random : Sized 32) → mayWrite r NEGO ≡ true → AllTrue (limitRows r) → IniAt r (e .turn) → IniAt (wrote r (placeAfter r NEGO) (length (offered r (random .0))) (unchanged r)) (e .turn ++ offered r (random .0))
       unfolding writing
@@ -252,9 +175,9 @@ module _ (o : Opening) (Q : ℕ → Type 0)
       ini-offer : (random : Sized 32) → IniGoal (offer random) no17 (offering r d (random .0))
       unfolding offering
       ini-offer random =
-          let more : List Row = row 18 (not (r .acceptor)) ∷ fits r d (length (offered r (random .0))) ∷ [] in
+          let more : List Row = offerRows r d (random .0) in
           decide-out (IniGoal (offer random) no17) (stageRows r NEGO ++ more) r d (appended r d (placeAfter r NEGO) (offered r (random .0)) (unchanged r))
-          (ini-stopped (offer random) (stageRows r NEGO ++ more) refl refl)
+          (stopped e IniOk beside ok tg (offer random) (stageRows r NEGO ++ more) refl refl)
           (λ g. record {
             then-ok = record { role = ok .role; own = ok .own; bytes = ok .bytes; count = ok .count; talk = ok .talk; at = ini-nego random (true-behind (limitRows r) (row 18 (mayWrite r NEGO)) more g) (front-true (limitRows r) (row 18 (mayWrite r NEGO) ∷ more) g) (ok .at) };
             then-together = tg;
@@ -266,7 +189,7 @@ module _ (o : Opening) (Q : ℕ → Type 0)
       ini-reply m random =
           let more : List Row = row 19 (below (r .count) m) ∷ row 17 (someLeft (left (ownOf r) (r .common) m)) ∷ fits r d (length (replyMessage r m (random .0))) ∷ [] in
           decide-out (IniGoal (reply m random) no17) (stageRows r NEGO ++ (row 18 (r .acceptor) ∷ more)) r d _
-          (λ n g. ini-stopped (reply m random) (stageRows r NEGO ++ (row 18 (r .acceptor) ∷ [])) refl refl n (fails-until (stageRows r NEGO) (row 18 (r .acceptor)) more n (ok .role) g))
+          (λ n g. stopped e IniOk beside ok tg (reply m random) (stageRows r NEGO ++ (row 18 (r .acceptor) ∷ [])) refl refl n (fails-until (stageRows r NEGO) (row 18 (r .acceptor)) more n (ok .role) g))
           (λ g. no-true (sym (ok .role) ∙ true-behind (stageRows r NEGO) (row 18 (r .acceptor)) more g))
 
       -- the reply, read
@@ -295,23 +218,10 @@ module _ (o : Opening) (Q : ℕ → Type 0)
             record { first-stage = λ z. absurd (omega arith); choosing′ = λ z. st′; later = λ z. absurd (omega arith) },
           )
 
-      ini-read : IniGoal read no17 (readingToken r d (f .turn))
-      unfolding readingToken
-      ini-read =
-          let rows : List Row = limitRows r ++ (row 18 (mayRead r) ∷ row 1 (leb (length (f .turn)) 65535) ∷ []) in
-          decide-out (IniGoal read no17) rows r d (finish r d (f .turn) (judged r (f .turn)))
-          (ini-stopped read rows refl refl)
-          (λ g. token (judged r (f .turn)) refl (true-behind (limitRows r) (row 18 (mayRead r)) (row 1 (leb (length (f .turn)) 65535) ∷ []) g)) where
-            token : (j : Judged) → judged r (f .turn) ≡ j → mayRead r ≡ true → IniGoal read no17 (finish r d (f .turn) j)
-            token (halted n p) w h = unfold finish in (let z = judged-number r (f .turn) n p w in ini-refused read no17 n p (z .0) (z .1))
-            token (whole n c) w h = unfold finish in elim (which (leb (r .used + length (f .turn)) (room d))) [
-              | inr b ↦ rw b (ini-refused read no17 16 0 (λ z. omega arith) (λ z. omega arith))
-              | inl b ↦ rw b (let g = ini-reads n c h w (ok .at) (ok′ .at) in record {
-                then-ok = record { role = ok .role; own = ok .own; bytes = ok .bytes; count = ok .count; talk = ini-conversation (f .turn) ∙ ok .talk; at = g .0 };
-                then-together = g .1;
-                fair = λ z. omega arith;
-              })
-            ]
+      ini-reads-on : (n : ℕ) (c : Scan) (d′ : List ℕ) → mayRead r ≡ true → judged r (f .turn) ≡ whole n c → IniOk (record { record-of = taken r (f .turn) n c; transcript = d′; turn = [] }) × beside (reads r + 1)
+      ini-reads-on n c d′ h w =
+          let g = ini-reads n c h w (ok .at) (ok′ .at) in
+          (record { role = ok .role; own = ok .own; bytes = ok .bytes; count = ok .count; talk = ini-conversation (f .turn) ∙ ok .talk; at = g .0 }, g .1)
 
       -- the choice
       ini-chooses : (m : ℕ) → eqb (r .stage) 2 ≡ true → IniAt r (e .turn) → (ma : ℕ) × (Q ma × (named (ownOf r) (openTo r m) ≡ leftOver (o .acceptor) (o .initiator) ma m))
@@ -327,10 +237,6 @@ module _ (o : Opening) (Q : ℕ → Type 0)
       only-17 : (n : ℕ) → eqb n 17 || not (lawful n) ≡ true → lawful n ≡ true → eqb n 17 ≡ true
       only-17 n e h = elim (which (eqb n 17)) [ inl a ↦ a | inr a ↦ no-true (rw (a, h) at e) ]
 
-      not-some : (l : List Id) → someLeft l ≡ false → l ≡ []
-      not-some [] h = refl
-      not-some (x ∷ l) h = no-true (sym h)
-
       some-first : (l : List Id) → someLeft l ≡ true → first l ≡ some (firstOr l)
       some-first [] h = no-true h
       some-first (x ∷ l) h = refl
@@ -341,7 +247,7 @@ module _ (o : Opening) (Q : ℕ → Type 0)
           let l : List Id = named (ownOf r) (openTo r m) in
           let before : List Row = limitRows r ++ (row 18 (mayChoose r) ∷ row 19 (below (r .count) m) ∷ []) in
           decide-out (IniGoal (choose m) (ChooseSays m)) (before ++ (row 17 (someLeft l) ∷ [])) r d (naming l (record { answer = answered 0 0 (chose r m); transcript = d }))
-          (λ n g. ini-refused (choose m) (ChooseSays m) n 0 (fails-other 0 (before ++ (row 17 (someLeft l) ∷ [])) n refl g) (refusal-says n g))
+          (λ n g. refusal e IniOk beside ok tg (choose m) (ChooseSays m) n 0 (fails-other 0 (before ++ (row 17 (someLeft l) ∷ [])) n refl g) (refusal-says n g))
           (λ g.
           let b = true-behind (limitRows r) (row 18 (mayChoose r)) (row 19 (below (r .count) m) ∷ row 17 (someLeft l) ∷ []) g in
           let h = and-r (not (r .acceptor)) (eqb (r .stage) 2) b in
@@ -366,21 +272,17 @@ module _ (o : Opening) (Q : ℕ → Type 0)
                 )
 
       ini-step : (k : Call) → IniGoal k (IniSays k) (act e (f .turn) k)
-      unfolding act writingMetadata writingExchange writingVerify writingAlert
+      unfolding act
       ini-step (offer random) = ini-offer random
       ini-step (reply m random) = ini-reply m random
-      ini-step (metadata id value) =
-          ini-write (metadata id value) METADATA (row 19 (leb 1 (length value)) ∷ row 15 (metadataAllowed r (id .0)) ∷ fits r d (length (metadataMessage r (id .0) value)) ∷ []) (metadataMessage r (id .0) value) _ metadata-not-first refl refl refl
-      ini-step (exchange value) =
-          ini-write (exchange value) EXCHANGE (row 15 (schemeAllowed r) ∷ fits r d (length (exchangeMessage r value)) ∷ []) (exchangeMessage r value) _ exchange-not-first refl refl refl
-      ini-step (verify type value) =
-          ini-write (verify type value) VERIFY (row 15 (schemeAllowed r) ∷ fits r d (length (verifyMessage r type value)) ∷ []) (verifyMessage r type value) _ verify-not-first refl refl refl
-      ini-step (alert code) =
-          ini-write (alert code) ALERT (row 15 (schemeAllowed r) ∷ fits r d (length (alertMessage r code)) ∷ []) (alertMessage r code) _ alert-not-first refl refl refl
-      ini-step read = ini-read
+      ini-step (metadata id value) = metadata-goal e IniOk beside ok tg ini-on id value
+      ini-step (exchange value) = exchange-goal e IniOk beside ok tg ini-on value
+      ini-step (verify type value) = verify-goal e IniOk beside ok tg ini-on type value
+      ini-step (alert code) = alert-goal e IniOk beside ok tg ini-on code
+      ini-step read = read-goal e IniOk beside ok tg (f .turn) ini-reads-on
       ini-step (choose m) = ini-choose m
 
-    -- 5. the acceptor's calls
+    -- 4. the acceptor's calls
 
     module _ (e f : End) (ok : AccOk e) (ok′ : IniOk f) (tg : Together (f .record-of .stage) (e .record-of .stage)) where
       abbrev s : Record
@@ -389,20 +291,11 @@ module _ (o : Opening) (Q : ℕ → Type 0)
       abbrev b : List ℕ
       b = e .transcript
 
-      record AccGoal (k : Call) (P : Answer → Type 0) (out : Outcome) : Type 0 where
-        then-ok : AccOk (moved e k out)
-        then-together : Together (f .record-of .stage) (out .answer .next .stage)
-        fair : P (out .answer)
+      abbrev along : ℕ → Type 0
+      along k = Together (f .record-of .stage) k
 
-      acc-refused : (k : Call) (P : Answer → Type 0) (n p : ℕ) → (n ≡ 0 → ⊥) → P (answered n p s) → AccGoal k P (refused s b n p)
-      acc-refused k P n p z h = record {
-        then-ok = record { role = ok .role; own = ok .own; at = rw (ne-eqb n 0 z) (ok .at) };
-        then-together = tg;
-        fair = h;
-      }
-
-      acc-stopped : (k : Call) (rows : List Row) → without 0 rows ≡ true → without 17 rows ≡ true → (n : ℕ) → FirstFails n rows → AccGoal k no17 (refused s b n 0)
-      acc-stopped k rows z w n g = acc-refused k no17 n 0 (fails-other 0 rows n z g) (λ q. fails-other 17 rows n w g q)
+      abbrev AccGoal : (k : Call) (P : Answer → Type 0) → Outcome → Type 0
+      AccGoal = Goal e AccOk along
 
       acc-more : (kind n : ℕ) (w : WrittenAs) (x : List ℕ) → NotFirst kind → mayWrite s kind ≡ true → AccAt s (e .turn) → AccAt (wrote s (placeAfter s kind) n w) (e .turn ++ x)
       unfolding writing
@@ -413,15 +306,8 @@ module _ (o : Opening) (Q : ℕ → Type 0)
       acc-more kind n w x nf h (acc-open st p ma q t) = acc-open st (positive (placeAfter s kind) h) ma q (heads-more 1 (reply-of ma) (e .turn) x t)
       acc-more kind n w x nf h (acc-later st) = acc-later st
 
-      acc-write : (k : Call) (kind : ℕ) (more : List Row) (x : List ℕ) (w : WrittenAs) → NotFirst kind → turnAfter e k ≡ e .turn ++ x → without 0 more ≡ true → without 17 more ≡ true → AccGoal k no17 (decide (stageRows s kind ++ more) s b (appended s b (placeAfter s kind) x w))
-      acc-write k kind more x w nf t z v =
-          decide-out (AccGoal k no17) (stageRows s kind ++ more) s b (appended s b (placeAfter s kind) x w)
-          (acc-stopped k (stageRows s kind ++ more) z v)
-          (λ g. record {
-            then-ok = record { role = ok .role; own = ok .own; at = rw t (acc-more kind (length x) w x nf (true-behind (limitRows s) (row 18 (mayWrite s kind)) more g) (ok .at)) };
-            then-together = tg;
-            fair = λ q. omega arith;
-          })
+      acc-on : (kind : ℕ) (w : WrittenAs) (x d′ : List ℕ) → NotFirst kind → mayWrite s kind ≡ true → AccOk (record { record-of = wrote s (placeAfter s kind) (length x) w; transcript = d′; turn = e .turn ++ x })
+      acc-on kind w x d′ nf h = record { role = ok .role; own = ok .own; at = acc-more kind (length x) w x nf h (ok .at) }
 
       acc-offer : (random : Sized 32) → AccGoal (offer random) no17 (offering s b (random .0))
       unfolding offering
@@ -429,7 +315,7 @@ module _ (o : Opening) (Q : ℕ → Type 0)
           let more : List Row = fits s b (length (offered s (random .0))) ∷ [] in
           let no : not (s .acceptor) ≡ false = rw (ok .role) in
           decide-out (AccGoal (offer random) no17) (stageRows s NEGO ++ (row 18 (not (s .acceptor)) ∷ more)) s b _
-          (λ n g. acc-stopped (offer random) (stageRows s NEGO ++ (row 18 (not (s .acceptor)) ∷ [])) refl refl n (fails-until (stageRows s NEGO) (row 18 (not (s .acceptor))) more n no g))
+          (λ n g. stopped e AccOk along ok tg (offer random) (stageRows s NEGO ++ (row 18 (not (s .acceptor)) ∷ [])) refl refl n (fails-until (stageRows s NEGO) (row 18 (not (s .acceptor))) more n no g))
           (λ g. no-true (sym no ∙ true-behind (stageRows s NEGO) (row 18 (not (s .acceptor))) more g))
 
       -- the acceptor's NEGO
@@ -455,10 +341,6 @@ module _ (o : Opening) (Q : ℕ → Type 0)
       acc-lists m h (acc-later st) =
           no-true (let z : leb (writing true 3) 1 ≡ true = rw (ok .role, st) at (nego-start (writes s) (s .position) (s .verified) h .0) in z)
 
-      empty-left : (l : List Id) → someLeft l ≡ false → l ≡ []
-      empty-left [] h = refl
-      empty-left (x ∷ l) h = no-true (sym h)
-
       acc-reply : (m : ℕ) (random : Sized 32) → (isAccepted (replying s b m (random .0) .answer) ≡ true → Q m) → AccGoal (reply m random) (λ a. a .refusal ≡ 17 → reply-of m ≡ []) (replying s b m (random .0))
       unfolding replying
       acc-reply m random =
@@ -468,11 +350,11 @@ module _ (o : Opening) (Q : ℕ → Type 0)
           let P : Answer → Type 0 = λ a. a .refusal ≡ 17 → reply-of m ≡ [] in
           decide-out (λ out. (isAccepted (out .answer) ≡ true → Q m) → AccGoal (reply m random) P out) (before ++ (row 17 (someLeft l) ∷ last)) s b
           (naming l (appended s b (placeAfter s NEGO) (replyMessage s m (random .0)) (record { marks = m; told = s .told; asked = s .asked; verified = s .verified })))
-          (λ n g ask. acc-refused (reply m random) P n 0 (fails-other 0 (before ++ (row 17 (someLeft l) ∷ last)) n refl g)
+          (λ n g ask. refusal e AccOk along ok tg (reply m random) P n 0 (fails-other 0 (before ++ (row 17 (someLeft l) ∷ last)) n refl g)
           (λ z.
           let w = fails-one 17 before (someLeft l) last n refl refl g z in
           let h = true-behind (limitRows s) (row 18 (mayWrite s NEGO)) (row 18 (s .acceptor) ∷ row 19 (below (s .count) m) ∷ []) (w .0) in
-          sym (acc-lists m h (ok .at) .lists) ∙ empty-left l (w .1)))
+          sym (acc-lists m h (ok .at) .lists) ∙ not-some l (w .1)))
           (λ g ask.
           let h = true-behind (limitRows s) (row 18 (mayWrite s NEGO)) (row 18 (s .acceptor) ∷ row 19 (below (s .count) m) ∷ row 17 (someLeft l) ∷ last) g in
           let a = acc-lists m h (ok .at) in
@@ -516,23 +398,8 @@ module _ (o : Opening) (Q : ℕ → Type 0)
           let is : reads s + 1 ≡ 3 = rw (ok .role, st) in
           (acc-later is, subst (λ (k : ℕ). Together (f .record-of .stage) k) (st ∙ sym is) tg)
 
-      acc-read-call : AccGoal read no17 (readingToken s b (f .turn))
-      unfolding readingToken
-      acc-read-call =
-          let rows : List Row = limitRows s ++ (row 18 (mayRead s) ∷ row 1 (leb (length (f .turn)) 65535) ∷ []) in
-          decide-out (AccGoal read no17) rows s b (finish s b (f .turn) (judged s (f .turn)))
-          (acc-stopped read rows refl refl)
-          (λ g. token (judged s (f .turn)) refl (true-behind (limitRows s) (row 18 (mayRead s)) (row 1 (leb (length (f .turn)) 65535) ∷ []) g)) where
-            token : (j : Judged) → judged s (f .turn) ≡ j → mayRead s ≡ true → AccGoal read no17 (finish s b (f .turn) j)
-            token (halted n p) w h = unfold finish in (let z = judged-number s (f .turn) n p w in acc-refused read no17 n p (z .0) (z .1))
-            token (whole n c) w h = unfold finish in elim (which (leb (s .used + length (f .turn)) (room b))) [
-              | inr x ↦ rw x (acc-refused read no17 16 0 (λ z. omega arith) (λ z. omega arith))
-              | inl x ↦ rw x (let g = acc-reads n c h w (ok .at) (ok′ .at) in record {
-                then-ok = record { role = ok .role; own = ok .own; at = g .0 };
-                then-together = g .1;
-                fair = λ z. omega arith;
-              })
-            ]
+      acc-reads-on : (n : ℕ) (c : Scan) (d′ : List ℕ) → mayRead s ≡ true → judged s (f .turn) ≡ whole n c → AccOk (record { record-of = taken s (f .turn) n c; transcript = d′; turn = [] }) × along (reads s + 1)
+      acc-reads-on n c d′ h w = let g = acc-reads n c h w (ok .at) (ok′ .at) in (record { role = ok .role; own = ok .own; at = g .0 }, g .1)
 
       -- an acceptor never chooses
       acc-choose : (m : ℕ) → AccGoal (choose m) Barred (choosing s b m)
@@ -544,25 +411,21 @@ module _ (o : Opening) (Q : ℕ → Type 0)
           (λ n g.
           let h = fails-until (limitRows s) (row 18 (mayChoose s)) more n no g in
           let is : n ≡ 18 = eqb-true _ _ (fails-each (λ k. eqb k 18) (limitRows s ++ (row 18 (mayChoose s) ∷ [])) n refl h) in
-          acc-refused (choose m) Barred n 0 (λ z. omega arith) (rw is ((λ z. omega arith), refl, refl)))
+          refusal e AccOk along ok tg (choose m) Barred n 0 (λ z. omega arith) (rw is ((λ z. omega arith), refl, refl)))
           (λ g. no-true (sym no ∙ true-behind (limitRows s) (row 18 (mayChoose s)) more g))
 
       acc-step : (k : Call) → AskAcc k (act e (f .turn) k .answer) → AccGoal k (AccSays k) (act e (f .turn) k)
-      unfolding act writingMetadata writingExchange writingVerify writingAlert
+      unfolding act
       acc-step (offer random) q = acc-offer random
       acc-step (reply m random) q = acc-reply m random q
-      acc-step (metadata id value) q =
-          acc-write (metadata id value) METADATA (row 19 (leb 1 (length value)) ∷ row 15 (metadataAllowed s (id .0)) ∷ fits s b (length (metadataMessage s (id .0) value)) ∷ []) (metadataMessage s (id .0) value) _ metadata-not-first refl refl refl
-      acc-step (exchange value) q =
-          acc-write (exchange value) EXCHANGE (row 15 (schemeAllowed s) ∷ fits s b (length (exchangeMessage s value)) ∷ []) (exchangeMessage s value) _ exchange-not-first refl refl refl
-      acc-step (verify type value) q =
-          acc-write (verify type value) VERIFY (row 15 (schemeAllowed s) ∷ fits s b (length (verifyMessage s type value)) ∷ []) (verifyMessage s type value) _ verify-not-first refl refl refl
-      acc-step (alert code) q =
-          acc-write (alert code) ALERT (row 15 (schemeAllowed s) ∷ fits s b (length (alertMessage s code)) ∷ []) (alertMessage s code) _ alert-not-first refl refl refl
-      acc-step read q = acc-read-call
+      acc-step (metadata id value) q = metadata-goal e AccOk along ok tg acc-on id value
+      acc-step (exchange value) q = exchange-goal e AccOk along ok tg acc-on value
+      acc-step (verify type value) q = verify-goal e AccOk along ok tg acc-on type value
+      acc-step (alert code) q = alert-goal e AccOk along ok tg acc-on code
+      acc-step read q = read-goal e AccOk along ok tg (f .turn) acc-reads-on
       acc-step (choose m) q = acc-choose m
 
-    -- 6. a run
+    -- 5. a run
 
     moved-ok : (w : World) → Ok w → (x : Bool) (k : Call) → Ask x k (outcomeAt w x k .answer) → Ok (next w x k) × Fair x k (outcomeAt w x k .answer)
     moved-ok w h false k q =
@@ -589,7 +452,7 @@ module _ (o : Opening) (Q : ℕ → Type 0)
       stages = record { first-stage = λ z. omega arith; choosing′ = λ z. absurd (omega arith); later = λ z. absurd (omega arith) };
     }
 
--- 7. opened lists
+-- 6. opened lists
 
 mem-one : (x : Id) (l : List Id) → List·Memᴰ x (x ∷ l)
 mem-one x l = List·Memᴰ·head refl

@@ -1,15 +1,15 @@
 -- The promises about runs are not empty: a whole conversation, computed; and two runs that meet demand 3's premises.
 -- Assumes nothing.
 use Prim.Native.Nat.{ℕ, zero, suc}
-use mathlib.Core.Path.{_≡_, refl, sym, ap}
+use mathlib.Core.Path.{_≡_, refl}
 use mathlib.Core.Bool.{Bool, true, false, _&&_}
-use mathlib.Core.Logic.{_⊎_, inl, inr}
+use mathlib.Core.Logic.{inl, inr}
 use mathlib.Core.List.{List, [], _∷_, List·Memᴰ, List·Memᴰ·head, List·Memᴰ·tail, List·Memᴰ·cases-cons, List·Memᴰ·not-nil}
 use mathlib.Core.Option.{Option, none, some}
 use lib.ListN.{length, getD, replicate}
 use native.Mathlib.Omega.{arith}
 use lib.Dec.{T, eqb}
-use lib.IntN.{ℤ, pos, negsuc}
+use lib.IntN.{pos, negsuc}
 use borrow.Author.Tests.{eqb-true}
 use Rattle.octets.specs.Octets.{le, signed32, sameOctets, sameId}
 use Rattle.octets.proofs.Same.{same-eq}
@@ -21,9 +21,9 @@ use Rattle.message.proofs.Tables.{which}
 use Rattle.token.specs.Token.{orderRows, nextRows, chainOf}
 use Rattle.put.specs.Put.{put}
 use Rattle.encode.specs.Encode.{encoded}
-use Rattle.schemes.specs.Lists.{Id, mem, place, distinct, bit}
-use Rattle.schemes.specs.Sets.{commonSet, left, has, mentions, ones, openPlaces, keptBelow}
-use Rattle.schemes.specs.Longer.{Within, none-left, kept, gained, Longer}
+use Rattle.schemes.specs.Lists.{mem, place, distinct, bit}
+use Rattle.schemes.specs.Sets.{setOf, left, has, mentions, ones, openPlaces, keptBelow}
+use Rattle.schemes.specs.Longer.{none-left, kept, gained, Longer}
 use Rattle.schemes.proofs.Choice.{no-true, and-l, and-r}
 use Rattle.conversation.specs.State.{fresh}
 use Rattle.conversation.specs.Outcomes.{answered}
@@ -35,7 +35,7 @@ use Rattle.conversation.specs.Choosing.{choosing}
 use Rattle.conversation.specs.Runs.{Sized, Call, offer, reply, metadata, exchange, verify, alert, read, choose, Opening, world, Entry, run, marksIn, isAccepted, isLawful, MarksKept, Choice, act}
 use Rattle.conversation.specs.Logs.{messagesIn, logsOf}
 use Rattle.conversation.proofs.Demand.{demand3, run-calls}
-use Rattle.conversation.proofs.Worked.{scheme, schemes-sized, random, opened, negotiation, shows, allShown}
+use Rattle.conversation.proofs.Worked.{scheme, schemes-sized, random, opened, negotiation, allShown}
 
 -- 1. a conversation to its end: metadata and optimistic exchanges, a choice, several rounds, VERIFY of both ends, an ALERT
 
@@ -71,12 +71,12 @@ allAccepted [] = true
 allAccepted (x ∷ xs) = isAccepted (x .said) && allAccepted xs
 
 pub whole-conversation : T (allAccepted (run (world opened) conversation))
-unfolding opened le signed32 sameOctets sameId keepsRule shown shapeOf headOf elementsAt contentOf vectorsOf commonRows zeros padsZero allKeepRule noneCritical contentRows bodyRows frontRows idsAt schemesIn orderRows nextRows chainOf put encoded mem place distinct commonSet left has mentions ones openPlaces keptBelow turns.writing turns.reading turns.kindOf turns.typeOf turns.afterOpening turns.afterFurther turns.after offering replying writingMetadata writingExchange writingVerify writingAlert schemeNow messagesAt schemeFits passed admit conversationOf judge judged commonAfter keptAfter finish readingToken choosing act
+unfolding opened le signed32 sameOctets sameId keepsRule shown shapeOf headOf elementsAt contentOf vectorsOf commonRows zeros padsZero allKeepRule noneCritical contentRows bodyRows frontRows idsAt schemesIn orderRows nextRows chainOf put encoded mem place distinct setOf left has mentions ones openPlaces keptBelow turns.writing turns.reading turns.kindOf turns.typeOf turns.afterOpening turns.afterFurther turns.after offering replying writingMetadata writingExchange writingVerify writingAlert schemeNow messagesAt schemeFits passed admit conversationOf judge judged commonAfter keptAfter finish readingToken choosing act
 whole-conversation = tt
 
 -- each end has read and written all thirteen messages of it
 pub whole-logs : T (eqb (length (logsOf opened conversation .i)) 13 && eqb (length (logsOf opened conversation .a)) 13)
-unfolding opened le signed32 sameOctets sameId keepsRule shown shapeOf headOf elementsAt contentOf vectorsOf commonRows zeros padsZero allKeepRule noneCritical contentRows bodyRows frontRows idsAt schemesIn orderRows nextRows chainOf put encoded mem place distinct commonSet left has mentions ones openPlaces keptBelow turns.writing turns.reading turns.kindOf turns.typeOf turns.afterOpening turns.afterFurther turns.after offering replying writingMetadata writingExchange writingVerify writingAlert schemeNow messagesAt schemeFits passed admit conversationOf judge judged commonAfter keptAfter finish readingToken choosing act messagesIn
+unfolding opened le signed32 sameOctets sameId keepsRule shown shapeOf headOf elementsAt contentOf vectorsOf commonRows zeros padsZero allKeepRule noneCritical contentRows bodyRows frontRows idsAt schemesIn orderRows nextRows chainOf put encoded mem place distinct setOf left has mentions ones openPlaces keptBelow turns.writing turns.reading turns.kindOf turns.typeOf turns.afterOpening turns.afterFurther turns.after offering replying writingMetadata writingExchange writingVerify writingAlert schemeNow messagesAt schemeFits passed admit conversationOf judge judged commonAfter keptAfter finish readingToken choosing act messagesIn
 whole-logs = tt
 
 -- 2. two runs without marks, the second with longer lists
@@ -145,7 +145,7 @@ abbrev chosen : Entry
 chosen = fifth (run (world opened) (negotiation 0 0)) none-such
 
 accepted : isAccepted (chosen .said) ≡ true
-unfolding opened le signed32 sameOctets sameId keepsRule shown shapeOf headOf elementsAt contentOf vectorsOf commonRows zeros padsZero allKeepRule noneCritical contentRows bodyRows frontRows idsAt schemesIn orderRows nextRows chainOf put encoded mem place distinct commonSet left has mentions ones openPlaces keptBelow turns.writing turns.reading turns.kindOf turns.typeOf turns.afterOpening turns.afterFurther turns.after offering replying writingMetadata writingExchange writingVerify writingAlert schemeNow messagesAt schemeFits passed admit conversationOf judge judged commonAfter keptAfter finish readingToken choosing act
+unfolding opened le signed32 sameOctets sameId keepsRule shown shapeOf headOf elementsAt contentOf vectorsOf commonRows zeros padsZero allKeepRule noneCritical contentRows bodyRows frontRows idsAt schemesIn orderRows nextRows chainOf put encoded mem place distinct setOf left has mentions ones openPlaces keptBelow turns.writing turns.reading turns.kindOf turns.typeOf turns.afterOpening turns.afterFurther turns.after offering replying writingMetadata writingExchange writingVerify writingAlert schemeNow messagesAt schemeFits passed admit conversationOf judge judged commonAfter keptAfter finish readingToken choosing act
 accepted = refl
 
 -- so no call of the second run is refused with 17, and its choice, by rule 2, stands no later
@@ -155,5 +155,5 @@ longer-run y h =
 
 -- both choices, computed: scheme 2 of two, then scheme 5 of three, which the first acceptor did not list
 pub choices : T (sameOctets (allShown (run (world longerLists) (negotiation 0 0))) (0 ∷ 0 ∷ 0 ∷ 0 ∷ 0 ∷ 0 ∷ 0 ∷ 5 ∷ 3 ∷ 0 ∷ 0 ∷ 0 ∷ 0 ∷ 5 ∷ 3 ∷ []))
-unfolding longerLists le signed32 sameOctets sameId keepsRule shown shapeOf headOf elementsAt contentOf vectorsOf commonRows zeros padsZero allKeepRule noneCritical contentRows bodyRows frontRows idsAt schemesIn orderRows nextRows chainOf put encoded mem place distinct commonSet left has mentions ones openPlaces keptBelow turns.writing turns.reading turns.kindOf turns.typeOf turns.afterOpening turns.afterFurther turns.after offering replying writingMetadata writingExchange writingVerify writingAlert schemeNow messagesAt schemeFits passed admit conversationOf judge judged commonAfter keptAfter finish readingToken choosing act
+unfolding longerLists le signed32 sameOctets sameId keepsRule shown shapeOf headOf elementsAt contentOf vectorsOf commonRows zeros padsZero allKeepRule noneCritical contentRows bodyRows frontRows idsAt schemesIn orderRows nextRows chainOf put encoded mem place distinct setOf left has mentions ones openPlaces keptBelow turns.writing turns.reading turns.kindOf turns.typeOf turns.afterOpening turns.afterFurther turns.after offering replying writingMetadata writingExchange writingVerify writingAlert schemeNow messagesAt schemeFits passed admit conversationOf judge judged commonAfter keptAfter finish readingToken choosing act
 choices = tt

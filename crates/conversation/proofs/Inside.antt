@@ -19,7 +19,7 @@ use Rattle.schemes.specs.Sets.{commonSet, left, keptPlaces, ones, below, keptBe
 use Rattle.schemes.proofs.Choice.{no-true, and-l, and-r, mem-tail}
 use Rattle.schemes.proofs.Digits.{ones-pow, bit-room}
 use Rattle.schemes.proofs.Ids.{length-ids}
-use Rattle.schemes.proofs.Builds.{common-bound}
+use Rattle.schemes.proofs.Places.{set-bound}
 use Rattle.schemes.proofs.Limits.{kept-below, open-below}
 use Rattle.schemes.proofs.Mentions.{kept-few}
 use Rattle.schemes.proofs.Replies.{place-below}
@@ -143,7 +143,7 @@ module _ (r : Record) (t : List ℕ) where
   pub common-then : below (r .count) (r .common) ≡ true → below (r .count) (commonAfter r t) ≡ true
   unfolding commonAfter
   common-then h = elim (which (eqb (reads r) FIRST)) [
-    | inl e ↦ rw e (subst (λ (n : ℕ). below n (commonSet (ownOf r) (listedBy t)) ≡ true) (own-length r) (lt-ltb _ _ (common-bound (ownOf r) (listedBy t))))
+    | inl e ↦ rw e (subst (λ (n : ℕ). below n (commonSet (ownOf r) (listedBy t)) ≡ true) (own-length r) (lt-ltb _ _ (set-bound (λ s. mem s (listedBy t)) (ownOf r))))
     | inr e ↦ elim (which (eqb (reads r) ANSWER)) [
       | inl g ↦ rw (e, g) (ones-few _ (r .count) (subst (λ (n : ℕ). length (keptPlaces (ownOf r) (listedBy t)) ≤ n) (own-length r) (kept-few (ownOf r) (listedBy t))))
       | inr g ↦ rw (e, g) h

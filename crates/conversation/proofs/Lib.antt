@@ -4,9 +4,12 @@ pub mod Places
 pub mod Rows
 pub mod Decides
 pub mod Tokens
+pub mod Goals
 pub mod Ends
+pub mod Once
 pub mod Demand
 pub mod Unchanged
+pub mod Accepted
 pub mod Worked
 pub mod Examples
 pub mod Messages

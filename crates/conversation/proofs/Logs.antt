@@ -12,7 +12,6 @@ use lib.Pow.{pow-pos}
 use lib.IntN.{ℤ}
 use lib.Dec.{eqb, leb, ltb}
 use borrow.Author.Tests.{eqb-true, leb-true, ltb-true, lt-ltb, ne-eqb, not-true}
-use Rattle.octets.specs.Octets.{octets}
 use Rattle.message.specs.Check.{Row, FirstFails, firstFailing}
 use Rattle.message.proofs.Tables.{which, AllTrue}
 use Rattle.token.specs.Split.{join}

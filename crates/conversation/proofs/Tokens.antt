@@ -2,30 +2,26 @@
 -- Assumes nothing.
 use Prim.Native.Nat.{ℕ, zero, suc, _+_, _-_, _≤_, _<_}
 use mathlib.Core.Path.{_≡_, refl, sym, ap, subst, _∙_}
-use mathlib.Core.Bool.{Bool, true, false, cond, not, _&&_, _||_}
+use mathlib.Core.Bool.{Bool, true, false, not}
 use mathlib.Core.Logic.{_⊎_, inl, inr}
 use mathlib.Core.List.{List, [], _∷_, _++_, append-assoc, append-nil}
 use native.Mathlib.Omega.{arith}
 use lib.ListN.{length}
 use lib.Dec.{eqb}
-use borrow.Author.Tests.{eq-eqb, ne-eqb, eqb-true, eqb-false}
+use borrow.Author.Tests.{ne-eqb}
 use Rattle.message.specs.Layout.{Head, headOf, size, front}
-use Rattle.message.specs.Check.{Row, FirstFails, firstFailing, commonRows, bodyRows, contentRows, frontRows}
+use Rattle.message.specs.Check.{firstFailing, commonRows, bodyRows, contentRows, frontRows}
 use Rattle.message.proofs.Tables.{which, refuses-first}
-use Rattle.token.specs.Token.{orderRows, nextRows, passes, Placed, Chain, end, refused as cutAt, message, chainOf}
-use Rattle.token.specs.Split.{Message}
-use Rattle.token.proofs.Cuts.{passes-parts, passes-sized, turn-pass, turn-fail, placed}
-use Rattle.token.proofs.Splits.{front-message}
+use Rattle.token.specs.Token.{orderRows, nextRows, passes, Chain, end, refused as cutAt, message, chainOf}
+use Rattle.token.proofs.Cuts.{passes-parts, passes-sized, turn-pass, turn-fail}
 use Rattle.message.proofs.Local.{head-front}
 use Rattle.schemes.specs.Lists.{Id}
-use Rattle.schemes.proofs.Choice.{no-true, and-l, and-r}
 use Rattle.conversation.specs.declared.Record.{Record}
 use Rattle.conversation.specs.declared.Scan.{Scan}
-use Rattle.conversation.specs.Turns.{NEGO, kindOf, after, reads}
-use Rattle.conversation.specs.Admitting.{listedBy, schemeIn, Admitted, on, stop, orStop, schemeFits, passed, admitKind, admit}
-use Rattle.conversation.specs.Reading.{conversationOf, startOf, Judged, whole, halted, thenJudge, judge, chainFor, judged}
+use Rattle.conversation.specs.Turns.{kindOf, after, reads}
+use Rattle.conversation.specs.Admitting.{listedBy, schemeIn, Admitted, on, stop, orStop, schemeFits, passed, admit}
+use Rattle.conversation.specs.Reading.{conversationOf, startOf, Judged, whole, halted, thenJudge, judge, judged}
 use Rattle.conversation.proofs.Rows.{without, fails-other}
-use lib.ListN.{take, length-take}
 use lib.Seq.{take-take, length-take-le}
 
 -- what begins with a NEGO of a type and a list, whatever follows: all that demand 3 asks of octets

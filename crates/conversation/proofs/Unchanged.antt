@@ -2,22 +2,20 @@
 -- Assumes nothing.
 use Prim.Native.Nat.{ℕ, _+_, _^_}
 use mathlib.Core.Path.{_≡_, refl}
-use mathlib.Core.Bool.{Bool, true, false, not}
-use mathlib.Core.Logic.{_⊎_, inl, inr}
-use mathlib.Core.List.{List, [], _∷_, _++_}
+use mathlib.Core.Bool.{Bool, true, false}
+use mathlib.Core.List.{List, _++_}
 use lib.ListN.{length}
 use lib.Dec.{leb}
 use Rattle.message.specs.Check.{Row}
-use Rattle.message.proofs.Tables.{which}
 use Rattle.conversation.specs.declared.Record.{Record}
 use Rattle.schemes.specs.Lists.{Id, place}
-use Rattle.schemes.specs.Sets.{left, below, named}
+use Rattle.schemes.specs.Sets.{left, named}
 use Rattle.conversation.specs.State.{ownOf, limitRows}
-use Rattle.conversation.specs.Turns.{NEGO, METADATA, EXCHANGE, VERIFY, ALERT, placeAfter, mayRead}
-use Rattle.conversation.specs.Outcomes.{Outcome, answered, refused, decide, row, room, fits, WrittenAs, unchanged, appended}
-use Rattle.conversation.specs.Writing.{stageRows, offered, someLeft, replyMessage, naming, metadataAllowed, metadataMessage, schemeAllowed, exchangeMessage, askedBy, verifyMessage, alertMessage, offering, replying, writingMetadata, writingExchange, writingVerify, writingAlert}
-use Rattle.conversation.specs.Reading.{Judged, whole, halted, judged, finish, readingToken}
-use Rattle.conversation.specs.Choosing.{openTo, mayChoose, chose, choosing}
+use Rattle.conversation.specs.Turns.{NEGO, METADATA, EXCHANGE, VERIFY, ALERT, placeAfter}
+use Rattle.conversation.specs.Outcomes.{Outcome, answered, decide, room, WrittenAs, unchanged, appended}
+use Rattle.conversation.specs.Writing.{stageRows, offered, offerRows, replyMessage, replyRows, naming, metadataMessage, metadataRows, namedRows, exchangeMessage, askedBy, verifyMessage, alertMessage, offering, replying, writingMetadata, writingExchange, writingVerify, writingAlert}
+use Rattle.conversation.specs.Reading.{Judged, whole, halted, judged, finish, tokenRows, readingToken}
+use Rattle.conversation.specs.Choosing.{openTo, choiceRows, chose, choosing}
 use Rattle.conversation.specs.Runs.{Call, offer, reply, metadata, exchange, verify, alert, read, choose, End, act}
 use Rattle.conversation.proofs.Rows.{decide-out}
 
@@ -54,23 +52,23 @@ module _ (e : End) (peer : List ℕ) where
   pub refused-unchanged : (k : Call) → Unchanged r d (act e peer k)
   unfolding act offering replying writingMetadata writingExchange writingVerify writingAlert readingToken choosing
   refused-unchanged (offer random) =
-      wrote-unchanged (stageRows r NEGO ++ (row 18 (not (r .acceptor)) ∷ fits r d (length (offered r (random .0))) ∷ [])) r d (placeAfter r NEGO) (offered r (random .0)) (unchanged r)
+      wrote-unchanged (stageRows r NEGO ++ offerRows r d (random .0)) r d (placeAfter r NEGO) (offered r (random .0)) (unchanged r)
   refused-unchanged (reply m random) =
-      named-unchanged (stageRows r NEGO ++ (row 18 (r .acceptor) ∷ row 19 (below (r .count) m) ∷ row 17 (someLeft (left (ownOf r) (r .common) m)) ∷ fits r d (length (replyMessage r m (random .0))) ∷ [])) r d
+      named-unchanged (stageRows r NEGO ++ replyRows r d m (random .0)) r d
       (left (ownOf r) (r .common) m) (appended r d (placeAfter r NEGO) (replyMessage r m (random .0)) (record { marks = m; told = r .told; asked = r .asked; verified = r .verified })) refl
   refused-unchanged (metadata id value) =
-      wrote-unchanged (stageRows r METADATA ++ (row 19 (leb 1 (length value)) ∷ row 15 (metadataAllowed r (id .0)) ∷ fits r d (length (metadataMessage r (id .0) value)) ∷ [])) r d (placeAfter r METADATA) (metadataMessage r (id .0) value)
+      wrote-unchanged (stageRows r METADATA ++ metadataRows r d (id .0) value) r d (placeAfter r METADATA) (metadataMessage r (id .0) value)
       (record { marks = r .marks; told = r .told + 2 ^ place (ownOf r) (id .0); asked = r .asked; verified = r .verified })
   refused-unchanged (exchange value) =
-      wrote-unchanged (stageRows r EXCHANGE ++ (row 15 (schemeAllowed r) ∷ fits r d (length (exchangeMessage r value)) ∷ [])) r d (placeAfter r EXCHANGE) (exchangeMessage r value)
+      wrote-unchanged (stageRows r EXCHANGE ++ namedRows r d (exchangeMessage r value)) r d (placeAfter r EXCHANGE) (exchangeMessage r value)
       (record { marks = r .marks; told = r .told; asked = askedBy r; verified = r .verified })
   refused-unchanged (verify type value) =
-      wrote-unchanged (stageRows r VERIFY ++ (row 15 (schemeAllowed r) ∷ fits r d (length (verifyMessage r type value)) ∷ [])) r d (placeAfter r VERIFY) (verifyMessage r type value)
+      wrote-unchanged (stageRows r VERIFY ++ namedRows r d (verifyMessage r type value)) r d (placeAfter r VERIFY) (verifyMessage r type value)
       (record { marks = r .marks; told = r .told; asked = r .asked; verified = true })
   refused-unchanged (alert code) =
-      wrote-unchanged (stageRows r ALERT ++ (row 15 (schemeAllowed r) ∷ fits r d (length (alertMessage r code)) ∷ [])) r d (placeAfter r ALERT) (alertMessage r code) (unchanged r)
+      wrote-unchanged (stageRows r ALERT ++ namedRows r d (alertMessage r code)) r d (placeAfter r ALERT) (alertMessage r code) (unchanged r)
   refused-unchanged read =
-      decided (limitRows r ++ (row 18 (mayRead r) ∷ row 1 (leb (length peer) 65535) ∷ [])) r d (finish r d peer (judged r peer)) (finished r d peer (judged r peer))
+      decided (limitRows r ++ tokenRows r peer) r d (finish r d peer (judged r peer)) (finished r d peer (judged r peer))
   refused-unchanged (choose m) =
-      named-unchanged (limitRows r ++ (row 18 (mayChoose r) ∷ row 19 (below (r .count) m) ∷ row 17 (someLeft (named (ownOf r) (openTo r m))) ∷ [])) r d
+      named-unchanged (limitRows r ++ choiceRows r m) r d
       (named (ownOf r) (openTo r m)) (record { answer = answered 0 0 (chose r m); transcript = d }) refl

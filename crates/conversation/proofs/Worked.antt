@@ -1,14 +1,13 @@
 -- Document 01's examples P1 to P13: one statement about a list of cases, computed over the definitions. P1 to P10 are readings of a token, P11 to P13
 -- runs of two ends.
 -- Assumes nothing.
-use Prim.Native.Nat.{ℕ, suc, _+_, _*_}
+use Prim.Native.Nat.{ℕ, _+_}
 use mathlib.Core.Path.{_≡_, refl, ap}
 use mathlib.Core.Bool.{Bool, true, false, _&&_}
-use mathlib.Core.List.{List, [], _∷_, _++_, map, List·Memᴰ, List·Memᴰ·head, List·Memᴰ·tail, List·Memᴰ·cases-cons, List·Memᴰ·not-nil}
-use mathlib.Core.Logic.{_⊎_, inl, inr}
+use mathlib.Core.List.{List, [], _∷_, _++_, map, List·Memᴰ, List·Memᴰ·cases-cons, List·Memᴰ·not-nil}
+use mathlib.Core.Logic.{inl, inr}
 use lib.ListN.{length, getD, replicate}
-use lib.Dec.{T, eqb}
-use lib.IntN.{ℤ, pos, negsuc}
+use lib.Dec.{T}
 use Rattle.octets.specs.Octets.{le, signed32, sameOctets, sameId}
 use Rattle.vector.specs.Vector.{keepsRule, shown}
 use Rattle.message.specs.Layout.{shapeOf, headOf, elementsAt, contentOf, vectorsOf}
@@ -19,14 +18,13 @@ use Rattle.token.proofs.Cases as reading
 use Rattle.put.specs.Put.{put}
 use Rattle.encode.specs.Encode.{encoded}
 use Rattle.schemes.specs.Lists.{Id, mem, place, distinct}
-use Rattle.schemes.specs.Sets.{commonSet, left, has, mentions, ones, openPlaces, keptBelow}
-use Rattle.conversation.specs.declared.Answer.{Answer}
+use Rattle.schemes.specs.Sets.{setOf, left, has, mentions, ones, openPlaces, keptBelow}
 use Rattle.conversation.specs.Turns as turns
 use Rattle.conversation.specs.Writing.{offering, replying, writingMetadata, writingExchange, writingVerify, writingAlert, schemeNow}
 use Rattle.conversation.specs.Admitting.{messagesAt, schemeFits, passed, admit}
 use Rattle.conversation.specs.Reading.{conversationOf, judge, judged, commonAfter, keptAfter, finish, readingToken}
 use Rattle.conversation.specs.Choosing.{choosing}
-use Rattle.conversation.specs.Runs.{Sized, Call, offer, reply, metadata, exchange, verify, alert, read, choose, Opening, world, Entry, run, act}
+use Rattle.conversation.specs.Runs.{Sized, Call, offer, reply, read, choose, Opening, world, Entry, run, act}
 
 abbrev pub scheme : ℕ → Id
 scheme n = replicate 16 n
@@ -97,5 +95,5 @@ allRight [] = true
 allRight (c ∷ cs) = right c && allRight cs
 
 pub worked : T (allRight cases)
-unfolding opened le signed32 sameOctets sameId keepsRule shown shapeOf headOf elementsAt contentOf vectorsOf commonRows zeros padsZero allKeepRule noneCritical contentRows bodyRows frontRows idsAt schemesIn orderRows nextRows chainOf readingOf tokenOf outcomeOf put encoded mem place distinct commonSet left has mentions ones openPlaces keptBelow turns.writing turns.reading turns.kindOf turns.typeOf turns.afterOpening turns.afterFurther turns.after offering replying writingMetadata writingExchange writingVerify writingAlert schemeNow messagesAt schemeFits passed admit conversationOf judge judged commonAfter keptAfter finish readingToken choosing act
+unfolding opened le signed32 sameOctets sameId keepsRule shown shapeOf headOf elementsAt contentOf vectorsOf commonRows zeros padsZero allKeepRule noneCritical contentRows bodyRows frontRows idsAt schemesIn orderRows nextRows chainOf readingOf tokenOf outcomeOf put encoded mem place distinct setOf left has mentions ones openPlaces keptBelow turns.writing turns.reading turns.kindOf turns.typeOf turns.afterOpening turns.afterFurther turns.after offering replying writingMetadata writingExchange writingVerify writingAlert schemeNow messagesAt schemeFits passed admit conversationOf judge judged commonAfter keptAfter finish readingToken choosing act
 worked = tt

@@ -2,11 +2,13 @@
 -- lists and hasn't marked. It chooses once, after the reply and before its later messages."
 --
 -- Glossary
---   openTo r m      the own places of the reply's schemes that m does not mark, in the reply's order
---   chose r m       the record behind the choice
---   choosing        the call: 18, 19, 17
+--   openTo r m     the own places of the reply's schemes that m does not mark, in the reply's order
+--   firstPlace ks  the first of places, NONE where there is none
+--   chose r m      the record behind the choice
+--   mayChoose r    18: the stage is the one to choose in, and the end is the initiator
+--   choosing       the call; its table: the limits, then choiceRows, 18, 19, 17
 use Prim.Native.Nat.{ℕ}
-use mathlib.Core.Bool.{Bool, true, false, not, _&&_}
+use mathlib.Core.Bool.{Bool, not, _&&_}
 use mathlib.Core.List.{List, [], _∷_, _++_}
 use lib.Dec.{eqb}
 use Rattle.message.specs.Check.{Row}
@@ -46,7 +48,10 @@ chose r m = record {
 abbrev pub mayChoose : Record → Bool
 mayChoose r = not (r .acceptor) && eqb (r .stage) CHOOSING
 
+abbrev pub choiceRows : Record → ℕ → List Row
+choiceRows r m = row 18 (mayChoose r) ∷ row 19 (below (r .count) m) ∷ row 17 (someLeft (named (ownOf r) (openTo r m))) ∷ []
+
 unfoldable pub choosing : Record → List ℕ → ℕ → Outcome
 choosing r d m =
-    decide (limitRows r ++ (row 18 (mayChoose r) ∷ row 19 (below (r .count) m) ∷ row 17 (someLeft (named (ownOf r) (openTo r m))) ∷ [])) r d
+    decide (limitRows r ++ choiceRows r m) r d
     (naming (named (ownOf r) (openTo r m)) (record { answer = answered 0 0 (chose r m); transcript = d }))

@@ -1,13 +1,16 @@
 -- What a call answers and leaves: one ordered table of refusals, then one action. Document 01, "Refusal numbers".
 --
 -- Glossary
---   Outcome            an answer, and the lent transcript afterwards
---   refused r d n p    "Each returns its number and the token place of the message at fault. Record and lent octets are unchanged."
---   decide             the first row that fails refuses; where all hold, the action
---   room d             "Its room is the smaller of the buffer's length and 65,535."
---   fits               16: used plus the length to add is within the room
---   WrittenAs          what a written message changes in a record beside position, sequence and used; wrote: the record behind it
---   appended           a written message at the transcript's end
+--   Outcome          an answer, and the lent transcript afterwards
+--   zeroId           sixteen zeros: no choice
+--   answered n p r   the answer with the number n, the place p and the record r, and nothing else to say
+--   refused r d n p  "Each returns its number and the token place of the message at fault. Record and lent octets are unchanged."
+--   decide           the first row that fails refuses; where all hold, the action; row makes a row
+--   room d           "Its room is the smaller of the buffer's length and 65,535."
+--   fits             16: used plus the length to add is within the room
+--   WrittenAs        what a written message changes in a record beside position, sequence and used; unchanged: nothing
+--   wrote            the record behind a written message
+--   appended         a written message at the transcript's end
 use Prim.Native.Nat.{ℕ, _+_, min}
 use mathlib.Core.Bool.{Bool, cond}
 use mathlib.Core.List.{List, [], _∷_}

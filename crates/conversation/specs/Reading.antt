@@ -2,12 +2,15 @@
 -- 15 ascending; then 16."
 --
 -- Glossary
---   conversationOf     the conversation that the token's messages must have
---   startOf r          what is carried into the first message
---   Judged             a whole token with the number of its messages and what is carried out of it, or the first refusal with its place
---   judge              the chain of messages, judged message by message; judged: that of a token
---   taken              the record behind an accepted token
---   readingToken       the call: record, transcript and token in, outcome out
+--   conversationOf  the conversation that the token's messages must have
+--   startOf r       what is carried into the first message
+--   Judged          a whole token with the number of its messages and what is carried out of it, or the first refusal with its place
+--   judge           the chain of messages, judged message by message; thenJudge: the next one, where this one is let through
+--   chainFor        the chain of a token in a conversation; judged: the token judged
+--   commonAfter     the common set behind a token; keptAfter: the kept places
+--   taken           the record behind an accepted token; takenAs: its answer
+--   finish          16, behind all messages; then the record and the transcript
+--   readingToken    the call: record, transcript and token in, outcome out; tokenRows: 18 and 1
 use Prim.Native.Nat.{ℕ, _+_}
 use mathlib.Core.Bool.{cond}
 use mathlib.Core.List.{List, [], _∷_, _++_}
@@ -15,7 +18,7 @@ use lib.ListN.{length}
 use lib.Dec.{eqb, leb}
 use Rattle.octets.specs.Octets.{octets}
 use Rattle.message.specs.Check.{Row}
-use Rattle.token.specs.Token.{Placed, Chain, end, refused as cutAt, message, chainOf}
+use Rattle.token.specs.Token.{Chain, end, refused as cutAt, message, chainOf}
 use Rattle.put.specs.Put.{put}
 use Rattle.schemes.specs.Lists.{Id}
 use Rattle.schemes.specs.Sets.{commonSet, keptPlaces, ones, padTo}
@@ -94,5 +97,9 @@ finish r d t (whole n c) =
     (record { answer = takenAs (taken r t n c) n; transcript = put d (r .used) t })
     (refused r d 16 0)
 
+-- before any message is looked at
+abbrev pub tokenRows : Record → List ℕ → List Row
+tokenRows r t = row 18 (mayRead r) ∷ row 1 (leb (length t) 65535) ∷ []
+
 unfoldable pub readingToken : Record → List ℕ → List ℕ → Outcome
-readingToken r d t = decide (limitRows r ++ (row 18 (mayRead r) ∷ row 1 (leb (length t) 65535) ∷ [])) r d (finish r d t (judged r t))
+readingToken r d t = decide (limitRows r ++ tokenRows r t) r d (finish r d t (judged r t))

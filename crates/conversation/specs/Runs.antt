@@ -2,18 +2,22 @@
 -- each. It is a list of calls, each at one end: writing any message, reading, choosing (the initiator's)."
 --
 -- Glossary
---   Sized n            n octets, as an array hands them over
---   Call               the calls, with what each is given
---   End                an end of a run: its record, its transcript buffer, and its turn so far
---   act                a call at an end, beside the other end's turn so far: its outcome; moved: the end behind it
---   Opening, World     what a run starts with; the two ends
---   Entry, run         a call with its end and its answer; those of a list of calls
---   marksIn            the marks of a call that has some
---   isLawful           "none of 15, 16, 18, 19 applies"
---   MarksKept          the marks of the second run are those of the first, for the schemes that both ends listed there
---   Replied            the marks with which the acceptor's NEGO was written in a run
---   Choice             what a lawful choosing call answers behind a longer offer
---   Demand3            the demand, over any two runs
+--   Sized n          n octets, as an array hands them over
+--   Call             the calls, with what each is given
+--   End              an end of a run: its record, its transcript buffer, and its turn so far
+--   act              a call at an end, beside the other end's turn so far: its outcome
+--   moved            the end behind a call; turnAfter: its turn so far, where the call is accepted
+--   Opening, World   what a run starts with; the two ends; world: the two ends, fresh from opening
+--   outcomeAt, next  a call at one of two ends: its outcome, and the two ends behind it; ends: those behind a list of calls
+--   Entry, run       a call with its end and its answer; those of a list of calls
+--   marksIn          the marks of a call that has some
+--   isAccepted       an answer that is no refusal
+--   isLawful         "none of 15, 16, 18, 19 applies"
+--   listOf o x       the own list of an end
+--   MarksKept        the marks of the second run are those of the first, for the schemes that both ends listed there
+--   Replied          the marks with which the acceptor's NEGO was written in a run
+--   Choice           what a lawful choosing call answers behind a longer offer
+--   Demand3          the demand, over any two runs
 use Prim.Native.Nat.{ℕ, _+_}
 use mathlib.Core.Path.{_≡_}
 use mathlib.Core.Bool.{Bool, true, false, cond, not, _||_}

@@ -2,13 +2,15 @@
 -- The record is the struct of src/.
 --
 -- Glossary
---   NONE                 the place that stands for no place
---   OPENING .. LATER     the stages: the first token is being written or waited for; the acceptor has read it; the initiator has read the reply; the
---                        initiator has chosen, or the acceptor has read a later token
---   ownOf r              the own list, as ids; schemeAt: the scheme at an own place
---   replied r            the reply's list: the common schemes less the marks, in the acceptor's order
---   limitRows r          a record's limits, as one table
---   fresh                the record that opening answers
+--   NONE         the place that stands for no place
+--   OPENING      a stage: the first token is being written, or waited for
+--   REPLY        the acceptor has read it
+--   CHOOSING     the initiator has read the reply
+--   LATER        the initiator has chosen, or the acceptor has read a later token
+--   ownOf r      the own list, as ids; schemeAt: the scheme at an own place
+--   replied r    the reply's list: the common schemes less the marks, in the acceptor's order
+--   limitRows r  a record's limits, as one table; limit: a row of it, 18
+--   fresh        the record that opening answers
 use Prim.Native.Nat.{ℕ, _*_, _/_}
 use mathlib.Core.Bool.{Bool, false, _||_}
 use mathlib.Core.List.{List, [], _∷_}

@@ -2,12 +2,14 @@
 -- "Who may send what, and when".
 --
 -- Glossary
---   FIRST .. NO-TOKEN      the tokens: the first, the reply, a later one; none
---   writing, reading       the token that an end of a role writes, or reads, at a stage
---   NEGO .. ALERT          the kinds of message, whichever end sends them; 0 is none
---   kindOf, typeOf         the kind of a type number in a message of an end, and back
---   after                  the place in the turn behind a kind, 0 where the kind is not allowed at this place
---   mayWrite, mayRead      18 for a call that writes this kind, and for a reading
+--   FIRST              a token: the first; ANSWER: the reply; FURTHER: a later one; NO-TOKEN: none
+--   writing, reading   the token that an end of a role writes, or reads, at a stage; writes, reads: that of a record
+--   NEGO               a kind of message, whichever end sends it, as METADATA, EXCHANGE, VERIFY and ALERT; 0 is none
+--   kindOf, typeOf     the kind of a type number in a message of an end, and back
+--   after              the place in the turn behind a kind, 0 where the kind is not allowed at this place
+--   afterOpening       the same in the first token and in the reply; afterFurther: in a later token
+--   placeAfter r k     the same in the turn of the record r
+--   mayWrite, mayRead  18 for a call that writes this kind, and for a reading
 use Prim.Native.Nat.{ℕ}
 use mathlib.Core.Bool.{Bool, true, false, cond, not, _&&_, _||_}
 use lib.Dec.{eqb, leb, ltb}

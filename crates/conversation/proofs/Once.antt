@@ -1,0 +1,313 @@
+-- Calls that each end has accepted at most once in a run: the one with marks, so that "its end's accepted call" names one, and the VERIFY.
+-- Assumes nothing.
+use Prim.Native.Nat.{ℕ, _+_, _≤_}
+use mathlib.Core.Path.{_≡_, refl, sym, ap, subst, _∙_}
+use mathlib.Core.Bool.{Bool, true, false, not}
+use mathlib.Core.Logic.{_⊎_, inl, inr}
+use mathlib.Core.List.{List, [], _∷_, _++_, List·Memᴰ, List·Memᴰ·cases-cons, List·Memᴰ·not-nil}
+use mathlib.Core.Option.{none, some, Option·some-ne-none, Option·some-injective}
+use native.Mathlib.Omega.{arith}
+use lib.ListN.{length}
+use lib.Dec.{eqb, leb}
+use borrow.Author.Tests.{eqb-true, ne-eqb}
+use Rattle.message.specs.Check.{Row, FirstFails}
+use Rattle.message.proofs.Tables.{which}
+use Rattle.schemes.specs.Lists.{Id}
+use Rattle.schemes.specs.Sets.{left, named, below}
+use Rattle.schemes.proofs.Choice.{no-true, and-r}
+use Rattle.conversation.specs.declared.Record.{Record}
+use Rattle.conversation.specs.declared.Answer.{Answer}
+use Rattle.conversation.specs.declared.Scan.{Scan}
+use Rattle.conversation.specs.State.{ownOf, limitRows}
+use Rattle.conversation.specs.Turns.{NEGO, METADATA, EXCHANGE, VERIFY, ALERT, writing, reading, after, writes, placeAfter, mayWrite}
+use Rattle.conversation.specs.Outcomes.{Outcome, answered, refused, decide, row, room, fits, WrittenAs, appended, wrote}
+use Rattle.conversation.specs.Writing.{stageRows, offered, offerRows, offering, someLeft, replyMessage, replyRows, naming, replying, metadataMessage, metadataRows, writingMetadata, namedRows, exchangeMessage, writingExchange, verifyMessage, writingVerify, alertMessage, writingAlert}
+use Rattle.conversation.specs.Reading.{Judged, whole, halted, judged, taken, finish, tokenRows, readingToken}
+use Rattle.conversation.specs.Choosing.{openTo, mayChoose, choiceRows, chose, choosing}
+use Rattle.conversation.specs.Runs.{Sized, Call, offer, reply, metadata, exchange, verify, alert, read, choose, End, act, Opening, World, world, outcomeAt, next, Entry, run, marksIn, isAccepted}
+use Rattle.conversation.proofs.Rows.{decide-out, without, fails-other, true-behind}
+use Rattle.conversation.proofs.Goals.{positive, nego-start}
+use Rattle.conversation.proofs.Tokens.{judged-number}
+
+-- 1. a call with marks
+
+-- the acceptor's NEGO is written; the initiator has chosen
+abbrev Spent : Bool → Record → Type 0
+Spent true r = ((r .stage ≡ 1) × (1 ≤ r .position)) ⊎ (r .stage ≡ 3)
+Spent false r = r .stage ≡ 3
+
+abbrev WithMarks : Call → Type 0
+WithMarks (offer random) = ⊥
+WithMarks (reply m random) = Unit {0}
+WithMarks (metadata id value) = ⊥
+WithMarks (exchange value) = ⊥
+WithMarks (verify type value) = ⊥
+WithMarks (alert code) = ⊥
+WithMarks read = ⊥
+WithMarks (choose m) = Unit {0}
+
+-- behind the call k at an end of the role x: the role is kept, what is spent stays so, and an accepted call with marks spends
+record Behind (x : Bool) (r : Record) (k : Call) (a : Answer) : Type 0 where
+  role : a .next .acceptor ≡ x
+  stays : Spent x r → Spent x (a .next)
+  spends : WithMarks k → isAccepted a ≡ true → (Spent x r → ⊥) × Spent x (a .next)
+
+-- the acceptor writes its NEGO at stage 1 only
+reply-stage : (stage : ℕ) → leb (writing true stage) 1 ≡ true → stage ≡ 1
+unfolding writing
+reply-stage stage h = elim (which (eqb stage 1)) [
+  | inl a ↦ eqb-true _ _ a
+  | inr a ↦ elim (which (eqb stage 3)) [ inl b ↦ no-true (rw (a, b) at h) | inr b ↦ no-true (rw (a, b) at h) ]
+]
+
+module _ (x : Bool) (r : Record) (d : List ℕ) (role : r .acceptor ≡ x) where
+  refusal : (k : Call) (n p : ℕ) → (n ≡ 0 → ⊥) → Behind x r k (refused r d n p .answer)
+  refusal k n p z = record { role = role; stays = λ s. s; spends = λ m a. no-true (sym (ne-eqb n 0 z) ∙ a) }
+
+  abbrev Goes : Call → Outcome → Type 0
+  Goes k out = Behind x r k (out .answer)
+
+  stopped : (k : Call) (rows : List Row) → without 0 rows ≡ true → (n : ℕ) → FirstFails n rows → Goes k (refused r d n 0)
+  stopped k rows z n g = refusal k n 0 (fails-other 0 rows n z g)
+
+  -- a written message leaves the stage, and stands at a place behind the turn's start
+  wrote-stays : (b : Bool) (kind n : ℕ) (w : WrittenAs) → mayWrite r kind ≡ true → Spent b r → Spent b (wrote r (placeAfter r kind) n w)
+  wrote-stays true kind n w h (inl s) = inl (s .0, positive (placeAfter r kind) h)
+  wrote-stays true kind n w h (inr s) = inr s
+  wrote-stays false kind n w h s = s
+
+  write : (k : Call) (kind : ℕ) (rows : List Row) (m : List ℕ) (w : WrittenAs) → (WithMarks k → ⊥) → without 0 rows ≡ true → Goes k (decide (stageRows r kind ++ rows) r d (appended r d (placeAfter r kind) m w))
+  write k kind rows m w plain z =
+      decide-out (Goes k) (stageRows r kind ++ rows) r d (appended r d (placeAfter r kind) m w) (stopped k (stageRows r kind ++ rows) z)
+      (λ g. record {
+        role = role;
+        stays = wrote-stays x kind (length m) w (true-behind (limitRows r) (row 18 (mayWrite r kind)) rows g);
+        spends = λ m a. absurd (plain m);
+      })
+
+  replied : (b : Bool) → r .acceptor ≡ b → r .acceptor ≡ true → mayWrite r NEGO ≡ true → (n : ℕ) (w : WrittenAs) → (Spent b r → ⊥) × Spent b (wrote r (placeAfter r NEGO) n w)
+  unfolding writing
+  replied false e f h n w = no-true (sym e ∙ f)
+  replied true e f h n w =
+      let z = nego-start (writes r) (r .position) (r .verified) h in
+      let st : r .stage ≡ 1 = reply-stage (r .stage) (rw e at (z .0)) in
+      (spent st (z .1), inl (st, positive (placeAfter r NEGO) h)) where
+        spent : r .stage ≡ 1 → r .position ≡ 0 → Spent true r → ⊥
+        spent st p (inl s) = omega (arith, s .1)
+        spent st p (inr s) = omega arith
+
+  write-reply : (m : ℕ) (random : Sized 32) → Goes (reply m random) (replying r d m (random .0))
+  unfolding replying
+  write-reply m random =
+      let l : List Id = left (ownOf r) (r .common) m in
+      let rest : List Row = row 19 (below (r .count) m) ∷ row 17 (someLeft l) ∷ fits r d (length (replyMessage r m (random .0))) ∷ [] in
+      let w : WrittenAs = record { marks = m; told = r .told; asked = r .asked; verified = r .verified } in
+      decide-out (Goes (reply m random)) (stageRows r NEGO ++ replyRows r d m (random .0)) r d (naming l (appended r d (placeAfter r NEGO) (replyMessage r m (random .0)) w))
+      (stopped (reply m random) (stageRows r NEGO ++ replyRows r d m (random .0)) refl)
+      (λ g.
+      let h = true-behind (limitRows r) (row 18 (mayWrite r NEGO)) (replyRows r d m (random .0)) g in
+      record {
+        role = role;
+        stays = wrote-stays x NEGO (length (replyMessage r m (random .0))) w h;
+        spends = λ k a. replied x role (true-behind (stageRows r NEGO) (row 18 (r .acceptor)) rest g) h (length (replyMessage r m (random .0))) w;
+      })
+
+  chosen : (b : Bool) → r .acceptor ≡ b → mayChoose r ≡ true → (m : ℕ) → (Spent b r → Spent b (chose r m)) × ((Spent b r → ⊥) × Spent b (chose r m))
+  chosen true e h m = no-true (rw e at h)
+  chosen false e h m =
+      let st : r .stage ≡ 2 = eqb-true _ _ (and-r (not (r .acceptor)) (eqb (r .stage) 2) h) in
+      ((λ s. refl), ((λ s. omega arith), refl))
+
+  choose-goes : (m : ℕ) → Goes (choose m) (choosing r d m)
+  unfolding choosing
+  choose-goes m =
+      let l : List Id = named (ownOf r) (openTo r m) in
+      decide-out (Goes (choose m)) (limitRows r ++ choiceRows r m) r d (naming l (record { answer = answered 0 0 (chose r m); transcript = d }))
+      (stopped (choose m) (limitRows r ++ choiceRows r m) refl)
+      (λ g. let c = chosen x role (true-behind (limitRows r) (row 18 (mayChoose r)) (row 19 (below (r .count) m) ∷ row 17 (someLeft l) ∷ []) g) m in record { role = role; stays = c .0; spends = λ k a. c .1 })
+
+  -- a later token is read into stage 3
+  taken-stays : (b : Bool) → r .acceptor ≡ b → (t : List ℕ) (n : ℕ) (c : Scan) → Spent b r → Spent b (taken r t n c)
+  unfolding reading
+  taken-stays true e t n c (inl s) = inr (rw (e, s .0))
+  taken-stays true e t n c (inr s) = inr (rw (e, s))
+  taken-stays false e t n c s = rw (e, s)
+
+  read-goes : (t : List ℕ) → Goes read (readingToken r d t)
+  unfolding readingToken
+  read-goes t =
+      let rows : List Row = limitRows r ++ tokenRows r t in
+      decide-out (Goes read) rows r d (finish r d t (judged r t)) (stopped read rows refl) (λ g. token (judged r t) refl) where
+        token : (j : Judged) → judged r t ≡ j → Goes read (finish r d t j)
+        token (halted n p) w = unfold finish in refusal read n p (judged-number r t n p w .0)
+        token (whole n c) w = unfold finish in elim (which (leb (r .used + length t) (room d))) [
+          | inl b ↦ rw b (record { role = role; stays = taken-stays x role t n c; spends = λ m a. absurd m })
+          | inr b ↦ rw b (refusal read 16 0 (λ z. omega arith))
+        ]
+
+behind : (x : Bool) (e : End) (peer : List ℕ) (k : Call) → e .record-of .acceptor ≡ x → Behind x (e .record-of) k (act e peer k .answer)
+unfolding act offering writingMetadata writingExchange writingVerify writingAlert
+behind x e peer (offer random) h =
+    write x (e .record-of) (e .transcript) h (offer random) NEGO
+    (offerRows (e .record-of) (e .transcript) (random .0)) (offered (e .record-of) (random .0)) _ (λ m. m) refl
+behind x e peer (reply m random) h = write-reply x (e .record-of) (e .transcript) h m random
+behind x e peer (metadata id value) h =
+    write x (e .record-of) (e .transcript) h (metadata id value) METADATA
+    (metadataRows (e .record-of) (e .transcript) (id .0) value) (metadataMessage (e .record-of) (id .0) value) _ (λ m. m) refl
+behind x e peer (exchange value) h =
+    write x (e .record-of) (e .transcript) h (exchange value) EXCHANGE
+    (namedRows (e .record-of) (e .transcript) (exchangeMessage (e .record-of) value)) (exchangeMessage (e .record-of) value) _ (λ m. m) refl
+behind x e peer (verify type value) h =
+    write x (e .record-of) (e .transcript) h (verify type value) VERIFY
+    (namedRows (e .record-of) (e .transcript) (verifyMessage (e .record-of) type value)) (verifyMessage (e .record-of) type value) _ (λ m. m) refl
+behind x e peer (alert code) h =
+    write x (e .record-of) (e .transcript) h (alert code) ALERT
+    (namedRows (e .record-of) (e .transcript) (alertMessage (e .record-of) code)) (alertMessage (e .record-of) code) _ (λ m. m) refl
+behind x e peer read h = read-goes x (e .record-of) (e .transcript) h peer
+behind x e peer (choose m) h = choose-goes x (e .record-of) (e .transcript) h m
+
+-- 2. a run: calls that are accepted at most once at an end, since the first one spends what they need
+
+abbrev endOf : Bool → World → End
+endOf false w = w .i
+endOf true w = w .a
+
+-- both ends keep their roles
+abbrev Roles : World → Type 0
+Roles w = (w .i .record-of .acceptor ≡ false) × (w .a .record-of .acceptor ≡ true)
+
+roles-kept : (w : World) (y : Bool) (k : Call) → Roles w → Roles (next w y k)
+roles-kept w false k h = (behind false (w .i) (w .a .turn) k (h .0) .role, h .1)
+roles-kept w true k h = (h .0, behind true (w .a) (w .i .turn) k (h .1) .role)
+
+-- an accepted call of a sort at the end x
+pub record At (Sort : Call → Type 0) (x : Bool) (y : Entry) : Type 0 where
+  pub end : y .acceptor ≡ x
+  pub sort : Sort (y .call)
+  pub accepted : isAccepted (y .said) ≡ true
+
+module _ (Gone : Bool → Record → Type 0) (Sort : Call → Type 0)
+    (stays : (x : Bool) (e : End) (peer : List ℕ) (k : Call) → e .record-of .acceptor ≡ x → Gone x (e .record-of) → Gone x (act e peer k .answer .next))
+    (spends : (x : Bool) (e : End) (peer : List ℕ) (k : Call) → e .record-of .acceptor ≡ x → Sort k → isAccepted (act e peer k .answer) ≡ true → (Gone x (e .record-of) → ⊥) × Gone x (act e peer k .answer .next)) where
+  -- what is gone at the end x stays so, whichever end the call is at
+  gone-kept : (w : World) (x y : Bool) (k : Call) → Roles w → Gone x (endOf x w .record-of) → Gone x (endOf x (next w y k) .record-of)
+  gone-kept w false false k h s = stays false (w .i) (w .a .turn) k (h .0) s
+  gone-kept w false true k h s = s
+  gone-kept w true false k h s = s
+  gone-kept w true true k h s = stays true (w .a) (w .i .turn) k (h .1) s
+
+  spends-at : (w : World) (x : Bool) (k : Call) → Roles w → Sort k → isAccepted (outcomeAt w x k .answer) ≡ true → (Gone x (endOf x w .record-of) → ⊥) × Gone x (endOf x (next w x k) .record-of)
+  spends-at w false k h c a = spends false (w .i) (w .a .turn) k (h .0) c a
+  spends-at w true k h c a = spends true (w .a) (w .i .turn) k (h .1) c a
+
+  -- none behind one
+  none-behind : (x : Bool) (w : World) (cs : List (Bool × Call)) → Roles w → Gone x (endOf x w .record-of) → (y : Entry) → List·Memᴰ y (run w cs) → At Sort x y → ⊥
+  none-behind x w [] h s y i k = List·Memᴰ·not-nil i
+  none-behind x w (c ∷ cs) h s y i k = elim (List·Memᴰ·cases-cons i) [
+    | inl e ↦
+        let k′ : At Sort x (record { acceptor = c .0; call = c .1; said = outcomeAt w (c .0) (c .1) .answer }) = subst (λ (z : Entry). At Sort x z) e k in
+        spends-at w (c .0) (c .1) h (k′ .sort) (k′ .accepted) .0 (subst (λ (z : Bool). Gone z (endOf z w .record-of)) (sym (k′ .end)) s)
+    | inr i′ ↦ none-behind x (next w (c .0) (c .1)) cs (roles-kept w (c .0) (c .1) h) (gone-kept w x (c .0) (c .1) h s) y i′ k
+  ]
+
+  once : (x : Bool) (w : World) (cs : List (Bool × Call)) → Roles w → (y z : Entry) → List·Memᴰ y (run w cs) → List·Memᴰ z (run w cs) → At Sort x y → At Sort x z → y ≡ z
+  once x w [] h y z i j k l = absurd (List·Memᴰ·not-nil i)
+  once x w (c ∷ cs) h y z i j k l = go (List·Memᴰ·cases-cons i) (List·Memᴰ·cases-cons j) (λ i′ j′. once x (next w (c .0) (c .1)) cs (roles-kept w (c .0) (c .1) h) y z i′ j′ k l) where
+    first : Entry
+    first = record { acceptor = c .0; call = c .1; said = outcomeAt w (c .0) (c .1) .answer }
+
+    rest : List Entry
+    rest = run (next w (c .0) (c .1)) cs
+
+    gone : (u : Entry) → u ≡ first → At Sort x u → Gone x (endOf x (next w (c .0) (c .1)) .record-of)
+    gone u e a =
+        let a′ : At Sort x first = subst (λ (v : Entry). At Sort x v) e a in
+        subst (λ (v : Bool). Gone v (endOf v (next w (c .0) (c .1)) .record-of)) (a′ .end) (spends-at w (c .0) (c .1) h (a′ .sort) (a′ .accepted) .1)
+
+    none : (u v : Entry) → u ≡ first → At Sort x u → List·Memᴰ v rest → At Sort x v → ⊥
+    none u v e a m b = none-behind x (next w (c .0) (c .1)) cs (roles-kept w (c .0) (c .1) h) (gone u e a) v m b
+
+    go : (y ≡ first) ⊎ List·Memᴰ y rest → (z ≡ first) ⊎ List·Memᴰ z rest → (List·Memᴰ y rest → List·Memᴰ z rest → y ≡ z) → y ≡ z
+    go (inl e) (inl f) later = e ∙ sym f
+    go (inl e) (inr j′) later = absurd (none y z e k j′ l)
+    go (inr i′) (inl f) later = absurd (none z y f l i′ k)
+    go (inr i′) (inr j′) later = later i′ j′
+
+-- 3. an end's accepted call with marks is one, and its marks are one set
+
+with-marks : (k : Call) (m : ℕ) → marksIn k ≡ some m → WithMarks k
+with-marks (offer random) m e = Option·some-ne-none m (sym e)
+with-marks (reply n random) m e = tt
+with-marks (metadata id value) m e = Option·some-ne-none m (sym e)
+with-marks (exchange value) m e = Option·some-ne-none m (sym e)
+with-marks (verify type value) m e = Option·some-ne-none m (sym e)
+with-marks (alert code) m e = Option·some-ne-none m (sym e)
+with-marks read m e = Option·some-ne-none m (sym e)
+with-marks (choose n) m e = tt
+
+-- an accepted call with the marks m at the end x
+pub record Marking (x : Bool) (y : Entry) (m : ℕ) : Type 0 where
+  pub at : y .acceptor ≡ x
+  pub marks : marksIn (y .call) ≡ some m
+  pub accepted : isAccepted (y .said) ≡ true
+
+pub marks-once : (o : Opening) (cs : List (Bool × Call)) (x : Bool) (y z : Entry) (m n : ℕ) → List·Memᴰ y (run (world o) cs) → List·Memᴰ z (run (world o) cs) → Marking x y m → Marking x z n → (y ≡ z) × (m ≡ n)
+marks-once o cs x y z m n i j k l =
+    let e = once Spent WithMarks (λ b e p c h. behind b e p c h .stays) (λ b e p c h. behind b e p c h .spends) x (world o) cs (refl, refl) y z i j
+    (record { end = k .at; sort = with-marks (y .call) m (k .marks); accepted = k .accepted })
+    (record { end = l .at; sort = with-marks (z .call) n (l .marks); accepted = l .accepted }) in
+    (e, Option·some-injective m n (sym (k .marks) ∙ ap (λ (u : Entry). marksIn (u .call)) e ∙ l .marks))
+
+-- 4. "Each end sends at most one VERIFY in a conversation."
+
+abbrev Verified : Bool → Record → Type 0
+Verified x r = r .verified ≡ true
+
+abbrev pub IsVerify : Call → Type 0
+IsVerify (offer random) = ⊥
+IsVerify (reply m random) = ⊥
+IsVerify (metadata id value) = ⊥
+IsVerify (exchange value) = ⊥
+IsVerify (verify type value) = Unit {0}
+IsVerify (alert code) = ⊥
+IsVerify read = ⊥
+IsVerify (choose m) = ⊥
+
+module _ (e : End) (peer : List ℕ) where
+  abbrev r : Record
+  r = e .record-of
+
+  abbrev d : List ℕ
+  d = e .transcript
+
+  -- a call that leaves the mark, where it is not refused, leaves it
+  marked-behind : (rows : List Row) (action : Outcome) → r .verified ≡ true → action .answer .next .verified ≡ true → decide rows r d action .answer .next .verified ≡ true
+  marked-behind rows action h a = decide-out (λ out. out .answer .next .verified ≡ true) rows r d action (λ n f. h) (λ g. a)
+
+  finish-verified : (j : Judged) → r .verified ≡ true → finish r d peer j .answer .next .verified ≡ true
+  unfolding finish
+  finish-verified (halted n p) h = h
+  finish-verified (whole n c) h = elim (which (leb (r .used + length peer) (room d))) [ inl b ↦ rw b h | inr b ↦ rw b h ]
+
+  verified-stays : (k : Call) → r .verified ≡ true → act e peer k .answer .next .verified ≡ true
+  unfolding act offering replying writingMetadata writingExchange writingVerify writingAlert readingToken choosing
+  verified-stays (offer random) h = marked-behind (stageRows r NEGO ++ offerRows r d (random .0)) _ h h
+  verified-stays (reply m random) h = marked-behind (stageRows r NEGO ++ replyRows r d m (random .0)) _ h h
+  verified-stays (metadata id value) h = marked-behind (stageRows r METADATA ++ metadataRows r d (id .0) value) _ h h
+  verified-stays (exchange value) h = marked-behind (stageRows r EXCHANGE ++ namedRows r d (exchangeMessage r value)) _ h h
+  verified-stays (verify type value) h = marked-behind (stageRows r VERIFY ++ namedRows r d (verifyMessage r type value)) _ h refl
+  verified-stays (alert code) h = marked-behind (stageRows r ALERT ++ namedRows r d (alertMessage r code)) _ h h
+  verified-stays read h = marked-behind (limitRows r ++ tokenRows r peer) _ h (finish-verified (judged r peer) h)
+  verified-stays (choose m) h = marked-behind (limitRows r ++ choiceRows r m) _ h h
+
+  -- a VERIFY is written where none was, and is then one
+  verify-spends : (k : Call) → IsVerify k → isAccepted (act e peer k .answer) ≡ true → (r .verified ≡ true → ⊥) × (act e peer k .answer .next .verified ≡ true)
+  unfolding act writingVerify after
+  verify-spends (verify type value) s =
+      decide-out (λ out. isAccepted (out .answer) ≡ true → (r .verified ≡ true → ⊥) × (out .answer .next .verified ≡ true)) (stageRows r VERIFY ++ namedRows r d (verifyMessage r type value)) r d _
+      (λ n f a. no-true (sym (ne-eqb n 0 (fails-other 0 (stageRows r VERIFY ++ namedRows r d (verifyMessage r type value)) n refl f)) ∙ a))
+      (λ g a. ((λ v. no-true (rw v at (true-behind (limitRows r) (row 18 (mayWrite r VERIFY)) (namedRows r d (verifyMessage r type value)) g))), refl))
+
+pub verify-once : (o : Opening) (cs : List (Bool × Call)) (x : Bool) (y z : Entry) → List·Memᴰ y (run (world o) cs) → List·Memᴰ z (run (world o) cs) → At IsVerify x y → At IsVerify x z → y ≡ z
+verify-once o cs x y z =
+    once Verified IsVerify (λ b e p c h. verified-stays e p c) (λ b e p c h. verify-spends e p c) x (world o) cs (refl, refl) y z
