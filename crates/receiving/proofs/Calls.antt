@@ -3,14 +3,15 @@
 use Prim.Native.Nat.{ℕ, zero, suc, _+_, _-_, _<_, _≤_, min}
 use mathlib.Core.Path.{_≡_, refl, sym, ap, _∙_}
 use mathlib.Core.Bool.{Bool, true, false}
-use mathlib.Core.List.{List, [], _∷_}
+use mathlib.Core.List.{List, [], _∷_, _++_}
 use native.Mathlib.Omega.{arith}
 use lib.ListN.{length}
 use lib.Dec.{eqb, leb}
 use borrow.Author.Tests.{le-leb, lt-leb, leb-true}
 use Rattle.vector.specs.declared.TokenPlace.{TokenPlace}
 use Rattle.message.specs.Layout.{size, front}
-use Rattle.message.specs.Check.{Row, firstFailing}
+use Rattle.message.specs.Check.{firstFailing}
+use Rattle.message.proofs.Tables.{AllTrue}
 use Rattle.token.specs.Token.{refused as cutAt, chainOf, passes}
 use Rattle.put.specs.Put.{Written}
 use Rattle.conversation.specs.declared.Record.{Record}
@@ -18,49 +19,32 @@ use Rattle.conversation.specs.declared.Scan.{Scan}
 use Rattle.conversation.specs.declared.Answer.{Answer}
 use Rattle.conversation.specs.State.{limitRows}
 use Rattle.conversation.specs.Turns.{mayRead}
-use Rattle.conversation.specs.Outcomes.{Outcome, answered, refused, row}
+use Rattle.conversation.specs.Outcomes.{Outcome, answered, row}
 use Rattle.conversation.specs.Admitting.{Admitted, on, stop, admit}
 use Rattle.conversation.specs.Reading.{conversationOf, startOf, Judged, whole, thenJudge, judge, judged, taken, takenAs, finish, readingToken}
-use Rattle.conversation.proofs.Decides.{first-none, first-stop, first-on, decide-passed, decide-refused}
+use Rattle.conversation.proofs.Rows.{true-behind}
 use Rattle.conversation.proofs.Tokens.{judged-first}
 use Rattle.receiving.specs.declared.Judgement.{Judgement}
 use Rattle.receiving.specs.declared.Judgement.the-variants as judgement
-use Rattle.receiving.specs.Receiving.{Inside, judgedAs, Taking, beforeRows, refusalBefore, Judging, accepted, haltedAs}
+use Rattle.calls.specs.Calls.{roomFor, callRefusal, Inside}
+use Rattle.calls.proofs.Refusals.{limits-inside, limits-stop, limits-on, call-refused, call-given, call-passed}
+use Rattle.receiving.specs.Receiving.{judgedAs, Taking, readingRows, Judging, accepted, haltedAs}
 
 -- 18 and 1
-abbrev lastRows : Record → ℕ → List Row
-lastRows r size = row 18 (mayRead r) ∷ row 1 (leb size 65535) ∷ []
+module _ (r : Record) (size n : ℕ) (n-is : n ≡ firstFailing (limitRows r)) (z : n ≡ 0) (a : Bool) (a-is : a ≡ mayRead r) where
+  behind : (x : ℕ) → x ≡ firstFailing (readingRows r size) → x ≡ callRefusal r (readingRows r size)
+  behind = limits-on r (readingRows r size) n n-is z
 
-last-18 : (a b : Bool) → a ≡ false → 18 ≡ firstFailing (row 18 a ∷ row 1 b ∷ [])
-last-18 a b e = rw e
+  pub before-turn : a ≡ false → 18 ≡ callRefusal r (readingRows r size)
+  before-turn e = behind 18 (rw (← a-is, e))
 
-last-1 : (a b : Bool) → a ≡ true → b ≡ false → 1 ≡ firstFailing (row 18 a ∷ row 1 b ∷ [])
-last-1 a b e f = rw (e, f)
+  pub before-long : a ≡ true → 65535 < size → 1 ≡ callRefusal r (readingRows r size)
+  before-long e h = behind 1 (rw (← a-is, e, lt-leb _ _ h))
 
-last-0 : (a b : Bool) → a ≡ true → b ≡ true → 0 ≡ firstFailing (row 18 a ∷ row 1 b ∷ [])
-last-0 a b e f = rw (e, f)
+  pub before-none : a ≡ true → size ≤ 65535 → 0 ≡ callRefusal r (readingRows r size)
+  before-none e h = behind 0 (rw (← a-is, e, le-leb _ _ h))
 
-module _ (r : Record) (size n : ℕ) (n-is : n ≡ firstFailing (limitRows r)) where
-  pub before-limits : (n ≡ 0 → ⊥) → n ≡ refusalBefore r size
-  unfolding refusalBefore
-  before-limits e = n-is ∙ first-stop (limitRows r) (lastRows r size) (λ q. e (n-is ∙ q))
-
-  module _ (within : n ≡ 0) where
-    behind : (k : ℕ) → k ≡ firstFailing (lastRows r size) → k ≡ refusalBefore r size
-    unfolding refusalBefore
-    behind k e = e ∙ first-on (limitRows r) (lastRows r size) (first-none (limitRows r) refl (sym n-is ∙ within))
-
-    module _ (a : Bool) (a-is : a ≡ mayRead r) where
-      pub before-turn : a ≡ false → 18 ≡ refusalBefore r size
-      before-turn e = behind 18 (last-18 (mayRead r) (leb size 65535) (sym a-is ∙ e))
-
-      pub before-long : a ≡ true → 65535 < size → 1 ≡ refusalBefore r size
-      before-long e h = behind 1 (last-1 (mayRead r) (leb size 65535) (sym a-is ∙ e) (lt-leb _ _ h))
-
-      pub before-none : a ≡ true → size ≤ 65535 → 0 ≡ refusalBefore r size
-      before-none e h = behind 0 (last-0 (mayRead r) (leb size 65535) (sym a-is ∙ e) (le-leb _ _ h))
-
-pub ruleset befores = (before-limits, before-turn, before-long, before-none)
+pub ruleset befores = (limits-stop, before-turn, before-long, before-none)
 
 -- a token's messages are no more than its octets
 few : (r : Record) (t s : List ℕ) (k at q : ℕ) (v : List ℕ) (n : ℕ) (c : Scan) (m : ℕ) (d : Scan) → judge r t n c (chainOf s k at q v) ≡ whole m d → m ≤ n + length s
@@ -93,12 +77,6 @@ module _ (r : Record) (j : Judgement) where
   pub whole-answer : (n : ℕ) (c : Scan) → j ≡ judgement.Whole n c → (a : Answer) → a ≡ answered 0 0 r → a ≡ haltedAs r (judgedAs j)
   whole-answer n c e a a-is = a-is ∙ sym (ap (λ (z : Judgement). haltedAs r (judgedAs z)) e)
 
-pub room-small : (size : ℕ) → size < 65535 → size ≡ min size 65535
-room-small size h = omega arith
-
-pub room-large : (size : ℕ) → 65535 ≤ size → 65535 ≡ min size 65535
-room-large size h = omega arith
-
 -- an accepted token
 pub accept-is : (r : Record) (d t : List ℕ) (n : ℕ) (c : Scan) (d' : List ℕ) (next : ℕ) → Written d (r .used) (length t) t d' next → (after : Record) → after ≡ taken r t n c → _≡_ {A = Outcome} (record { answer = takenAs after n; transcript = d' }) (accepted r d t n c)
 accept-is r d t n c d' next w after after-is = rw (w .holds, after-is)
@@ -115,53 +93,45 @@ module _ (r : Record) (d t : List ℕ) (j : Judgement) where
         let e : judged r t ≡ whole n c = sym (w .says) ∙ ap judgedAs j-whole in
         record { inside = w .inside; forty = judged-first r t n c e .forty; short = w .short; messages = judged-few r t n c e }
 
-    module _ (room : ℕ) (room-is : room ≡ min (length d) 65535) where
-      pub finish-16 : room < r .used + length t → (a : Answer) → a ≡ answered 16 0 r → _≡_ {A = Outcome} (record { answer = a; transcript = d }) (finish r d t (judgedAs j))
+    module _ (b : Bool) (b-is : b ≡ roomFor (r .used) (0 + length t) (length d)) where
+      room : roomFor (r .used) (length t) (length d) ≡ b
+      room = let e : length t ≡ 0 + length t = omega arith in rw e (sym b-is)
+
+      pub finish-16 : b ≡ false → (a : Answer) → a ≡ answered 16 0 r → _≡_ {A = Outcome} (record { answer = a; transcript = d }) (finish r d t (judgedAs j))
       unfolding finish
-      finish-16 h a a-is = rw (a-is, j-whole, ← room-is, lt-leb _ _ h)
+      finish-16 e a a-is = rw (a-is, j-whole, room, e)
 
-      pub finish-room : r .used + length t ≤ room → r .used + length t ≤ length d
-      finish-room h = omega arith
+      pub finish-room : b ≡ true → r .used + length t ≤ length d
+      finish-room e = omega (arith, leb-true (r .used + length t) (min (length d) 65535) (room ∙ e))
 
-      pub finish-accepted : r .used + length t ≤ room → (x : Outcome) → x ≡ accepted r d t n c → x ≡ finish r d t (judgedAs j)
+      pub finish-accepted : b ≡ true → (x : Outcome) → x ≡ accepted r d t n c → x ≡ finish r d t (judgedAs j)
       unfolding finish
-      finish-accepted h x x-is = x-is ∙ rw (j-whole, ← room-is, le-leb _ _ h)
+      finish-accepted e x x-is = x-is ∙ rw (j-whole, room, e)
 
-pub ruleset finishes = (halted-answer, whole-answer, room-small, room-large, accept-is, finish-halted, finish-taking, finish-16, finish-room, finish-accepted)
+pub ruleset finishes = (halted-answer, whole-answer, accept-is, finish-halted, finish-taking, finish-16, finish-room, finish-accepted)
 
 -- the whole call
-abbrev outcome : Answer → List ℕ → Outcome
-outcome a d = record { answer = a; transcript = d }
-
-module _ (r : Record) (d t : List ℕ) (n : ℕ) (n-is : n ≡ refusalBefore r (length t)) where
+module _ (r : Record) (d t : List ℕ) (n : ℕ) (n-is : n ≡ callRefusal r (readingRows r (length t))) where
   pub read-refused : (n ≡ 0 → ⊥) → (a : Answer) → a ≡ answered n 0 r → _≡_ {A = Outcome} (record { answer = a; transcript = d }) (readingToken r d t)
-  unfolding readingToken refusalBefore
-  read-refused e a a-is =
-      ap (λ (z : Answer). outcome z d) a-is
-      ∙ ap (λ (k : ℕ). refused r d k 0) n-is
-      ∙ decide-refused (beforeRows r (length t)) r d (finish r d t (judged r t)) (λ q. e (n-is ∙ q))
+  unfolding readingToken
+  read-refused e a a-is = rw a-is (call-refused r (readingRows r (length t)) n n-is d (finish r d t (judged r t)) e)
 
-  module _ (passes-all : n ≡ 0) where
+  module _ (z : n ≡ 0) where
+    given : AllTrue (limitRows r ++ readingRows r (length t))
+    given = call-given r (readingRows r (length t)) n n-is refl z
+
     pub read-inside : Inside r
-    unfolding refusalBefore
-    read-inside =
-        let (some, (few, (different, (marks, (common, (told, (kept, (chosen, (used, (sequence, (counts, rest))))))))))) = first-none (beforeRows r (length t)) refl (sym n-is ∙ passes-all) in
-        record { few = leb-true _ _ few; different = different; used = leb-true _ _ used; sequence = leb-true _ _ sequence }
+    read-inside = limits-inside r (readingRows r (length t)) given
 
     pub read-short : length t ≤ 65535
-    unfolding refusalBefore
-    read-short =
-        let (some, (few, (different, (marks, (common, (told, (kept, (chosen, (used, (sequence, (counts, (turn, (short, end))))))))))))) = first-none (beforeRows r (length t)) refl (sym n-is ∙ passes-all) in
-        leb-true _ _ short
+    read-short = leb-true _ _ (true-behind (limitRows r ++ (row 18 (mayRead r) ∷ [])) (row 1 (leb (length t) 65535)) [] given)
 
     module _ (j : Judgement) (j-is : judgedAs j ≡ judged r t) where
       pub read-judging : Judging r t j
       read-judging = record { inside = read-inside; short = read-short; says = j-is }
 
       pub read-on : (x : Outcome) → x ≡ finish r d t (judgedAs j) → x ≡ readingToken r d t
-      unfolding readingToken refusalBefore
-      read-on x x-is =
-          x-is ∙ ap (finish r d t) j-is
-          ∙ decide-passed (beforeRows r (length t)) r d (finish r d t (judged r t)) (first-none (beforeRows r (length t)) refl (sym n-is ∙ passes-all))
+      unfolding readingToken
+      read-on x x-is = x-is ∙ ap (finish r d t) j-is ∙ call-passed r (readingRows r (length t)) n n-is refl z d (finish r d t (judged r t))
 
 pub ruleset calls = (read-refused, read-inside, read-short, read-judging, read-on)

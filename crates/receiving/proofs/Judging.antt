@@ -4,11 +4,10 @@ use Prim.Native.Nat.{ℕ, _+_, _-_, _<_, _≤_}
 use mathlib.Core.Path.{_≡_, refl, sym, ap, _∙_}
 use mathlib.Core.Bool.{true, false}
 use mathlib.Core.Logic.{_⊎_, inl, inr}
-use mathlib.Core.List.{List, [], _∷_, _++_}
-use native.Mathlib.Numerals.{add-one}
+use mathlib.Core.List.{List, [], _∷_}
 use native.Mathlib.Omega.{arith}
-use lib.ListN.{length, take, drop, getD, set, length-take, length-drop}
-use lib.Seq.{take-suc, getD-drop, length-take-le}
+use lib.ListN.{length, take, drop, length-drop}
+use lib.Seq.{length-take-le}
 use lib.Dec.{eqb}
 use borrow.Author.Tests.{eq-eqb, ne-eqb, eqb-false, lt-leb}
 use Rattle.octets.specs.Octets.{octets}
@@ -20,19 +19,18 @@ use Rattle.message.specs.Check.{commonRows, firstFailing, said, fieldsOf}
 use Rattle.message.proofs.Tables.{which, verdict-read, verdict-refused}
 use Rattle.token.specs.Token.{nextRows, passes, nextVerdict, Chain, chainOf}
 use Rattle.token.proofs.Cuts.{passes-sized, turn-pass, turn-fail}
-use Rattle.schemes.specs.Sets.{padTo}
 use Rattle.schemes.proofs.Ids.{tail-all}
-use Rattle.schemes.proofs.Pads.{pad-more, pad-full}
 use Rattle.conversation.specs.declared.Record.{Record}
 use Rattle.conversation.specs.declared.Scan.{Scan}
 use Rattle.conversation.specs.Turns.{reads}
 use Rattle.conversation.specs.Admitting.{Admitted, admit}
 use Rattle.conversation.specs.Reading.{conversationOf, startOf, Judged, whole, halted, thenJudge, judge, judged}
-use Rattle.receiving.specs.declared.Admission.{Admission}
-use Rattle.receiving.specs.declared.Admission.the-variants as admission
+use Rattle.admitting.specs.declared.Admission.{Admission}
+use Rattle.admitting.specs.declared.Admission.the-variants as admission
+use Rattle.admitting.specs.Admissions.{admitted}
+use Rattle.admitting.proofs.Admits.{admitted-named}
 use Rattle.receiving.specs.declared.Judgement.{Judgement}
-use Rattle.receiving.specs.Receiving.{admitted, judgedAs, cutBy, haltedBy}
-use Rattle.receiving.proofs.Admits.{admitted-named}
+use Rattle.receiving.specs.Receiving.{judgedAs, cutBy, haltedBy}
 
 -- a refusal, at its place
 module _ (place : ℕ) where
@@ -138,25 +136,6 @@ module _ (r : Record) (t rest : List ℕ) (at q : ℕ) (v : List ℕ) (n : ℕ) 
 pub ruleset refusals = (cut-here, cut-not, halted-here, halted-not)
 
 pub ruleset judgings = (start-named, start-judged, ends-within, scheme-there, left-less, left-count, left-place, judge-stopped, judge-named, judge-on, judge-end, judge-cut)
-
--- an id that is copied out of a token
-module _ (t : List ℕ) (at : ℕ) (inside : at + 16 ≤ length t) (id : List ℕ) (j : ℕ) (inv : id ≡ padTo 16 (take j (drop at t))) where
-  pub copy-more : j < 16 → set id j (getD t (at + j) 0) ≡ padTo 16 (take (j + 1) (drop at t))
-  copy-more h =
-      let s : List ℕ = drop at t in
-      let l : length s ≡ length t - at = length-drop at t in
-      let f : length (take j s) ≡ j = length-take-le j s (omega arith) in
-      let x : ℕ = getD t (at + j) 0 in
-      let q : take (j + 1) s ≡ take j s ++ (x ∷ []) = rw add-one (take-suc s j 0 (omega arith) ∙ rw getD-drop) in
-      rw (inv, q) (pad-more 16 (take j s) x j f h)
-
-  pub copy-end : 16 ≤ j → j ≤ 16 → id ≡ octets 16 t at
-  copy-end h g =
-      let e : j ≡ 16 = omega arith in
-      let l : length (octets 16 t at) ≡ 16 = simp (length-take, length-drop) (omega arith) in
-      inv ∙ rw e (pad-full 16 (octets 16 t at) l)
-
-pub ruleset copies = (copy-more, copy-end)
 
 -- the whole token
 short : (s : List ℕ) (q : ℕ) (v : List ℕ) → length s < 40 → (passes s q v ≡ false) × (firstFailing (nextRows s q v) ≡ 2)

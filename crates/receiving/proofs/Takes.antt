@@ -1,11 +1,10 @@
 -- The record behind an accepted token, in the words of the code.
 -- Assumes nothing.
-use Prim.Native.Nat.{ℕ, _+_, _≤_}
+use Prim.Native.Nat.{ℕ, _≤_}
 use mathlib.Core.Path.{_≡_, sym, ap, _∙_}
 use mathlib.Core.Bool.{Bool, true, false, cond}
 use mathlib.Core.List.{List}
 use native.Mathlib.Omega.{arith}
-use lib.ListN.{length}
 use lib.Dec.{eqb}
 use borrow.Author.Tests.{eq-eqb, ne-eqb}
 use Rattle.message.specs.Show.{idsAt, idsOf}
@@ -20,9 +19,10 @@ use Rattle.conversation.specs.declared.Scan.{Scan}
 use Rattle.conversation.specs.State.{ownOf}
 use Rattle.conversation.specs.Turns.{reading, reads}
 use Rattle.conversation.specs.Admitting.{listedBy}
-use Rattle.conversation.specs.Reading.{conversationOf, commonAfter, keptAfter, taken}
-use Rattle.receiving.specs.Receiving.{listedIn, Taking, movedBy}
-use Rattle.receiving.proofs.Lists.{listed-by}
+use Rattle.conversation.specs.Reading.{commonAfter, keptAfter, taken}
+use Rattle.admitting.specs.Admissions.{listedIn}
+use Rattle.admitting.proofs.Lists.{listed-by}
+use Rattle.receiving.specs.Receiving.{Taking, withSets, movedBy}
 
 -- a token's number is one of four
 either : (b : Bool) (x y : ℕ) → x ≤ 3 → y ≤ 3 → cond b x y ≤ 3
@@ -38,48 +38,7 @@ reading-small false stage = either (eqb stage 0) 1 _ (omega arith) (either (eqb 
 pub token-small : (r : Record) (token : ℕ) → token ≡ reads r → token ≤ 3
 token-small r token e = omega (arith, reading-small (r .acceptor) (r .stage))
 
--- a record with another common set and other kept places
-abbrev pub withSets : Record → ℕ → List ℕ → Record
-withSets r x k = record {
-  acceptor = r .acceptor;
-  stage = r .stage;
-  position = r .position;
-  list = r .list;
-  count = r .count;
-  conversation = r .conversation;
-  marks = r .marks;
-  common = x;
-  kept = k;
-  told = r .told;
-  asked = r .asked;
-  chosen = r .chosen;
-  verified = r .verified;
-  heard = r .heard;
-  sequence = r .sequence;
-  used = r .used;
-}
-
 module _ (r : Record) (t : List ℕ) (n : ℕ) (c : Scan) (token : ℕ) (token-is : token ≡ reads r) where
-  pub moved-is : (v : List ℕ) → v ≡ conversationOf r t → _≡_ {A = Record} (record {
-    acceptor = r .acceptor;
-    stage = token + 1;
-    position = 0;
-    list = r .list;
-    count = r .count;
-    conversation = v;
-    marks = r .marks;
-    common = r .common;
-    kept = r .kept;
-    told = 0;
-    asked = c .asked;
-    chosen = c .chosen;
-    verified = r .verified;
-    heard = c .heard;
-    sequence = r .sequence + n;
-    used = r .used + length t;
-  }) (movedBy r t n c)
-  moved-is v v-is = rw (token-is, v-is)
-
   taken-is : (x : ℕ) (k : List ℕ) → x ≡ commonAfter r t → k ≡ keptAfter r t → withSets (movedBy r t n c) x k ≡ taken r t n c
   taken-is x k x-is k-is = ap (λ (z : ℕ). withSets (movedBy r t n c) z k) x-is ∙ ap (λ (z : List ℕ). withSets (movedBy r t n c) (commonAfter r t) z) k-is
 
@@ -115,4 +74,4 @@ unfolding keptOf
 kept-small r size n w peer k k-is =
     omega (arith, ap (λ (z : Kept). z .count) k-is, kept-few (ownOf r) peer, length-ids (r .count) (r .list), w .inside .few)
 
-pub ruleset takes = (moved-is, taken-first, taken-reply, taken-later, kept-small)
+pub ruleset takes = (taken-first, taken-reply, taken-later, kept-small)

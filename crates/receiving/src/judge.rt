@@ -1,19 +1,21 @@
 // A peer's token, judged message by message.
 ghost use mathlib.Core.Path.{_≡_};
-ghost use Prim.Native.Nat.{_+_, _≤_};
+ghost use Prim.Native.Nat.{_≤_};
 ghost use lib.ListN.{length};
-ghost use Rattle.octets.specs.Octets.{octets};
 ghost use Rattle.message.specs.Check.{said};
 ghost use Rattle.token.specs.Token.{chainOf};
 ghost use Rattle.conversation.specs.Reading.{startOf, conversationOf, judge, judged};
-ghost use Rattle.receiving.specs.Receiving.{Inside, admitted, judgedAs, cutBy, haltedBy};
-use super::Admission;
+ghost use Rattle.calls.specs.Calls.{Inside};
+ghost use Rattle.admitting.specs.Admissions.{admitted};
+ghost use Rattle.receiving.specs.Receiving.{judgedAs, cutBy, haltedBy};
 use super::Judgement;
-use super::admit::admit_message;
+use admitting::Admission;
+use admitting::admit::admit_message;
 use conversation::Record;
 use conversation::Scan;
 use conversation::turns::reading_token;
 use message::Read;
+use schemes::list::id_at;
 use token::read_next;
 use vector::MessageOffset;
 use vector::TokenPlace;
@@ -79,20 +81,6 @@ fn judge_messages(r: Record, t: &[u8], conversation: &[u8]) -> Judgement
         n += 1;
     }
     Judgement::Whole(n, scan)
-}
-
-// The id at a place of a token.
-fn id_at(t: &[u8], at: usize) -> [u8; 16]
-    requires { ⌜ at + 16 ≤ length (now t) ⌝ }
-    ensures { λ a. ⌜ a ≡ octets 16 (now (t .entry)) at ⌝ }
-{
-    let mut id = [0u8; 16];
-    let mut j: usize = 0;
-    while j < 16 {
-        id[j] = t[at + j];
-        j += 1;
-    }
-    id
 }
 
 // The conversation that a token's messages must have: an acceptor takes it from the first.

@@ -1,10 +1,13 @@
 // Reading a peer's token into a conversation record.
 ghost use mathlib.Core.Path.{_≡_};
-ghost use Prim.Native.Nat.{_+_, _≤_, min};
+ghost use Prim.Native.Nat.{_+_, _≤_};
 ghost use lib.ListN.{length};
-ghost use Rattle.conversation.specs.Outcomes.{Outcome, answered};
+ghost use Rattle.conversation.specs.Outcomes.{Outcome};
 ghost use Rattle.conversation.specs.Reading.{finish, readingToken};
-ghost use Rattle.receiving.specs.Receiving.{Taking, Judging, judgedAs, refusalBefore, accepted, haltedAs};
+ghost use Rattle.calls.specs.Calls.{callRefusal};
+ghost use Rattle.receiving.specs.Receiving.{Taking, Judging, judgedAs, readingRows, accepted, haltedAs};
+use calls::answer;
+use calls::has_room;
 use conversation::Answer;
 use conversation::Record;
 use conversation::Scan;
@@ -15,17 +18,8 @@ use put::put_octets;
 use taken::taken_record;
 use vector::TokenPlace;
 
-mod admit;
-mod fits;
 mod judge;
-mod named;
 mod taken;
-
-// What 14 and 15 say of a message: let through, with what is carried on, or stopped.
-pub enum Admission {
-    On(Scan),
-    Stop(u32),
-}
 
 // What 2 to 15 say of a token: the number of its messages, with what is carried out of it, or the first refusal with its place.
 pub enum Judgement {
@@ -35,7 +29,7 @@ pub enum Judgement {
 
 // 18 and 1: the first that refuses before any message is looked at, or 0.
 fn refusal_before(r: Record, size: usize) -> u32
-    ensures { λ a. ⌜ a ≡ refusalBefore r size ⌝ }
+    ensures { λ a. ⌜ a ≡ callRefusal r (readingRows r size) ⌝ }
 {
     let number = outside(r);
     if number != 0 {
@@ -50,35 +44,14 @@ fn refusal_before(r: Record, size: usize) -> u32
     0
 }
 
-// "Record and lent octets are unchanged."
-fn refuse(r: Record, number: u32, place: TokenPlace) -> Answer
-    ensures { λ a. ⌜ a ≡ answered number (place .0) r ⌝ }
-{
-    Answer {
-        refusal: number,
-        place,
-        messages: 0,
-        choice: [0u8; 16],
-        left: 0,
-        next: r,
-    }
-}
-
 // A token's refusal, at its place.
 fn refuse_halted(r: Record, j: Judgement) -> Answer
     ensures { λ a. ⌜ a ≡ haltedAs r (judgedAs j) ⌝ }
 {
     match j {
-        Judgement::Halted(number, place) => refuse(r, number, place),
-        Judgement::Whole(_, _) => refuse(r, 0, TokenPlace(0)),
+        Judgement::Halted(number, place) => answer(number, place, r),
+        Judgement::Whole(_, _) => answer(0, TokenPlace(0), r),
     }
-}
-
-// The transcript's room.
-fn room_of(size: usize) -> usize
-    ensures { λ a. ⌜ a ≡ min size 65535 ⌝ }
-{
-    if size < 65535 { size } else { 65535 }
 }
 
 // An accepted token: put at the transcript's end, and taken into the record.
@@ -106,9 +79,8 @@ fn finish_token(r: Record, transcript: &mut [u8], t: &[u8], j: Judgement) -> Ans
     let Judgement::Whole(n, c) = j else {
         return refuse_halted(r, j);
     };
-    let room = room_of(transcript.len());
-    if room < r.used + t.len() {
-        return refuse(r, 16, TokenPlace(0));
+    if has_room(r.used, 0, t.len(), transcript.len()) {} else {
+        return answer(16, TokenPlace(0), r);
     }
     accept(r, transcript, t, n, c)
 }
@@ -119,7 +91,7 @@ pub fn read(r: Record, transcript: &mut [u8], token: &[u8]) -> Answer
 {
     let number = refusal_before(r, token.len());
     if number != 0 {
-        return refuse(r, number, TokenPlace(0));
+        return answer(number, TokenPlace(0), r);
     }
     let j = judge_token(r, token);
     finish_token(r, transcript, token, j)

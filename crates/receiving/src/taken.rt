@@ -4,7 +4,7 @@ ghost use lib.ListN.{length};
 ghost use Rattle.conversation.specs.Reading.{taken};
 ghost use Rattle.receiving.specs.Receiving.{Taking, movedBy};
 use super::judge::conversation_of;
-use super::named::listed;
+use admitting::named::listed;
 use conversation::Record;
 use conversation::Scan;
 use conversation::turns::reading_token;

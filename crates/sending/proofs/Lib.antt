@@ -1,10 +1,3 @@
-pub mod Openings
-pub mod Stages
-pub mod Appends
-pub mod Offering
-pub mod Lefts
 pub mod Schemes
 pub mod Named
-pub mod Choices
-pub mod Replying
 pub mod Tellings

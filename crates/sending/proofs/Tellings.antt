@@ -1,35 +1,34 @@
 -- Metadata, in the words of the code.
 -- Assumes nothing.
-use Prim.Native.Nat.{ℕ, zero, suc, _+_, _*_, _/_, _^_, _≤_, _<_}
+use Prim.Native.Nat.{ℕ, suc, _+_, _^_, _≤_, _<_}
 use mathlib.Core.Path.{_≡_, refl, sym, ap, _∙_}
 use mathlib.Core.Bool.{Bool, true, false, cond, not, _&&_}
 use mathlib.Core.List.{List, [], _∷_, _++_}
 use native.Mathlib.Omega.{arith}
 use lib.ListN.{length}
-use lib.Dec.{leb, ltb}
+use lib.Dec.{ltb}
 use borrow.Author.Tests.{le-leb, lt-leb, not-true}
 use Rattle.octets.specs.Octets.{sameOctets}
-use Rattle.message.specs.Check.{Row, firstFailing}
+use Rattle.message.specs.Check.{firstFailing}
 use Rattle.message.proofs.Tables.{AllTrue}
-use Rattle.put.specs.Put.{put}
-use Rattle.encode.specs.Encode.{Payload, ofExchange}
-use Rattle.encode.proofs.Sizes.{length-encoded}
+use Rattle.encode.specs.Encode.{Whole, Contents, ofExchange, sizeOf}
 use Rattle.schemes.specs.Lists.{Id, mem, place, bit}
-use Rattle.schemes.specs.Sets.{left}
 use Rattle.schemes.specs.Answers.{withBit}
-use Rattle.schemes.proofs.Choice.{no-true, and-l, and-r}
+use Rattle.schemes.proofs.Choice.{and-l, and-r}
 use Rattle.schemes.proofs.Ids.{length-ids, mem-place}
 use Rattle.schemes.proofs.Replies.{place-below}
 use Rattle.conversation.specs.declared.Record.{Record}
 use Rattle.conversation.specs.declared.Answer.{Answer}
 use Rattle.conversation.specs.State.{ownOf, replied}
-use Rattle.conversation.specs.Turns.{typeOf, placeAfter}
-use Rattle.conversation.specs.Outcomes.{Outcome, WrittenAs, answered, row, appended}
-use Rattle.conversation.specs.Writing.{heading, stageRows, metadataAllowed, metadataMessage, writingMetadata}
-use Rattle.conversation.proofs.Rows.{front-true}
-use Rattle.sending.specs.Refusals.{roomFor, stageRefusal, metadataRefusal}
-use Rattle.sending.specs.Ready.{Ready, PayloadReady, Appended}
-use Rattle.sending.proofs.Stages.{changed, stage-stop, stage-all, stage-on, stage-few, stage-ready, call-refused, call-passed, rows-given, rows-behind}
+use Rattle.conversation.specs.Turns.{typeOf}
+use Rattle.conversation.specs.Outcomes.{Outcome, answered, row}
+use Rattle.conversation.specs.Writing.{metadataAllowed, writingMetadata}
+use Rattle.calls.specs.Calls.{roomFor, stageRefusal, writeRefusal, Inside, Ready, Appended}
+use Rattle.calls.proofs.Refusals.{write-stage, write-on, passed-inside, passed-own}
+use Rattle.calls.proofs.Sizes.{Sized}
+use Rattle.calls.proofs.Writes.{changed, write-refused, write-ready, write-written}
+use Rattle.calls.proofs.Replies.{left-mem}
+use Rattle.sending.specs.Sending.{metadataRows}
 
 -- ---- where a scheme stands
 pub place-most : (l : List Id) (s : Id) → place l s ≤ length l
@@ -39,22 +38,6 @@ place-most (x ∷ l) s = go (sameOctets s x) (place-most l s) where
   go : (b : Bool) → place l s ≤ length l → cond b 0 (suc (place l s)) ≤ suc (length l)
   go true h = omega arith
   go false h = omega arith
-
-left-mem : (s : Id) (l : List Id) (c m : ℕ) → mem s (left l c m) ≡ true → mem s l ≡ true
-unfolding mem left
-left-mem s [] c m h = h
-left-mem s (x ∷ l) c m h = go (bit c 0 && not (bit m 0)) h (left-mem s l (c / 2) (m / 2)) where
-  pick : (t : Bool) (u v : Bool) → cond t true u ≡ true → (u ≡ true → v ≡ true) → cond t true v ≡ true
-  pick true u v h ih = refl
-  pick false u v h ih = ih h
-
-  skip : (t : Bool) (v : Bool) → v ≡ true → cond t true v ≡ true
-  skip true v e = refl
-  skip false v e = e
-
-  go : (b : Bool) → mem s (cond b (x ∷ left l (c / 2) (m / 2)) (left l (c / 2) (m / 2))) ≡ true → (mem s (left l (c / 2) (m / 2)) ≡ true → mem s l ≡ true) → cond (sameOctets s x) true (mem s l) ≡ true
-  go true h ih = pick (sameOctets s x) (mem s (left l (c / 2) (m / 2))) (mem s l) h ih
-  go false h ih = skip (sameOctets s x) (mem s l) (ih h)
 
 -- ---- 15
 none : (b : Bool) → false ≡ (b && false)
@@ -90,96 +73,74 @@ module _ (r : Record) (id : Id) (p : ℕ) (p-is : p ≡ place (ownOf r) id) wher
 pub ruleset tolds = (told-again, told-acceptor, told-initiator)
 
 -- ---- the refusals
-abbrev head : Record → Id → ℕ → List Row
-head r id n = row 19 (leb 1 n) ∷ row 15 (metadataAllowed r id) ∷ []
+module _ (r : Record) (id : Id) (v len n : ℕ) (n-is : n ≡ stageRefusal r 2) (z : n ≡ 0) where
+  abbrev refusal : ℕ
+  refusal = writeRefusal r 2 (metadataRows r id v) (64 + v) len
 
-abbrev rows : Record → Id → ℕ → ℕ → List Row
-rows r id n len = head r id n ++ (row 16 (roomFor (r .used) (64 + n) len) ∷ [])
+  behind : (x : ℕ) → x ≡ firstFailing (metadataRows r id v ++ (row 16 (roomFor (r .used) (64 + v) len) ∷ [])) → x ≡ refusal
+  behind = write-on r 2 (metadataRows r id v) (64 + v) len n n-is z
 
-module _ (r : Record) (id : Id) (v len n : ℕ) (n-is : n ≡ stageRefusal r 2) where
-  pub meta-stage : (n ≡ 0 → ⊥) → n ≡ metadataRefusal r id v len
-  unfolding metadataRefusal
-  meta-stage h = stage-stop r 2 n n-is h (rows r id v len)
+  pub meta-empty : v < 1 → 19 ≡ refusal
+  meta-empty h = behind 19 (rw (lt-leb 1 v h))
 
-  module _ (z : n ≡ 0) where
-    behind : (x : ℕ) → x ≡ firstFailing (rows r id v len) → x ≡ metadataRefusal r id v len
-    unfolding metadataRefusal
-    behind = stage-on r 2 n n-is z (rows r id v len)
+  module _ (some : 1 ≤ v) (b : Bool) (b-is : b ≡ metadataAllowed r id) where
+    pub meta-scheme : b ≡ false → 15 ≡ refusal
+    meta-scheme e = behind 15 (rw (le-leb 1 v some, ← b-is, e))
 
-    pub meta-empty : v < 1 → 19 ≡ metadataRefusal r id v len
-    meta-empty h = behind 19 (rw (lt-leb 1 v h))
+    module _ (t : b ≡ true) (f : Bool) (f-is : f ≡ roomFor (r .used) (64 + v) len) where
+      pub meta-crowded : f ≡ false → 16 ≡ refusal
+      meta-crowded e = behind 16 (rw (le-leb 1 v some, ← b-is, t, ← f-is, e))
 
-    module _ (some : 1 ≤ v) (b : Bool) (b-is : b ≡ metadataAllowed r id) where
-      pub meta-scheme : b ≡ false → 15 ≡ metadataRefusal r id v len
-      meta-scheme e = behind 15 (rw (le-leb 1 v some, ← b-is, e))
+      pub meta-fits : f ≡ true → 0 ≡ refusal
+      meta-fits e = behind 0 (rw (le-leb 1 v some, ← b-is, t, ← f-is, e))
 
-      module _ (t : b ≡ true) (f : Bool) (f-is : f ≡ roomFor (r .used) (64 + v) len) where
-        pub meta-crowded : f ≡ false → 16 ≡ metadataRefusal r id v len
-        meta-crowded e = behind 16 (rw (le-leb 1 v some, ← b-is, t, ← f-is, e))
-
-        pub meta-fits : f ≡ true → 0 ≡ metadataRefusal r id v len
-        meta-fits e = behind 0 (rw (le-leb 1 v some, ← b-is, t, ← f-is, e))
-
-pub meta-few : (r : Record) (n : ℕ) → n ≡ stageRefusal r 2 → n ≡ 0 → r .count ≤ 16
-meta-few r n n-is z = stage-few r 2 (stage-all r 2 n n-is z)
-
-pub ruleset metadata-refusals = (meta-stage, meta-empty, meta-scheme, meta-crowded, meta-fits)
+pub ruleset metadata-refusals = (write-stage, meta-empty, meta-scheme, meta-crowded, meta-fits)
 
 -- ---- the call, by its refusal
-carries : (a : Bool) → leb 2 (typeOf a 2) && leb (typeOf a 2) 5 ≡ true
-unfolding typeOf
-carries true = refl
-carries false = refl
+module _ (r : Record) (id : Id) (v len n : ℕ) (n-is : n ≡ writeRefusal r 2 (metadataRows r id v) (64 + v) len) (z : n ≡ 0) where
+  pub metadata-inside : Inside r
+  metadata-inside = passed-inside r 2 (metadataRows r id v) (64 + v) len n n-is z refl
 
-module _ (r : Record) (list : length (r .list) ≡ 256) (d : List ℕ) (id : Id) (value : List ℕ) (n : ℕ) (n-is : n ≡ metadataRefusal r id (length value) (length d)) where
-  given : n ≡ 0 → AllTrue (stageRows r 2 ++ rows r id (length value) (length d))
-  unfolding metadataRefusal
-  given z = rows-given r 2 (rows r id (length value) (length d)) n refl n-is z
+  allowed : metadataAllowed r id ≡ true
+  allowed = passed-own r 2 (metadataRows r id v) (64 + v) len n n-is z refl .1 .0
+
+  untold : bit (r .told) (place (ownOf r) id) ≡ false
+  untold = not-true _ (and-r (mem id (cond (r .acceptor) (replied r) (ownOf r))) (not (bit (r .told) (place (ownOf r) id))) allowed)
+
+  own : mem id (ownOf r) ≡ true
+  own = go (r .acceptor) (and-l (mem id (cond (r .acceptor) (replied r) (ownOf r))) (not (bit (r .told) (place (ownOf r) id))) allowed) where
+    go : (a : Bool) → mem id (cond a (replied r) (ownOf r)) ≡ true → mem id (ownOf r) ≡ true
+    go true h = left-mem (ownOf r) (r .common) (r .marks) id (metadata-inside .different) h
+    go false h = h
+
+  pub metadata-place : (p : ℕ) → p ≡ place (ownOf r) id → p < 16
+  metadata-place p p-is = omega (arith, p-is, place-below (ownOf r) id own, length-ids (r .count) (r .list), metadata-inside .few)
+
+  metadata-told : (p : ℕ) → p ≡ place (ownOf r) id → withBit (r .told) p ≡ r .told + 2 ^ place (ownOf r) id
+  unfolding withBit
+  metadata-told p p-is = ap (withBit (r .told)) p-is ∙ rw untold
+
+module _ (r : Record) (arrays : Sized r) (d : List ℕ) (id : Id) (full : length id ≡ 16) (value : List ℕ) (n : ℕ) (n-is : n ≡ writeRefusal r 2 (metadataRows r id (length value)) (64 + length value) (length d)) where
+  abbrev contents : Contents
+  contents = ofExchange (record { scheme = id; value = value })
+
+  whole : Inside r → AllTrue (metadataRows r id (length value)) → Whole contents × (sizeOf contents ≡ 64 + length value)
+  whole i t = (full, refl)
+
+  pub metadata-refused : (n ≡ 0 → ⊥) → (a : Answer) → a ≡ answered n 0 r → _≡_ {A = Outcome} (record { answer = a; transcript = d }) (writingMetadata r d id value)
+  unfolding writingMetadata
+  metadata-refused h a a-is = write-refused r arrays d 2 (metadataRows r id (length value)) contents (64 + length value) whole n n-is h a a-is _
 
   module _ (z : n ≡ 0) where
-    behind-given : AllTrue (rows r id (length value) (length d))
-    behind-given = rows-behind r 2 (rows r id (length value) (length d)) (given z)
+    pub metadata-ready : Ready r d 2 contents
+    unfolding typeOf
+    metadata-ready = write-ready r d 2 (metadataRows r id (length value)) (64 + length value) n n-is z refl contents refl tt refl refl
 
-    stage-given : AllTrue (stageRows r 2)
-    stage-given = front-true (stageRows r 2) (rows r id (length value) (length d)) (given z)
-
-    pub metadata-few : r .count ≤ 16
-    metadata-few = stage-few r 2 stage-given
-
-    pub metadata-ready : PayloadReady r d 2 value
-    metadata-ready = record { ready = stage-ready r d 2 (64 + length value) stage-given (behind-given .1 .1 .0); carries = carries (r .acceptor) }
-
-    listed : mem id (cond (r .acceptor) (replied r) (ownOf r)) ≡ true
-    listed = and-l (mem id (cond (r .acceptor) (replied r) (ownOf r))) (not (bit (r .told) (place (ownOf r) id))) (behind-given .1 .0)
-
-    untold : bit (r .told) (place (ownOf r) id) ≡ false
-    untold = not-true _ (and-r (mem id (cond (r .acceptor) (replied r) (ownOf r))) (not (bit (r .told) (place (ownOf r) id))) (behind-given .1 .0))
-
-    own : mem id (ownOf r) ≡ true
-    own = go (r .acceptor) listed where
-      go : (a : Bool) → mem id (cond a (replied r) (ownOf r)) ≡ true → mem id (ownOf r) ≡ true
-      go true h = left-mem id (ownOf r) (r .common) (r .marks) h
-      go false h = h
-
-    pub metadata-place : (p : ℕ) → p ≡ place (ownOf r) id → p < 16
-    metadata-place p p-is = omega (arith, p-is, place-below (ownOf r) id own, length-ids (r .count) (r .list), metadata-few)
-
-  module _ (conversation : length (r .conversation) ≡ 16) (whole : length id ≡ 16) (a : Answer) where
-    sized : AllTrue (stageRows r 2 ++ head r id (length value)) → length (metadataMessage r id value) ≡ 64 + length value
-    sized g = length-encoded (heading r 2) conversation (ofExchange (record { scheme = id; value = value })) whole
-
-    written : Outcome
-    written = appended r d (placeAfter r 2) (metadataMessage r id value) (record { marks = r .marks; told = r .told + 2 ^ place (ownOf r) id; asked = r .asked; verified = r .verified })
-
-    pub metadata-refused : (n ≡ 0 → ⊥) → a ≡ answered n 0 r → _≡_ {A = Outcome} (record { answer = a; transcript = d }) (writingMetadata r d id value)
-    unfolding metadataRefusal writingMetadata written
-    metadata-refused h a-is = rw a-is (call-refused r d (stageRows r 2 ++ head r id (length value)) (metadataMessage r id value) (64 + length value) sized written n n-is h)
-
-    pub metadata-written : n ≡ 0 → (p : ℕ) → p ≡ place (ownOf r) id → (t : ℕ) → t ≡ withBit (r .told) p → (d' : List ℕ) (next : Record)
-        → Appended r d 2 (ofExchange (record { scheme = id; value = value })) d' next
+    pub metadata-written : (p : ℕ) → p ≡ place (ownOf r) id → (t : ℕ) → t ≡ withBit (r .told) p → (d' : List ℕ) (next : Record) → Appended r d 2 contents d' next → (a : Answer)
         → a ≡ answered 0 0 (changed next (record { marks = next .marks; told = t; asked = next .asked; verified = next .verified }))
         → _≡_ {A = Outcome} (record { answer = a; transcript = d' }) (writingMetadata r d id value)
-    unfolding writingMetadata written withBit
-    metadata-written z p p-is t t-is d' next w a-is =
-        let e : t ≡ r .told + 2 ^ place (ownOf r) id = t-is ∙ ap (withBit (r .told)) p-is ∙ rw (untold z) in
-        rw (a-is, w .counted, w .holds, e) (call-passed r d (stageRows r 2 ++ head r id (length value)) (metadataMessage r id value) (64 + length value) sized written (given z))
+    unfolding writingMetadata
+    metadata-written p p-is t t-is d' next y a a-is =
+        let e : t ≡ r .told + 2 ^ place (ownOf r) id = t-is ∙ metadata-told r id (length value) (length d) n n-is z p p-is in
+        write-written r arrays d 2 (metadataRows r id (length value)) contents (64 + length value) whole n n-is z refl
+        (λ q. record { marks = q .marks; told = r .told + 2 ^ place (ownOf r) id; asked = q .asked; verified = q .verified }) contents refl d' next y a (a-is ∙ rw e)

@@ -4,20 +4,21 @@ ghost use Rattle.encode.specs.Encode.{ofAlert};
 ghost use Rattle.conversation.specs.Turns.{ALERT};
 ghost use Rattle.conversation.specs.Outcomes.{Outcome};
 ghost use Rattle.conversation.specs.Writing.{writingAlert};
-ghost use Rattle.sending.specs.Ready.{Ready, Appended};
-use super::ALERT;
-use super::after_message;
-use super::answer;
-use super::heading_of;
+ghost use Rattle.calls.specs.Calls.{Ready, Appended};
 use super::scheme::named_refusal;
 use super::scheme::scheme_id;
+use calls::ALERT;
+use calls::answer;
+use calls::next::after_message;
+use calls::next::heading_of;
 use conversation::Answer;
 use conversation::Record;
-use encode::alert::write;
+use encode_alert::write;
+use vector::TokenPlace;
 
 // An ALERT at the transcript's end.
 fn append_alert(r: Record, transcript: &mut [u8], id: [u8; 16], code: i32) -> Record
-    requires { ⌜ Ready r (now transcript) 92 ⌝ }
+    requires { ⌜ Ready r (now transcript) ALERT (ofAlert (record { scheme = id; code = code })) ⌝ }
     ensures { λ a. ⌜ Appended r (now (transcript .entry)) ALERT (ofAlert (record { scheme = id; code = code })) (now (transcript .exit)) a ⌝ }
 {
     let heading = heading_of(r, ALERT);
@@ -31,9 +32,9 @@ pub fn write_alert(r: Record, transcript: &mut [u8], code: i32) -> Answer
 {
     let n = named_refusal(r, ALERT, 92, 0, transcript.len());
     if n != 0 {
-        return answer(n, r);
+        return answer(n, TokenPlace(0), r);
     }
     let id = scheme_id(r);
     let next = append_alert(r, transcript, id, code);
-    answer(0, next)
+    answer(0, TokenPlace(0), next)
 }

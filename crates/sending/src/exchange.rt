@@ -3,17 +3,18 @@ ghost use mathlib.Core.Path.{_≡_};
 ghost use Rattle.encode.specs.Encode.{ofExchange};
 ghost use Rattle.conversation.specs.Outcomes.{Outcome};
 ghost use Rattle.conversation.specs.Writing.{askedBy, writingExchange};
-ghost use Rattle.sending.specs.Ready.{PayloadReady, Appended};
-use super::EXCHANGE;
-use super::after_message;
-use super::answer;
-use super::heading_of;
+ghost use Rattle.calls.specs.Calls.{Ready, Appended};
 use super::scheme::named_refusal;
 use super::scheme::scheme_id;
+use calls::EXCHANGE;
+use calls::answer;
+use calls::next::after_message;
+use calls::next::heading_of;
 use conversation::Answer;
 use conversation::Record;
 use conversation::turns::writing_token;
-use encode::exchange::write;
+use encode_exchange::write;
+use vector::TokenPlace;
 
 // An exchange or metadata at the transcript's end.
 pub(crate) fn append_payload(
@@ -23,7 +24,7 @@ pub(crate) fn append_payload(
     id: [u8; 16],
     value: &[u8],
 ) -> Record
-    requires { ⌜ PayloadReady r (now transcript) kind (now value) ⌝ }
+    requires { ⌜ Ready r (now transcript) kind (ofExchange (record { scheme = id; value = now value })) ⌝ }
     ensures { λ a. ⌜ Appended r (now (transcript .entry)) kind (ofExchange (record { scheme = id; value = now (value .entry) })) (now (transcript .exit)) a ⌝ }
 {
     let heading = heading_of(r, kind);
@@ -48,11 +49,11 @@ pub fn write_exchange(r: Record, transcript: &mut [u8], value: &[u8]) -> Answer
 {
     let n = named_refusal(r, EXCHANGE, 64, value.len(), transcript.len());
     if n != 0 {
-        return answer(n, r);
+        return answer(n, TokenPlace(0), r);
     }
     let id = scheme_id(r);
     let asked = asked_by(r);
     let mut next = append_payload(r, transcript, EXCHANGE, id, value);
     next.asked = asked;
-    answer(0, next)
+    answer(0, TokenPlace(0), next)
 }

@@ -1,53 +1,41 @@
 // INITIATOR_META_DATA and ACCEPTOR_META_DATA.
 ghost use mathlib.Core.Path.{_≡_};
-ghost use Prim.Native.Nat.{_≤_};
-ghost use Rattle.schemes.specs.Lists.{mem};
-ghost use Rattle.conversation.specs.State.{replied};
+ghost use Prim.Native.Nat.{_+_};
+ghost use Rattle.conversation.specs.Turns.{METADATA};
 ghost use Rattle.conversation.specs.Outcomes.{Outcome};
 ghost use Rattle.conversation.specs.Writing.{metadataAllowed, writingMetadata};
-ghost use Rattle.sending.specs.Refusals.{metadataRefusal};
-use super::METADATA;
-use super::answer;
+ghost use Rattle.calls.specs.Calls.{writeRefusal, Inside};
+ghost use Rattle.sending.specs.Sending.{metadataRows};
 use super::exchange::append_payload;
-use super::has_room;
-use super::stage_refusal;
+use calls::METADATA;
+use calls::answer;
+use calls::find_own;
+use calls::has_room;
+use calls::in_reply;
+use calls::stage_refusal;
 use conversation::Answer;
 use conversation::Record;
-use schemes::list::find;
-use schemes::list::has_id;
-use schemes::offer::gather;
 use schemes::set::bit_of;
 use schemes::set::with_bit;
-
-// Whether a scheme stands in the reply.
-fn in_reply(r: Record, id: [u8; 16]) -> bool
-    requires { ⌜ r .count ≤ 16 ⌝ }
-    ensures { λ a. ⌜ a ≡ mem id (replied r) ⌝ }
-{
-    let list = r.list;
-    let s = gather(list, r.count, r.common & !r.marks);
-    let octets = s.octets;
-    has_id(&octets, s.count as usize, &id)
-}
+use vector::TokenPlace;
 
 // 15: whether metadata of a scheme may be written.
 fn metadata_allowed(r: Record, id: [u8; 16]) -> bool
-    requires { ⌜ r .count ≤ 16 ⌝ }
+    requires { ⌜ Inside r ⌝ }
     ensures { λ a. ⌜ a ≡ metadataAllowed r id ⌝ }
 {
-    let list = r.list;
-    let place = find(&list, r.count, &id);
+    let place = find_own(r, &id);
     if bit_of(r.told, place as u32) {
         return false;
     }
     if r.acceptor {
-        return in_reply(r, id);
+        return in_reply(r, &id);
     }
     place < r.count
 }
 
 fn metadata_refusal(r: Record, id: [u8; 16], n: usize, len: usize) -> u32
-    ensures { λ a. ⌜ a ≡ metadataRefusal r id n len ⌝ }
+    ensures { λ a. ⌜ a ≡ writeRefusal r METADATA (metadataRows r id n) (64 + n) len ⌝ }
 {
     let stage = stage_refusal(r, METADATA);
     if stage != 0 {
@@ -71,12 +59,11 @@ pub fn write_metadata(r: Record, transcript: &mut [u8], id: [u8; 16], value: &[u
 {
     let n = metadata_refusal(r, id, value.len(), transcript.len());
     if n != 0 {
-        return answer(n, r);
+        return answer(n, TokenPlace(0), r);
     }
-    let list = r.list;
-    let place = find(&list, r.count, &id);
+    let place = find_own(r, &id);
     let told = with_bit(r.told, place as u32);
     let mut next = append_payload(r, transcript, METADATA, id, value);
     next.told = told;
-    answer(0, next)
+    answer(0, TokenPlace(0), next)
 }

@@ -3,13 +3,12 @@ ghost use mathlib.Core.Path.{_≡_};
 ghost use Prim.Native.Nat.{_+_, _≤_, _<_};
 ghost use Rattle.conversation.specs.State.{schemeAt};
 ghost use Rattle.conversation.specs.Writing.{schemeNow, firstOfReply, schemeAllowed};
-ghost use Rattle.sending.specs.Refusals.{namedRefusal};
-ghost use Rattle.sending.specs.Ready.{Bounded};
-use super::has_room;
-use super::stage_refusal;
+ghost use Rattle.calls.specs.Calls.{writeRefusal, Inside};
+ghost use Rattle.sending.specs.Sending.{namedRows};
+use calls::has_room;
+use calls::stage_refusal;
 use conversation::Record;
 use conversation::turns::writing_token;
-use octets::same_id;
 use schemes::choosing::choose_own;
 use schemes::list::id_of;
 
@@ -27,27 +26,21 @@ fn scheme_now(r: Record) -> usize
     r.chosen
 }
 
-// Whether the AP_REQUEST's scheme stands first in the reply.
+// Whether the AP_REQUEST's scheme stands first in the reply. The own schemes are different, so their places say it.
 fn first_of_reply(r: Record) -> bool
-    requires { ⌜ Bounded r ⌝ }
+    requires { ⌜ Inside r ⌝ }
     ensures { λ a. ⌜ a ≡ firstOfReply r ⌝ }
 {
-    if r.count <= r.asked {
-        return false;
-    }
     let left = choose_own(r.common, r.marks);
     if left.left == 0 {
         return false;
     }
-    let list = r.list;
-    let asked = id_of(list, r.asked as u32);
-    let first = id_of(list, left.place);
-    same_id(&asked, &first)
+    left.place as usize == r.asked
 }
 
 // 15, where the scheme follows from the rule.
 fn scheme_allowed(r: Record) -> bool
-    requires { ⌜ Bounded r ⌝ }
+    requires { ⌜ Inside r ⌝ }
     ensures { λ a. ⌜ a ≡ schemeAllowed r ⌝ }
 {
     let token = writing_token(r.acceptor, r.stage);
@@ -69,7 +62,7 @@ pub(crate) fn scheme_id(r: Record) -> [u8; 16]
 
 // The first refusal of a message of n octets behind its header, or 0.
 pub(crate) fn named_refusal(r: Record, kind: u8, header: usize, n: usize, len: usize) -> u32
-    ensures { λ a. ⌜ a ≡ namedRefusal r kind (header + n) len ⌝ }
+    ensures { λ a. ⌜ a ≡ writeRefusal r kind (namedRows r) (header + n) len ⌝ }
 {
     let stage = stage_refusal(r, kind);
     if stage != 0 {

@@ -1,21 +1,20 @@
 // VERIFY.
 ghost use mathlib.Core.Path.{_≡_};
-ghost use Prim.Native.Nat.{_+_};
-ghost use lib.ListN.{length};
 ghost use Rattle.encode.specs.Encode.{ofVerify};
 ghost use Rattle.conversation.specs.Turns.{VERIFY};
 ghost use Rattle.conversation.specs.Outcomes.{Outcome};
 ghost use Rattle.conversation.specs.Writing.{writingVerify};
-ghost use Rattle.sending.specs.Ready.{Ready, Appended};
-use super::VERIFY;
-use super::after_message;
-use super::answer;
-use super::heading_of;
+ghost use Rattle.calls.specs.Calls.{Ready, Appended};
 use super::scheme::named_refusal;
 use super::scheme::scheme_id;
+use calls::VERIFY;
+use calls::answer;
+use calls::next::after_message;
+use calls::next::heading_of;
 use conversation::Answer;
 use conversation::Record;
-use encode::verify::write;
+use encode_verify::write;
+use vector::TokenPlace;
 
 // A VERIFY at the transcript's end.
 fn append_verify(
@@ -25,7 +24,7 @@ fn append_verify(
     checksum: i32,
     value: &[u8],
 ) -> Record
-    requires { ⌜ Ready r (now transcript) (80 + length (now value)) ⌝ }
+    requires { ⌜ Ready r (now transcript) VERIFY (ofVerify (record { scheme = id; type = checksum; value = now value })) ⌝ }
     ensures { λ a. ⌜ Appended r (now (transcript .entry)) VERIFY (ofVerify (record { scheme = id; type = checksum; value = now (value .entry) })) (now (transcript .exit)) a ⌝ }
 {
     let heading = heading_of(r, VERIFY);
@@ -40,10 +39,10 @@ pub fn write_verify(r: Record, transcript: &mut [u8], checksum: i32, value: &[u8
 {
     let n = named_refusal(r, VERIFY, 80, value.len(), transcript.len());
     if n != 0 {
-        return answer(n, r);
+        return answer(n, TokenPlace(0), r);
     }
     let id = scheme_id(r);
     let mut next = append_verify(r, transcript, id, checksum, value);
     next.verified = true;
-    answer(0, next)
+    answer(0, TokenPlace(0), next)
 }

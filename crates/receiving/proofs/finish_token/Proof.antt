@@ -16,14 +16,11 @@ refuse-halted-requires c κs = search needs
 returns : tie.Need-returns
 returns c = search finishes
 
-room-of-requires : tie.Need-room-of-requires
-room-of-requires c κs = search needs
+has-room-requires : tie.Need-has-room-requires
+has-room-requires c κs = search needs
 
-add-if1 : tie.Need-add-if1
-add-if1 c = search needs
-
-refuse-requires : tie.Need-refuse-requires
-refuse-requires c κs = search needs
+answer-requires : tie.Need-answer-requires
+answer-requires c κs = search needs
 
 returns-2 : tie.Need-returns-2
 returns-2 c = search finishes
@@ -45,9 +42,8 @@ finish-token-spec =
     enum-told
     refuse-halted-requires
     returns
-    room-of-requires
-    add-if1
-    refuse-requires
+    has-room-requires
+    answer-requires
     returns-2
     accept-requires
     same-length

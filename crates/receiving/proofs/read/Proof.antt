@@ -7,8 +7,8 @@ use Rattle.receiving.proofs.read.Tie as tie
 refusal-before-requires : tie.Need-refusal-before-requires
 refusal-before-requires c κs = search needs
 
-refuse-requires : tie.Need-refuse-requires
-refuse-requires c κs = search needs
+answer-requires : tie.Need-answer-requires
+answer-requires c κs = search needs
 
 returns : tie.Need-returns
 returns c = search calls
@@ -30,7 +30,7 @@ read-spec =
     tie.close
     (tie.spec
     refusal-before-requires
-    refuse-requires
+    answer-requires
     returns
     judge-token-requires
     finish-token-requires

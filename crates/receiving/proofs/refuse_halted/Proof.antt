@@ -7,14 +7,14 @@ use Rattle.receiving.proofs.refuse_halted.Tie as tie
 enum-known-j : tie.Need-enum-known-j
 enum-known-j c = search needs
 
-refuse-requires : tie.Need-refuse-requires
-refuse-requires c κs = search needs
+answer-requires : tie.Need-answer-requires
+answer-requires c κs = search needs
 
 enum-told : tie.Need-enum-told
 enum-told c = search needs
 
-refuse-requires-2 : tie.Need-refuse-requires-2
-refuse-requires-2 c κs = search needs
+answer-requires-2 : tie.Need-answer-requires-2
+answer-requires-2 c κs = search needs
 
 returns : tie.Need-returns
 returns c = search finishes
@@ -24,4 +24,4 @@ returns-2 c = search finishes
 
 pub refuse-halted-spec : {M : Type 1} → statement M
 refuse-halted-spec =
-    tie.close (tie.spec enum-known-j refuse-requires enum-told refuse-requires-2 returns returns-2)
+    tie.close (tie.spec enum-known-j answer-requires enum-told answer-requires-2 returns returns-2)

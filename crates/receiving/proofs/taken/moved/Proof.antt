@@ -1,6 +1,6 @@
 -- Assumes nothing.
 use native.Mathlib.Omega.{arith}
-use Rattle.receiving.proofs.Takes.{token-small, takes}
+use Rattle.receiving.proofs.Takes.{token-small}
 use borrow.Author.Needs.{needs}
 use Rattle.receiving.proofs.taken.moved.Statement.{statement}
 use Rattle.receiving.proofs.taken.moved.Tie as tie
@@ -21,7 +21,7 @@ add-next-3 : tie.Need-add-next-3
 add-next-3 c = search needs
 
 returns : tie.Need-returns
-returns c = search takes
+returns c = rw (c .before .before .before .reading-token .ensures, c .before .before .conversation-of .ensures)
 
 pub moved-spec : {M : Type 1} → statement M
 moved-spec =

@@ -1,12 +1,12 @@
 -- Assumes nothing.
-use Prim.Native.Nat.{ℕ}
 use mathlib.Core.Path.{_≡_}
 use lib.ListN.{length}
-use borrow.Author.Needs.{needs, length-unmapped}
+use borrow.Author.Needs.{needs}
 use mir.Syntax.{w32}
 use mir.Val.{SFits}
 use mir.Facts.{toZ-ofZ}
-use Rattle.sending.proofs.Appends.{appends-alert}
+use Rattle.calls.proofs.Sizes.{sized}
+use Rattle.calls.proofs.Writes.{appends}
 use Rattle.sending.proofs.alert.append_alert.Statement.{statement}
 use Rattle.sending.proofs.alert.append_alert.Tie as tie
 
@@ -25,12 +25,11 @@ same-length c = search needs
 returns : tie.Need-returns
 returns c =
     let s = c .before .before .before .before .before .before .before in
-    let id : length (s .args .r .conversation) ≡ 16 = length-unmapped ℕ (s .args .r .conversation) 16 (s .good .0 .1 .1 .1 .1 .1 .1 .1 .0 .1 .0 .1) in
-    let whole : length (s .args .id) ≡ 16 = search needs in
+    let full : length (s .args .id) ≡ 16 = search needs in
     let w = c .before .before .before .write in
     let h = c .before .before .before .before .before .heading-of in
     let f : SFits w32 (s .args .code) = search needs in
-    appends-alert _ id _ _ (w .result) _ _ _ _ _ whole (toZ-ofZ f) (s .pre) (h .ensures) (w .ensures) (c .after-message .ensures)
+    appends _ (sized _ _ (s .good .0)) _ _ _ full (s .pre) _ (h .ensures) (w .result) _ _ (w .ensures) (rw (toZ-ofZ f)) _ (c .after-message .ensures)
 
 pub append-alert-spec : {M : Type 1} → statement M
 append-alert-spec =

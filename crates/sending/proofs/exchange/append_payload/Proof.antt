@@ -1,9 +1,9 @@
 -- Assumes nothing.
-use Prim.Native.Nat.{ℕ}
-use mathlib.Core.Path.{_≡_}
+use mathlib.Core.Path.{_≡_, refl}
 use lib.ListN.{length}
-use borrow.Author.Needs.{needs, length-unmapped}
-use Rattle.sending.proofs.Appends.{appends-payload}
+use borrow.Author.Needs.{needs}
+use Rattle.calls.proofs.Sizes.{sized}
+use Rattle.calls.proofs.Writes.{appends}
 use Rattle.sending.proofs.exchange.append_payload.Statement.{statement}
 use Rattle.sending.proofs.exchange.append_payload.Tie as tie
 
@@ -25,11 +25,10 @@ same-length c = search needs
 returns : tie.Need-returns
 returns c =
     let s = c .before .before .before .before .before .before .before .before in
-    let id : length (s .args .r .conversation) ≡ 16 = length-unmapped ℕ (s .args .r .conversation) 16 (s .good .0 .1 .1 .1 .1 .1 .1 .1 .0 .1 .0 .1) in
-    let whole : length (s .args .id) ≡ 16 = search needs in
+    let full : length (s .args .id) ≡ 16 = search needs in
     let w = c .before .before .before .write in
     let h = c .before .before .before .before .before .heading-of in
-    appends-payload _ id _ _ (w .result) _ _ _ _ _ whole (s .pre) (h .ensures) (w .ensures) (c .after-message .ensures)
+    appends _ (sized _ _ (s .good .0)) _ _ _ full (s .pre) _ (h .ensures) (w .result) _ _ (w .ensures) refl _ (c .after-message .ensures)
 
 pub append-payload-spec : {M : Type 1} → statement M
 append-payload-spec =

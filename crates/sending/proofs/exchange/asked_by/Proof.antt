@@ -8,10 +8,10 @@ writing-token-requires : tie.Need-writing-token-requires
 writing-token-requires c κs = search needs
 
 returns : tie.Need-returns
-returns c = search (needs, nows)
+returns c = search nows
 
 returns-2 : tie.Need-returns-2
-returns-2 c = search (needs, nows)
+returns-2 c = search nows
 
 pub asked-by-spec : {M : Type 1} → statement M
 asked-by-spec = tie.close (tie.spec writing-token-requires returns returns-2)

@@ -1,10 +1,7 @@
 -- Assumes nothing.
-use Prim.Native.Nat.{ℕ}
-use mathlib.Core.Path.{_≡_}
-use lib.ListN.{length}
-use borrow.Author.Needs.{needs, length-unmapped}
-use Prim.Native.Nat.{_+_}
-use Rattle.sending.proofs.Named.{named-ready, exchange-ready, exchange-refused, exchange-written}
+use borrow.Author.Needs.{needs}
+use Rattle.calls.proofs.Sizes.{sized}
+use Rattle.sending.proofs.Named.{exchange-refused, named-inside, exchange-ready, exchange-written}
 use Rattle.sending.proofs.exchange.write_exchange.Statement.{statement}
 use Rattle.sending.proofs.exchange.write_exchange.Tie as tie
 
@@ -17,16 +14,10 @@ answer-requires c κs = search needs
 returns : tie.Need-returns
 returns c =
     let s = c .before .before .before .before .before in
-    let list : length (s .args .r .list) ≡ 256 = search needs in
-    let id : length (s .args .r .conversation) ≡ 16 = length-unmapped ℕ (s .args .r .conversation) 16 (s .good .0 .1 .1 .1 .1 .1 .1 .1 .0 .1 .0 .1) in
-    exchange-refused (s .args .r) list (s .args .transcript .now) (s .args .value .now) _ (c .before .before .named-refusal .ensures) id _ (c .before .if1 .taken) (c .answer .ensures)
+    exchange-refused _ (sized _ _ (s .good .0)) _ _ _ (c .before .before .named-refusal .ensures) (c .before .if1 .taken) _ (c .answer .ensures)
 
 scheme-id-requires : tie.Need-scheme-id-requires
-scheme-id-requires c κs =
-    let s = c .before .before .before .before in
-    let list : length (s .args .r .list) ≡ 256 = search needs in
-    let q = named-ready (s .args .r) list (s .args .transcript .now) 3 (64 + length (s .args .value .now)) _ (c .before .named-refusal .ensures) (c .if1 .left) in
-    (q .ready .few, q .inside)
+scheme-id-requires c κs = named-inside _ _ _ _ _ (c .before .named-refusal .ensures) (c .if1 .left)
 
 asked-by-requires : tie.Need-asked-by-requires
 asked-by-requires c κs = search needs
@@ -34,8 +25,7 @@ asked-by-requires c κs = search needs
 append-payload-requires : tie.Need-append-payload-requires
 append-payload-requires c κs =
     let s = c .before .before .before .before .before .before .before in
-    let list : length (s .args .r .list) ≡ 256 = search needs in
-    exchange-ready (s .args .r) list (s .args .transcript .now) (s .args .value .now) _ (c .before .before .before .before .named-refusal .ensures) (c .before .before .before .if1 .left)
+    exchange-ready _ (sized _ _ (s .good .0)) _ _ _ (c .before .before .before .before .named-refusal .ensures) (c .before .before .before .if1 .left) _
 
 answer-requires-2 : tie.Need-answer-requires-2
 answer-requires-2 c κs = search needs
@@ -46,9 +36,7 @@ same-length c = search needs
 returns-2 : tie.Need-returns-2
 returns-2 c =
     let s = c .before .before .before .before .before .before .before .before .before .before .before in
-    let list : length (s .args .r .list) ≡ 256 = search needs in
-    let id : length (s .args .r .conversation) ≡ 16 = length-unmapped ℕ (s .args .r .conversation) 16 (s .good .0 .1 .1 .1 .1 .1 .1 .1 .0 .1 .0 .1) in
-    exchange-written (s .args .r) list (s .args .transcript .now) (s .args .value .now) _ (c .before .before .before .before .before .before .before .before .named-refusal .ensures) id _ (c .before .before .before .before .before .before .before .if1 .left) _ _ _ (c .before .before .before .before .before .before .scheme-id .ensures) _ (c .before .before .before .before .before .asked-by .ensures) (c .before .before .before .append-payload .ensures) (c .answer2 .ensures)
+    exchange-written _ (sized _ _ (s .good .0)) _ _ _ (c .before .before .before .before .before .before .before .before .named-refusal .ensures) (c .before .before .before .before .before .before .before .if1 .left) _ (c .before .before .before .before .before .before .scheme-id .ensures) _ (c .before .before .before .before .before .asked-by .ensures) _ _ (c .before .before .before .append-payload .ensures) _ (c .answer2 .ensures)
 
 pub write-exchange-spec : {M : Type 1} → statement M
 write-exchange-spec =

@@ -1,11 +1,11 @@
 -- Assumes nothing.
-use Prim.Native.Nat.{ℕ}
+use Prim.Native.Nat.{_<_}
 use mathlib.Core.Path.{_≡_}
-use lib.ListN.{length}
-use borrow.Author.Needs.{needs, length-unmapped}
-use Prim.Native.Nat.{_<_, _≤_, _*_}
 use native.Mathlib.Omega.{arith}
-use Rattle.sending.proofs.Tellings.{metadata-few, metadata-ready, metadata-place, metadata-refused, metadata-written}
+use lib.ListN.{length}
+use borrow.Author.Needs.{needs}
+use Rattle.calls.proofs.Sizes.{sized}
+use Rattle.sending.proofs.Tellings.{metadata-refused, metadata-inside, metadata-ready, metadata-place, metadata-written}
 use Rattle.sending.proofs.metadata.write_metadata.Statement.{statement}
 use Rattle.sending.proofs.metadata.write_metadata.Tie as tie
 
@@ -18,42 +18,33 @@ answer-requires c κs = search needs
 returns : tie.Need-returns
 returns c =
     let s = c .before .before .before .before .before in
-    let list : length (s .args .r .list) ≡ 256 = search needs in
-    let id : length (s .args .r .conversation) ≡ 16 = length-unmapped ℕ (s .args .r .conversation) 16 (s .good .0 .1 .1 .1 .1 .1 .1 .1 .0 .1 .0 .1) in
-    let whole : length (s .args .t3) ≡ 16 = search needs in
-    metadata-refused (s .args .r) list (s .args .transcript .now) (s .args .t3) (s .args .value .now) _ (c .before .before .metadata-refusal .ensures) id whole _ (c .before .if1 .taken) (c .answer .ensures)
+    let full : length (s .args .t3) ≡ 16 = search needs in
+    metadata-refused _ (sized _ _ (s .good .0)) _ _ full _ _ (c .before .before .metadata-refusal .ensures) (c .before .if1 .taken) _ (c .answer .ensures)
 
-slice-aggregate-find : tie.Need-slice-aggregate-find
-slice-aggregate-find c = search needs
+slice-aggregate-find-own : tie.Need-slice-aggregate-find-own
+slice-aggregate-find-own c = search needs
 
-slice-aggregate-find-2 : tie.Need-slice-aggregate-find-2
-slice-aggregate-find-2 c = search needs
-
-find-requires : tie.Need-find-requires
-find-requires c κs =
-    let s = c .before .before .before .before .before .before .before in
-    let list : length (s .args .r .list) ≡ 256 = search needs in
-    let h : s .args .r .count ≤ 16 = metadata-few (s .args .r) list (s .args .transcript .now) (s .args .t3) (s .args .value .now) _ (c .before .before .before .before .metadata-refusal .ensures) (c .before .before .before .if1 .left) in
-    omega arith
+find-own-requires : tie.Need-find-own-requires
+find-own-requires c κs =
+    let s = c .before .before .before .before .before in
+    metadata-inside _ (s .args .t3) (length (s .args .value .now)) _ _ (c .before .before .metadata-refusal .ensures) (c .before .if1 .left)
 
 cast-with-bit : tie.Need-cast-with-bit
 cast-with-bit c =
-    let s = c .before .before .before .before .before .before .before .before in
-    let list : length (s .args .r .list) ≡ 256 = search needs in
-    let h : c .find .result < 16 = metadata-place (s .args .r) list (s .args .transcript .now) (s .args .t3) (s .args .value .now) _ (c .before .before .before .before .before .metadata-refusal .ensures) (c .before .before .before .before .if1 .left) _ (c .find .ensures) in
+    let s = c .before .before .before .before .before .before in
+    let h : c .find-own .result < 16 = metadata-place _ (s .args .t3) (length (s .args .value .now)) _ _ (c .before .before .before .metadata-refusal .ensures) (c .before .before .if1 .left) _ (c .find-own .ensures) in
     omega arith
 
 with-bit-requires : tie.Need-with-bit-requires
 with-bit-requires c κs =
-    let s = c .before .before .before .before .before .before .before .before in
-    let list : length (s .args .r .list) ≡ 256 = search needs in
-    metadata-place (s .args .r) list (s .args .transcript .now) (s .args .t3) (s .args .value .now) _ (c .before .before .before .before .before .metadata-refusal .ensures) (c .before .before .before .before .if1 .left) _ (c .find .ensures)
+    let s = c .before .before .before .before .before .before in
+    metadata-place _ (s .args .t3) (length (s .args .value .now)) _ _ (c .before .before .before .metadata-refusal .ensures) (c .before .before .if1 .left) _ (c .find-own .ensures)
 
 append-payload-requires : tie.Need-append-payload-requires
 append-payload-requires c κs =
-    let s = c .before .before .before .before .before .before .before .before .before .before in
-    let list : length (s .args .r .list) ≡ 256 = search needs in
-    metadata-ready (s .args .r) list (s .args .transcript .now) (s .args .t3) (s .args .value .now) _ (c .before .before .before .before .before .before .before .metadata-refusal .ensures) (c .before .before .before .before .before .before .if1 .left)
+    let s = c .before .before .before .before .before .before .before .before in
+    let full : length (s .args .t3) ≡ 16 = search needs in
+    metadata-ready _ (sized _ _ (s .good .0)) _ _ full _ _ (c .before .before .before .before .before .metadata-refusal .ensures) (c .before .before .before .before .if1 .left)
 
 answer-requires-2 : tie.Need-answer-requires-2
 answer-requires-2 c κs = search needs
@@ -63,11 +54,9 @@ same-length c = search needs
 
 returns-2 : tie.Need-returns-2
 returns-2 c =
-    let s = c .before .before .before .before .before .before .before .before .before .before .before .before .before .before in
-    let list : length (s .args .r .list) ≡ 256 = length-unmapped ℕ (s .args .r .list) 256 (s .good .0 .1 .1 .1 .1 .1 .0 .1 .0 .1) in
-    let id : length (s .args .r .conversation) ≡ 16 = length-unmapped ℕ (s .args .r .conversation) 16 (s .good .0 .1 .1 .1 .1 .1 .1 .1 .0 .1 .0 .1) in
-    let whole : length (s .args .t3) ≡ 16 = search needs in
-    metadata-written (s .args .r) list (s .args .transcript .now) (s .args .t3) (s .args .value .now) _ (c .before .before .before .before .before .before .before .before .before .before .before .metadata-refusal .ensures) id whole _ (c .before .before .before .before .before .before .before .before .before .before .if1 .left) _ (c .before .before .before .before .before .before .find .ensures) _ (c .before .before .before .before .before .with-bit .ensures) _ _ (c .before .before .before .append-payload .ensures) (c .answer2 .ensures)
+    let s = c .before .before .before .before .before .before .before .before .before .before .before .before in
+    let full : length (s .args .t3) ≡ 16 = search needs in
+    metadata-written _ (sized _ _ (s .good .0)) _ _ full _ _ (c .before .before .before .before .before .before .before .before .before .metadata-refusal .ensures) (c .before .before .before .before .before .before .before .before .if1 .left) _ (c .before .before .before .before .before .before .find-own .ensures) _ (c .before .before .before .before .before .with-bit .ensures) _ _ (c .before .before .before .append-payload .ensures) _ (c .answer2 .ensures)
 
 pub write-metadata-spec : {M : Type 1} → statement M
 write-metadata-spec =
@@ -76,9 +65,8 @@ write-metadata-spec =
     metadata-refusal-requires
     answer-requires
     returns
-    slice-aggregate-find
-    slice-aggregate-find-2
-    find-requires
+    slice-aggregate-find-own
+    find-own-requires
     cast-with-bit
     with-bit-requires
     append-payload-requires

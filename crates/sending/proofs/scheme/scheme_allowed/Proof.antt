@@ -11,13 +11,13 @@ first-of-reply-requires : tie.Need-first-of-reply-requires
 first-of-reply-requires c κs = search needs
 
 returns : tie.Need-returns
-returns c = search (needs, nows)
+returns c = search nows
 
 scheme-now-requires : tie.Need-scheme-now-requires
 scheme-now-requires c κs = search needs
 
 returns-2 : tie.Need-returns-2
-returns-2 c = search (needs, nows)
+returns-2 c = search nows
 
 pub scheme-allowed-spec : {M : Type 1} → statement M
 scheme-allowed-spec =

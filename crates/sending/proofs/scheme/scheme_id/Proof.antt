@@ -14,7 +14,7 @@ id-of-requires : tie.Need-id-of-requires
 id-of-requires c κs = search needs
 
 returns : tie.Need-returns
-returns c = search (needs, scheme-named)
+returns c = search scheme-named
 
 pub scheme-id-spec : {M : Type 1} → statement M
 scheme-id-spec = tie.close (tie.spec scheme-now-requires cast-id-of id-of-requires returns)

@@ -1,13 +1,10 @@
 -- Assumes nothing.
-use Prim.Native.Nat.{ℕ}
-use mathlib.Core.Path.{_≡_}
-use lib.ListN.{length}
-use borrow.Author.Needs.{needs, length-unmapped}
-use Prim.Native.Nat.{_+_}
+use borrow.Author.Needs.{needs}
+use Rattle.calls.proofs.Sizes.{sized}
 use mir.Syntax.{w32}
 use mir.Val.{SFits}
 use mir.Facts.{toZ-ofZ}
-use Rattle.sending.proofs.Named.{named-ready, verify-refused, verify-written}
+use Rattle.sending.proofs.Named.{verify-refused, named-inside, verify-ready, verify-written}
 use Rattle.sending.proofs.verify.write_verify.Statement.{statement}
 use Rattle.sending.proofs.verify.write_verify.Tie as tie
 
@@ -20,23 +17,15 @@ answer-requires c κs = search needs
 returns : tie.Need-returns
 returns c =
     let s = c .before .before .before .before .before in
-    let list : length (s .args .r .list) ≡ 256 = search needs in
-    let id : length (s .args .r .conversation) ≡ 16 = length-unmapped ℕ (s .args .r .conversation) 16 (s .good .0 .1 .1 .1 .1 .1 .1 .1 .0 .1 .0 .1) in
-    verify-refused (s .args .r) list (s .args .transcript .now) (s .args .value .now) _ (c .before .before .named-refusal .ensures) id _ _ (c .before .if1 .taken) (c .answer .ensures)
+    verify-refused _ (sized _ _ (s .good .0)) _ _ _ _ (c .before .before .named-refusal .ensures) (c .before .if1 .taken) _ (c .answer .ensures)
 
 scheme-id-requires : tie.Need-scheme-id-requires
-scheme-id-requires c κs =
-    let s = c .before .before .before .before in
-    let list : length (s .args .r .list) ≡ 256 = search needs in
-    let q = named-ready (s .args .r) list (s .args .transcript .now) 4 (80 + length (s .args .value .now)) _ (c .before .named-refusal .ensures) (c .if1 .left) in
-    (q .ready .few, q .inside)
+scheme-id-requires c κs = named-inside _ _ _ _ _ (c .before .named-refusal .ensures) (c .if1 .left)
 
 append-verify-requires : tie.Need-append-verify-requires
 append-verify-requires c κs =
     let s = c .before .before .before .before .before .before in
-    let list : length (s .args .r .list) ≡ 256 = search needs in
-    let q = named-ready (s .args .r) list (s .args .transcript .now) 4 (80 + length (s .args .value .now)) _ (c .before .before .before .named-refusal .ensures) (c .before .before .if1 .left) in
-    q .ready
+    verify-ready _ (sized _ _ (s .good .0)) _ _ _ _ (c .before .before .before .named-refusal .ensures) (c .before .before .if1 .left) _
 
 answer-requires-2 : tie.Need-answer-requires-2
 answer-requires-2 c κs = search needs
@@ -47,10 +36,8 @@ same-length c = search needs
 returns-2 : tie.Need-returns-2
 returns-2 c =
     let s = c .before .before .before .before .before .before .before .before .before .before in
-    let list : length (s .args .r .list) ≡ 256 = search needs in
-    let id : length (s .args .r .conversation) ≡ 16 = length-unmapped ℕ (s .args .r .conversation) 16 (s .good .0 .1 .1 .1 .1 .1 .1 .1 .0 .1 .0 .1) in
     let f : SFits w32 (s .args .checksum) = search needs in
-    verify-written (s .args .r) list (s .args .transcript .now) (s .args .value .now) _ (c .before .before .before .before .before .before .before .named-refusal .ensures) id _ _ (c .before .before .before .before .before .before .if1 .left) _ _ _ (c .before .before .before .before .before .scheme-id .ensures) _ (toZ-ofZ f) (c .before .before .before .append-verify .ensures) (c .answer2 .ensures)
+    verify-written _ (sized _ _ (s .good .0)) _ _ _ _ (c .before .before .before .before .before .before .before .named-refusal .ensures) (c .before .before .before .before .before .before .if1 .left) _ (c .before .before .before .before .before .scheme-id .ensures) _ (toZ-ofZ f) _ _ (c .before .before .before .append-verify .ensures) _ (c .answer2 .ensures)
 
 pub write-verify-spec : {M : Type 1} → statement M
 write-verify-spec =

@@ -1,0 +1,13 @@
+-- Assumes nothing.
+use Rattle.admitting.proofs.Admits.{carryings}
+use Rattle.admitting.proofs.admit.chosen_behind.Statement.{statement}
+use Rattle.admitting.proofs.admit.chosen_behind.Tie as tie
+
+returns : tie.Need-returns
+returns c = search carryings
+
+returns-2 : tie.Need-returns-2
+returns-2 c = search carryings
+
+pub chosen-behind-spec : {M : Type 1} → statement M
+chosen-behind-spec = tie.close (tie.spec returns returns-2)

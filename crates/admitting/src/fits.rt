@@ -1,0 +1,76 @@
+// 15: which scheme a message may name.
+ghost use mathlib.Core.Path.{_≡_};
+ghost use lib.ListN.{length};
+ghost use Rattle.conversation.specs.Admitting.{isAt, exchangeFits, furtherFits, schemeFits};
+ghost use Rattle.calls.specs.Calls.{Inside};
+use super::named::listed;
+use super::named::metadata_fits;
+use super::named::starts_with;
+use calls::METADATA;
+use calls::NEGO;
+use calls::in_reply;
+use conversation::Record;
+use conversation::Scan;
+use conversation::turns::reading_token;
+use octets::same_id;
+use schemes::list::id_of;
+
+// Whether the own scheme at place k is this one.
+fn is_at(r: Record, k: usize, id: &[u8]) -> bool
+    requires { ⌜ Inside r ⌝ }
+    ensures { λ a. ⌜ a ≡ isAt r k (now (id .entry)) ⌝ }
+{
+    if r.count <= k {
+        return false;
+    }
+    let list = r.list;
+    let own = id_of(list, k as u32);
+    same_id(id, &own)
+}
+
+// 15 for an exchange of the first token or of the reply.
+fn exchange_fits(r: Record, t: &[u8], id: &[u8]) -> bool
+    requires { ⌜ Inside r ⌝ }
+    ensures { λ a. ⌜ a ≡ exchangeFits r (now (t .entry)) (now (id .entry)) ⌝ }
+{
+    if starts_with(listed(t), id) {} else {
+        return false;
+    }
+    let token = reading_token(r.acceptor, r.stage);
+    if token == 0 {
+        return true;
+    }
+    is_at(r, r.asked, id)
+}
+
+// 15 for a message of a later token, where `chosen` is the own place of the chosen scheme, or none.
+fn further_fits(r: Record, chosen: usize, id: &[u8]) -> bool
+    requires { ⌜ Inside r ⌝ }
+    ensures { λ a. ⌜ a ≡ furtherFits r chosen (now (id .entry)) ⌝ }
+{
+    if chosen == Record::NONE {
+        if r.acceptor {
+            return in_reply(r, id);
+        }
+        return false;
+    }
+    is_at(r, chosen, id)
+}
+
+// 15 by the kind.
+pub(crate) fn scheme_fits(r: Record, t: &[u8], c: Scan, kind: u8, id: &[u8]) -> bool
+    requires { ⌜ Inside r × (length (now id) ≡ 16) ⌝ }
+    ensures { λ a. ⌜ a ≡ schemeFits r (now (t .entry)) c kind (now (id .entry)) ⌝ }
+{
+    if kind == NEGO {
+        return true;
+    }
+    if kind == METADATA {
+        return metadata_fits(t, c.named, id);
+    }
+    let token = reading_token(r.acceptor, r.stage);
+    if token == 2 {
+        return further_fits(r, c.chosen, id);
+    }
+    exchange_fits(r, t, id)
+}

@@ -1,0 +1,71 @@
+// The next message of an end: its common fields, and the record behind it.
+ghost use mathlib.Core.Path.{_≡_};
+ghost use mathlib.Core.Bool.{cond};
+ghost use Prim.Native.Nat.{_+_, _≤_};
+ghost use Rattle.conversation.specs.Turns.{typeOf, placeAfter};
+ghost use Rattle.conversation.specs.Outcomes.{wrote, unchanged};
+ghost use Rattle.conversation.specs.Writing.{heading};
+use super::EXCHANGE;
+use super::METADATA;
+use super::NEGO;
+use super::VERIFY;
+use conversation::Record;
+use conversation::turns::own_place;
+use encode::Heading;
+use message::Kind;
+
+// One of two type numbers, by the role.
+fn by_role(acceptor: bool, of_acceptor: u32, of_initiator: u32) -> u32
+    ensures { λ a. ⌜ a ≡ cond acceptor «of_acceptor» «of_initiator» ⌝ }
+{
+    if acceptor { of_acceptor } else { of_initiator }
+}
+
+// The type number of a kind.
+fn type_of(acceptor: bool, kind: u8) -> u32
+    ensures { λ a. ⌜ a ≡ typeOf acceptor kind ⌝ }
+{
+    if kind == NEGO {
+        return by_role(acceptor, Kind::ACCEPTOR_NEGO, Kind::INITIATOR_NEGO);
+    }
+    if kind == METADATA {
+        return by_role(
+            acceptor,
+            Kind::ACCEPTOR_META_DATA,
+            Kind::INITIATOR_META_DATA,
+        );
+    }
+    if kind == EXCHANGE {
+        return by_role(acceptor, Kind::CHALLENGE, Kind::AP_REQUEST);
+    }
+    if kind == VERIFY {
+        return Kind::VERIFY;
+    }
+    Kind::ALERT
+}
+
+// The common fields of the next message.
+pub fn heading_of(r: Record, kind: u8) -> Heading
+    ensures { λ a. ⌜ a ≡ heading r kind ⌝ }
+{
+    let conversation = r.conversation;
+    Heading {
+        kind: Kind(type_of(r.acceptor, kind)),
+        sequence: r.sequence,
+        conversation,
+    }
+}
+
+// The record behind a written message. It asks that sequence number and used length can rise: a record's limits and 16 have shown it before a message
+// is written.
+pub fn after_message(r: Record, kind: u8, size: usize) -> Record
+    requires { ⌜ (r .sequence ≤ 1023) × (r .used + size ≤ 65535) ⌝ }
+    ensures { λ a. ⌜ a ≡ wrote r (placeAfter r kind) size (unchanged r) ⌝ }
+{
+    let position = own_place(r, kind);
+    let mut next = r;
+    next.position = position;
+    next.sequence = r.sequence + 1;
+    next.used = r.used + size;
+    next
+}

@@ -1,0 +1,4 @@
+pub mod Openings
+pub mod Offering
+pub mod Replying
+pub mod Choices
