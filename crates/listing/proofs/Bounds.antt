@@ -12,10 +12,10 @@ use Rattle.message.specs.Layout.{headOf, Shape, nego, exchange, verify, alert, 
 use Rattle.token.specs.Token.{Placed, Reading, Accepted, Refused, tokenOf}
 use Rattle.token.specs.Split.{Message, Numbered, join, placedFrom}
 use Rattle.token.proofs.Splits.{accepted-splits}
-use Rattle.listing.specs.Lines.{messageLines}
-use Rattle.listing.specs.Listing.{endLine, allLines, readingLines, tokenLines, linesOf}
-use Rattle.listing.specs.Steps.{Fit, shapeIn, linesIn}
-use Rattle.listing.proofs.Contents.{nego-count, alert-count}
+use Rattle.lines.specs.Lines.{messageLines, endLine}
+use Rattle.listing.specs.Listing.{allLines, readingLines, tokenLines, linesOf}
+use Rattle.lines.specs.Fit.{Fit, shapeIn, linesIn}
+use Rattle.lines.proofs.Contents.{nego-count, alert-count}
 use Rattle.listing.proofs.Stepping.{length-texts}
 use Rattle.listing.proofs.Turns.{message-fit}
 

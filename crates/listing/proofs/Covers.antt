@@ -14,8 +14,9 @@ use Rattle.put.specs.Put.{joined, put}
 use Rattle.put.proofs.Laws.{joined-append}
 use Rattle.text.proofs.Pieces.{which, take-put}
 use Rattle.listing.specs.declared.Shown.{Shown}
-use Rattle.listing.specs.Listing.{tokenLines, texts, linesOf, fitting, range, Outcome, outcome, windowOf}
-use Rattle.listing.proofs.Shorts.{short-at, shorts-token}
+use Rattle.listing.specs.Listing.{tokenLines, linesOf, fitting, range, Outcome, outcome, windowOf}
+use Rattle.lines.proofs.Shorts.{short-at}
+use Rattle.listing.proofs.Shorts.{shorts-token}
 use Rattle.listing.proofs.Stepping.{getD-texts}
 use Rattle.listing.proofs.Windows.{fitting-room}
 

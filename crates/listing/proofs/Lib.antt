@@ -1,6 +1,3 @@
-pub mod Chained
-pub mod Lists
-pub mod Contents
 pub mod Shorts
 pub mod Stepping
 pub mod Turns

@@ -16,9 +16,10 @@ use Rattle.text.specs.Text.{Text, text, appended, written}
 use Rattle.put.proofs.Laws.{length-put}
 use Rattle.text.proofs.Pieces.{which}
 use Rattle.listing.specs.declared.Progress.{Progress}
-use Rattle.listing.specs.Lines.{messageLines}
+use Rattle.lines.specs.Lines.{messageLines}
 use Rattle.listing.specs.Listing.{texts}
-use Rattle.listing.specs.Steps.{shapeIn, linesIn, LineIs, State, within, state, placed, stepFrom, step, steps, Going}
+use Rattle.lines.specs.Fit.{shapeIn, linesIn, LineIs}
+use Rattle.listing.specs.Steps.{State, within, state, placed, stepFrom, step, steps, Going}
 
 -- the answers of `put_line`
 module _ (p : Progress) (d l : List ℕ) where

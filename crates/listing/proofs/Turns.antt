@@ -15,9 +15,10 @@ use Rattle.token.specs.Token.{Placed, tokenOf}
 use Rattle.token.specs.Split.{Message, Numbered, join, placedFrom}
 use Rattle.token.proofs.Cuts.{passes-parts, passes-sized}
 use Rattle.token.proofs.Splits.{message-head, message-length, accepted-splits}
-use Rattle.listing.specs.Lines.{messageLines}
+use Rattle.lines.specs.Lines.{messageLines}
 use Rattle.listing.specs.Listing.{allLines, texts}
-use Rattle.listing.specs.Steps.{Fit, shapeIn, messagesOf, Accepts, State, steps}
+use Rattle.lines.specs.Fit.{Fit, shapeIn}
+use Rattle.listing.specs.Steps.{messagesOf, Accepts, State, steps}
 use Rattle.listing.proofs.Stepping.{texts-append, steps-append}
 
 -- the messages that are left of a token, numbered on from q

@@ -20,7 +20,8 @@ use Rattle.put.proofs.Laws.{length-put, put-more, put-none}
 use Rattle.text.proofs.Pieces.{which}
 use Rattle.listing.specs.declared.Progress.{Progress}
 use Rattle.listing.specs.declared.Shown.{Shown}
-use Rattle.listing.specs.Listing.{endLine, refusedLine, allLines, readingLines, texts, linesOf, fitting, range, Outcome, outcome, windowOf}
+use Rattle.lines.specs.Lines.{endLine, refusedLine}
+use Rattle.listing.specs.Listing.{allLines, readingLines, texts, linesOf, fitting, range, Outcome, outcome, windowOf}
 use Rattle.listing.specs.Steps.{messagesOf, Accepts, State, within, state, startOf, stepFrom, step, steps, Going}
 use Rattle.listing.proofs.Stepping.{steps-done, steps-append, texts-append}
 

@@ -1,12 +1,13 @@
 -- The listing of a token, and windows of its lines. Document 01, "The listing".
 --
 -- Glossary
---   endLine n k, refusedLine n p   the last line of an accepted token, and the only one of a refused one
---   tokenLines s                   the lines of the token s; linesOf s: their texts
---   fitting r ls                   as many whole lines from the front of ls as fit into r octets
---   range a b ls                   the lines of ls with the places from a up to, not including, b
---   Outcome                        what a window answers, with the buffer as it leaves it; outcome gives it for the answer of src/
---   windowOf s a b d               the outcome of the window from line a up to line b of s, in the buffer d
+--   allLines ms       the lines of messages
+--   readingLines      the lines of a reading; tokenLines s: those of the token s; linesOf s: their texts; texts: those of any lines
+--   fitting r ls      as many whole lines from the front of ls as fit into r octets
+--   range a b ls      the lines of ls with the places from a up to, not including, b
+--   Outcome           what a window answers, with the buffer as it leaves it; outcome gives it for the answer of src/
+--   shownIn d ls      the outcome of a window that shows ls in the buffer d
+--   windowOf s a b d  the outcome of the window from line a up to line b of s, in the buffer d
 use Prim.Native.Nat.{ℕ, _-_}
 use mathlib.Core.Bool.{cond}
 use mathlib.Core.List.{List, [], _∷_, _++_}
@@ -14,17 +15,8 @@ use lib.ListN.{length, take, drop}
 use lib.Dec.{leb}
 use Rattle.token.specs.Token.{Placed, Reading, Accepted, Refused, tokenOf}
 use Rattle.put.specs.Put.{joined, put}
-use Rattle.text.specs.Text.{quoted, decimal, decimal64}
+use Rattle.lines.specs.Lines.{messageLines, endLine, refusedLine}
 use Rattle.listing.specs.declared.Shown.{Shown}
-use Rattle.listing.specs.Lines.{messageLines}
-
--- "the last line has the number of messages and the file's length"
-unfoldable pub endLine : ℕ → ℕ → List (List ℕ)
-endLine n octets = quoted "end messages=" ∷ decimal n ∷ quoted " octets=" ∷ decimal64 octets ∷ quoted "\n" ∷ []
-
--- "On refusal the only line is `refused N at=P`"
-unfoldable pub refusedLine : ℕ → ℕ → List (List ℕ)
-refusedLine n place = quoted "refused " ∷ decimal n ∷ quoted " at=" ∷ decimal64 place ∷ quoted "\n" ∷ []
 
 unfoldable pub allLines : List Placed → List (List (List ℕ))
 allLines [] = []

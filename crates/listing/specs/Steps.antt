@@ -1,37 +1,22 @@
 -- What the private functions promise. No contract of a public function speaks of these.
 --
 -- Glossary
---   Fit h m         m, of the layout h, has room for its header, and its vectors keep their rule: as each message of an accepted token
---   shapeIn m       the layout of the message m; linesIn h m: the lines of the content of m, of the layout h
---   messagesOf r    the messages of a reading that accepts, none of one that refuses
---   LineIs r d l    the first r octets of d are the line l
---   State           a window at work: its progress and its buffer; within and state build one
---   startOf a b     the progress of a window that is to show the lines from a up to b
---   step t l        the state after one more line l of the listing; steps ls t: after the lines ls
---   Going p n       the progress p stays inside a buffer of n octets and the numbers of 64 bits
+--   messagesOf r  the messages of a reading that accepts, none of one that refuses
+--   Accepts s     the structural reading accepts s
+--   State         a window at work: its progress and its buffer; within and state build one
+--   startOf a b   the progress of a window that is to show the lines from a up to b
+--   placed        the state after a line that is asked for: behind those before it, or the end where it does not fit
+--   step t l      the state after one more line l of the listing; stepFrom: the same, by its fields; steps ls t: after the lines ls
+--   Going p n     the progress p stays inside a buffer of n octets and the numbers of 64 bits
 use Prim.Native.Nat.{ℕ, _+_, _-_, _<_, _≤_}
 use mathlib.Core.Path.{_≡_}
-use mathlib.Core.Bool.{true, cond}
+use mathlib.Core.Bool.{cond}
 use mathlib.Core.List.{List, [], _∷_}
-use lib.ListN.{length, take}
+use lib.ListN.{length}
 use lib.Dec.{leb, eqb}
-use Rattle.io.specs.Counts.{Counts}
-use Rattle.message.specs.Layout.{Shape, headOf, shapeOf, headerOf, contentOf, vectorsOf}
-use Rattle.message.specs.Check.{allKeepRule}
 use Rattle.token.specs.Token.{Placed, Reading, Accepted, Refused, tokenOf}
-use Rattle.put.specs.Put.{joined, put}
+use Rattle.put.specs.Put.{put}
 use Rattle.listing.specs.declared.Progress.{Progress}
-use Rattle.listing.specs.Lines.{contentLines}
-
-pub record Fit (shape : Shape) (m : List ℕ) : Type 0 where
-  pub room : headerOf shape ≤ length m
-  pub rule : allKeepRule (headerOf shape) (length m) (vectorsOf (contentOf shape m)) ≡ true
-
-abbrev pub shapeIn : List ℕ → Shape
-shapeIn m = shapeOf (headOf m .kind)
-
-abbrev pub linesIn : Shape → List ℕ → List (List (List ℕ))
-linesIn shape m = contentLines m (contentOf shape m)
 
 abbrev pub messagesOf : Reading → List Placed
 messagesOf (Accepted ms) = ms
@@ -40,10 +25,6 @@ messagesOf (Refused n place) = []
 -- the structural reading accepts s
 abbrev pub Accepts : List ℕ → Type 0
 Accepts s = tokenOf s ≡ Accepted (messagesOf (tokenOf s))
-
-pub record LineIs (r : ℕ) (d : List ℕ) (l : List (List ℕ)) : Type 0 where
-  pub counts : Counts r d
-  pub is : take r d ≡ joined l
 
 pub record State : Type 0 where
   pub progress : Progress

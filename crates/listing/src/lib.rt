@@ -5,9 +5,14 @@ ghost use mathlib.Core.List.{[]};
 ghost use lib.ListN.{length, drop, getD};
 ghost use Rattle.token.specs.Token.{tokenOf};
 ghost use Rattle.put.specs.Put.{joined};
-ghost use Rattle.listing.specs.Lines.{messageLines};
-ghost use Rattle.listing.specs.Listing.{endLine, refusedLine, allLines, texts, outcome, windowOf};
-ghost use Rattle.listing.specs.Steps.{Fit, shapeIn, messagesOf, Accepts, LineIs, within, startOf, step, steps, Going};
+ghost use Rattle.lines.specs.Lines.{messageLines, endLine, refusedLine};
+ghost use Rattle.listing.specs.Listing.{allLines, texts, outcome, windowOf};
+ghost use Rattle.lines.specs.Fit.{Fit, shapeIn};
+ghost use Rattle.listing.specs.Steps.{messagesOf, Accepts, within, startOf, step, steps, Going};
+use lines::count;
+use lines::end_text;
+use lines::message_text;
+use lines::refused_text;
 use octets::le_u32;
 use text::append;
 use token::Answer;
@@ -15,9 +20,6 @@ use token::read_token;
 use vector::MessageOffset;
 use vector::TokenPlace;
 use vector::in_token;
-
-mod content;
-mod line;
 
 // How many lines a window shows, and in how many octets.
 pub struct Shown {
@@ -66,26 +68,6 @@ fn put_line(p: Progress, d: &mut [u8], text: &[u8]) -> Progress
     }
 }
 
-// Each of the three kinds of line in an array of 128 octets, which has room for every line.
-fn message_text(out: &mut [u8; 128], place: TokenPlace, m: &[u8], index: usize) -> usize
-    requires { ⌜ Fit (shapeIn (now m)) (now m) ⌝ }
-    ensures { λ r. ⌜ LineIs r (now (out .exit)) (getD (messageLines (place .0) (now (m .entry))) index []) ⌝ }
-{
-    content::line_at(out, place, m, index)
-}
-
-fn end_text(out: &mut [u8; 128], n: u32, octets: usize) -> usize
-    ensures { λ r. ⌜ LineIs r (now (out .exit)) (endLine n octets) ⌝ }
-{
-    line::end(out, n, octets)
-}
-
-fn refused_text(out: &mut [u8; 128], n: u32, place: TokenPlace) -> usize
-    ensures { λ r. ⌜ LineIs r (now (out .exit)) (refusedLine n (place .0)) ⌝ }
-{
-    line::refused(out, n, place)
-}
-
 // The line of the message m with an index.
 fn show_line(p: Progress, d: &mut [u8], place: TokenPlace, m: &[u8], index: usize) -> Progress
     requires { ⌜ Fit (shapeIn (now m)) (now m) ⌝ }
@@ -123,7 +105,7 @@ fn show_lines(p: Progress, d: &mut [u8], place: TokenPlace, m: &[u8], first: usi
     requires { ⌜ Going p (length (now d)) ⌝ }
     ensures { λ r. ⌜ within r (now (d .exit)) ≡ steps (drop first (texts (messageLines (place .0) (now (m .entry))))) (within p (now (d .entry))) ⌝ }
 {
-    let count = content::count(m);
+    let count = count(m);
     let mut q = p;
     let mut index = first;
     while index < count {
@@ -145,7 +127,7 @@ fn show_message(p: Progress, d: &mut [u8], place: TokenPlace, m: &[u8]) -> Progr
     if p.left == 0 {
         return p;
     }
-    let count = content::count(m);
+    let count = count(m);
     if count <= p.skip {
         return Progress {
             skip: p.skip - count,

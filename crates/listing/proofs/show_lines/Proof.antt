@@ -3,7 +3,7 @@ use borrow.Author.Needs.{needs}
 use Prim.Native.Nat.{_-_}
 use mathlib.Core.Path.{_≡_, refl}
 use lib.ListN.{length, drop}
-use Rattle.listing.specs.Lines.{messageLines}
+use Rattle.lines.specs.Lines.{messageLines}
 use Rattle.listing.specs.Listing.{texts}
 use Rattle.listing.specs.Steps.{within, steps, Going}
 use Rattle.listing.proofs.Stepping.{lines, stepped-going}

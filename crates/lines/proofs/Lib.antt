@@ -1,0 +1,4 @@
+pub mod Chained
+pub mod Lists
+pub mod Contents
+pub mod Shorts

@@ -1,0 +1,50 @@
+-- Assumes nothing.
+use Rattle.lines.proofs.Chained.{alert-text}
+use borrow.Author.Needs.{needs}
+use Rattle.lines.proofs.line.alert.Statement.{statement}
+use Rattle.lines.proofs.line.alert.Tie as tie
+
+slice-aggregate-wide-field : tie.Need-slice-aggregate-wide-field
+slice-aggregate-wide-field c = search needs
+
+wide-field-requires : tie.Need-wide-field-requires
+wide-field-requires c κs = search needs
+
+slice-aggregate-field : tie.Need-slice-aggregate-field
+slice-aggregate-field c = search needs
+
+le-u32-requires : tie.Need-le-u32-requires
+le-u32-requires c κs = search needs
+
+field-requires : tie.Need-field-requires
+field-requires c κs = search needs
+
+add-octet-vector : tie.Need-add-octet-vector
+add-octet-vector c = search needs
+
+octet-vector-requires : tie.Need-octet-vector-requires
+octet-vector-requires c κs = search needs
+
+span-requires : tie.Need-span-requires
+span-requires c κs = search needs
+
+same-length : tie.Need-same-length
+same-length c = search needs
+
+returns : tie.Need-returns
+returns c = search alert-text
+
+pub alert-spec : {M : Type 1} → statement M
+alert-spec =
+    tie.close
+    (tie.spec
+    slice-aggregate-wide-field
+    wide-field-requires
+    slice-aggregate-field
+    le-u32-requires
+    field-requires
+    add-octet-vector
+    octet-vector-requires
+    span-requires
+    same-length
+    returns)

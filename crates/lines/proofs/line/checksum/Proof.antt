@@ -1,0 +1,42 @@
+-- Assumes nothing.
+use Rattle.lines.proofs.Chained.{checksum-text}
+use borrow.Author.Needs.{needs}
+use Rattle.lines.proofs.line.checksum.Statement.{statement}
+use Rattle.lines.proofs.line.checksum.Tie as tie
+
+slice-aggregate-append : tie.Need-slice-aggregate-append
+slice-aggregate-append c = search needs
+
+append-requires : tie.Need-append-requires
+append-requires c κs = search needs
+
+le-u32-requires : tie.Need-le-u32-requires
+le-u32-requires c κs = search needs
+
+signed-requires : tie.Need-signed-requires
+signed-requires c κs = search needs
+
+octet-vector-requires : tie.Need-octet-vector-requires
+octet-vector-requires c κs = search needs
+
+span-requires : tie.Need-span-requires
+span-requires c κs = search needs
+
+same-length : tie.Need-same-length
+same-length c = search needs
+
+returns : tie.Need-returns
+returns c = search checksum-text
+
+pub checksum-spec : {M : Type 1} → statement M
+checksum-spec =
+    tie.close
+    (tie.spec
+    slice-aggregate-append
+    append-requires
+    le-u32-requires
+    signed-requires
+    octet-vector-requires
+    span-requires
+    same-length
+    returns)
