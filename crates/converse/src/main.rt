@@ -1,7 +1,6 @@
 // Plays the script in the file whose name stands on standard input's first line.
 use bytes::scan::find;
 use libc::STDIN_FILENO;
-use libc::STDOUT_FILENO;
 use playing::play::play_file;
 
 fn main() {
@@ -9,5 +8,5 @@ fn main() {
     let n = io::read_full(STDIN_FILENO, &mut input);
     let end = find(&input, 0, n, b'\n');
     let mut buf = [0u8; 262144];
-    play_file(STDOUT_FILENO, &input[..end], &mut buf);
+    play_file(&input[..end], &mut buf);
 }

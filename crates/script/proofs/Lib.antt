@@ -1,4 +1,3 @@
-pub mod Parts
-pub mod Words
-pub mod Numerals
-pub mod Decoding
+pub mod Places
+pub mod Ids
+pub mod Lines

@@ -1,31 +1,14 @@
 // The fields of a line. A field starts at a place of the line and ends before the next space or at the line's end; a place behind the line's end starts
 // none.
 ghost use mathlib.Core.Path.{_≡_};
-ghost use Prim.Native.Nat.{min};
-ghost use lib.ListN.{length};
-ghost use Rattle.octets.specs.Octets.{sameOctets};
-ghost use Rattle.script.specs.Script.{part as Script·part, endOf, FieldEnd, Behind};
+ghost use Rattle.script.specs.Grammar.{fieldsOf, first, only, placeOf, past as Grammar·past};
+ghost use Rattle.script.specs.Steps.{fieldsFrom, FieldEnd, Behind};
 use bytes::scan::find;
-
-fn least(a: usize, b: usize) -> usize
-    ensures { λ r. ⌜ r ≡ min a b ⌝ }
-{
-    if a < b { a } else { b }
-}
-
-// The octets of s from `from` on, up to `end`: as many as there are.
-pub fn part(s: &[u8], from: usize, end: usize) -> &[u8]
-    ensures { λ r. ⌜ now r ≡ Script·part (now (s .entry)) from end ⌝ }
-{
-    let to = least(end, s.len());
-    if to < from {
-        return &s[..0];
-    }
-    &s[from..to]
-}
+use fields::is_word;
+use fields::part;
 
 // Where the field that starts at `from` ends.
-pub fn field_end(s: &[u8], from: usize) -> usize
+fn field_end(s: &[u8], from: usize) -> usize
     ensures { λ r. ⌜ FieldEnd (now (s .entry)) from r ⌝ }
 {
     if s.len() < from {
@@ -35,40 +18,53 @@ pub fn field_end(s: &[u8], from: usize) -> usize
 }
 
 // The field that starts at `from`.
-pub fn field(s: &[u8], from: usize) -> &[u8]
-    ensures { λ r. ⌜ now r ≡ Script·part (now (s .entry)) from (endOf (now (s .entry)) from) ⌝ }
+pub(crate) fn field(s: &[u8], from: usize) -> &[u8]
+    ensures { λ r. ⌜ now r ≡ first (fieldsFrom (now (s .entry)) from) ⌝ }
 {
     let end = field_end(s, from);
     part(s, from, end)
 }
 
+// The field that starts at `from`, where it is the line's last; else nothing.
+pub(crate) fn last(s: &[u8], from: usize) -> &[u8]
+    ensures { λ r. ⌜ now r ≡ only (fieldsFrom (now (s .entry)) from) ⌝ }
+{
+    let end = field_end(s, from);
+    if end < s.len() {
+        return &s[..0];
+    }
+    part(s, from, end)
+}
+
 // Where the next field starts: behind the line's end, where there is none.
-pub fn behind(s: &[u8], from: usize) -> usize
+pub(crate) fn behind(s: &[u8], from: usize) -> usize
     ensures { λ r. ⌜ Behind (now (s .entry)) from r ⌝ }
 {
     field_end(s, from) + 1
 }
 
-// The rest of the line: its last field, where no space stands in it.
-pub fn rest(s: &[u8], from: usize) -> &[u8]
-    ensures { λ r. ⌜ now r ≡ Script·part (now (s .entry)) from (length (now (s .entry))) ⌝ }
+// Where the next field starts, once the one at `from` is read or not.
+pub(crate) fn past(s: &[u8], from: usize, read: bool) -> usize
+    ensures { λ r. ⌜ fieldsFrom (now (s .entry)) r ≡ Grammar·past read (fieldsFrom (now (s .entry)) from) ⌝ }
 {
-    part(s, from, s.len())
+    if read {
+        return behind(s, from);
+    }
+    from
 }
 
-// Whether s is a word.
-pub fn is_word(s: &[u8], word: &[u8]) -> bool
-    ensures { λ r. ⌜ r ≡ sameOctets (now (s .entry)) (now (word .entry)) ⌝ }
+// The place of a word among the fields of a text, from 1; 0 where it is none of them.
+pub(crate) fn place(word: &[u8], text: &[u8]) -> usize
+    ensures { λ r. ⌜ r ≡ placeOf (now (word .entry)) (fieldsOf (now (text .entry))) ⌝ }
 {
-    if s.len() != word.len() {
-        return false;
-    }
-    let mut i = 0;
-    while i < s.len() {
-        if s[i] != word[i] {
-            return false;
+    let mut at = 0;
+    let mut k = 1;
+    while at <= text.len() {
+        if is_word(word, field(text, at)) {
+            return k;
         }
-        i += 1;
+        at = behind(text, at);
+        k += 1;
     }
-    true
+    0
 }

@@ -1,4 +1,240 @@
-// The text of a script: a line's fields, and the numbers, octets and ids in them.
-pub mod field;
-pub mod hex;
-pub mod number;
+// The text of a script: a line read into one command.
+ghost use mathlib.Core.Path.{_≡_};
+ghost use lib.ListN.{length};
+ghost use Rattle.script.specs.Steps.{fieldsFrom};
+ghost use Rattle.script.specs.Grammar.{verbs, ends, placeOf, verbOf, hasId, lineAs, badLine, rested, named, numbered, called, commandOf};
+use field::behind;
+use field::field as field_at;
+use field::past;
+use field::place;
+use fields::hex::Decoded;
+use fields::is_word;
+use fields::number::Number;
+use fields::octet;
+use value::id_in;
+use value::number_in;
+use value::rest_in;
+
+mod field;
+mod value;
+
+// What a line says: the call, its end, its number (ROOM, MARKS, TYPE or CODE), its id (CONVERSATION or ID), and how many octets it is given (RANDOM, OCTETS,
+// or the ids of a list). A field that a call does not have is zero.
+pub struct Command {
+    pub verb: usize,
+    pub acceptor: bool,
+    pub number: u32,
+    pub id: [u8; 16],
+    pub length: usize,
+}
+
+impl Command {
+    pub const BAD: usize = 0;
+
+    pub const OFFER: usize = 1;
+
+    pub const REPLY: usize = 2;
+
+    pub const METADATA: usize = 3;
+
+    pub const EXCHANGE: usize = 4;
+
+    pub const VERIFY: usize = 5;
+
+    pub const ALERT: usize = 6;
+
+    pub const READ: usize = 7;
+
+    pub const CHOOSE: usize = 8;
+
+    // `read` with nothing behind it
+    pub const TURN: usize = 9;
+
+    pub const OPEN: usize = 10;
+}
+
+// The fields behind a verb.
+const NONE: u8 = 0;
+
+const ROOM: u8 = 1;
+
+const MARKS: u8 = 2;
+
+const CODE: u8 = 3;
+
+const ID: u8 = 4;
+
+const CONVERSATION: u8 = 5;
+
+const RANDOM: u8 = 6;
+
+const OCTETS: u8 = 7;
+
+const IDS: u8 = 8;
+
+// By verb: which number a call has, which id, and what the rest of its line is.
+const NUMBERS: [u8; 11] = [
+    NONE,
+    NONE,
+    MARKS,
+    NONE,
+    NONE,
+    CODE,
+    CODE,
+    NONE,
+    MARKS,
+    NONE,
+    ROOM,
+];
+
+const NAMES: [u8; 11] = [
+    NONE,
+    NONE,
+    NONE,
+    ID,
+    NONE,
+    NONE,
+    NONE,
+    NONE,
+    NONE,
+    NONE,
+    CONVERSATION,
+];
+
+const RESTS: [u8; 11] = [
+    NONE,
+    RANDOM,
+    RANDOM,
+    OCTETS,
+    OCTETS,
+    OCTETS,
+    NONE,
+    OCTETS,
+    NONE,
+    NONE,
+    IDS,
+];
+
+// A line that is none of the calls.
+fn bad() -> Command
+    ensures { λ r. ⌜ r ≡ badLine .command ⌝ }
+{
+    Command {
+        verb: 0,
+        acceptor: false,
+        number: 0,
+        id: [0u8; 16],
+        length: 0,
+    }
+}
+
+// A command with the rest of its line.
+fn with_rest(c: Command, line: &[u8], from: usize, lent: &mut [u8]) -> Command
+    ensures { λ r. ⌜ lineAs r (now (lent .exit)) ≡ rested (c .verb) (c .acceptor) (c .number) (c .id) (fieldsFrom (now (line .entry)) from) (length (now (lent .entry))) ⌝ }
+{
+    let rest = rest_in(line, from, octet(&RESTS, c.verb), lent);
+    let Decoded::Octets(length) = rest else {
+        return bad();
+    };
+    let mut next = c;
+    next.length = length;
+    next
+}
+
+// Whether a call at an end has an id: an initiator alone has a CONVERSATION.
+fn has_id(kind: u8, acceptor: bool) -> bool
+    ensures { λ r. ⌜ r ≡ hasId kind acceptor ⌝ }
+{
+    if kind == ID {
+        return true;
+    }
+    if kind == CONVERSATION {
+        return !acceptor;
+    }
+    false
+}
+
+// A command with its id, and what is behind it.
+fn with_id(c: Command, line: &[u8], from: usize, lent: &mut [u8]) -> Command
+    ensures { λ r. ⌜ lineAs r (now (lent .exit)) ≡ named (c .verb) (c .acceptor) (c .number) (fieldsFrom (now (line .entry)) from) (length (now (lent .entry))) ⌝ }
+{
+    let some = has_id(octet(&NAMES, c.verb), c.acceptor);
+    let id = id_in(line, from, some);
+    if id.ok {} else {
+        return bad();
+    }
+    let mut next = c;
+    let octets = id.octets;
+    next.id = octets;
+    with_rest(next, line, past(line, from, some), lent)
+}
+
+// A command of a verb with its number, and what is behind it.
+fn with_number(verb: usize, acceptor: bool, line: &[u8], from: usize, lent: &mut [u8]) -> Command
+    ensures { λ r. ⌜ lineAs r (now (lent .exit)) ≡ numbered verb acceptor (fieldsFrom (now (line .entry)) from) (length (now (lent .entry))) ⌝ }
+{
+    let kind = octet(&NUMBERS, verb);
+    let n = number_in(line, from, kind);
+    let Number::Is(number) = n else {
+        return bad();
+    };
+    let c = Command {
+        verb,
+        acceptor,
+        number,
+        id: [0u8; 16],
+        length: 0,
+    };
+    with_id(c, line, past(line, from, kind != NONE), lent)
+}
+
+// A command of a verb at an end, by their places: 0 is none, and the acceptor is 2.
+fn call(verb: usize, end: usize, line: &[u8], from: usize, lent: &mut [u8]) -> Command
+    ensures { λ r. ⌜ lineAs r (now (lent .exit)) ≡ called verb end (fieldsFrom (now (line .entry)) from) (length (now (lent .entry))) ⌝ }
+{
+    if end == 0 {
+        return bad();
+    }
+    if verb == 0 {
+        return bad();
+    }
+    with_number(verb, end == 2, line, from, lent)
+}
+
+// The verb of a word behind which the fields from `from` on stand.
+fn verb(word: &[u8], line: &[u8], from: usize) -> usize
+    ensures { λ r. ⌜ r ≡ verbOf (placeOf (now (word .entry)) verbs) (fieldsFrom (now (line .entry)) from) ⌝ }
+{
+    let v = place(
+        word,
+        b"offer reply metadata exchange verify alert read choose",
+    );
+    if from <= line.len() {
+        return v;
+    }
+    if v == Command::READ {
+        return Command::TURN;
+    }
+    v
+}
+
+// The place of an end's letter: 1 for the initiator, 2 for the acceptor, 0 for any other word.
+fn end_place(word: &[u8]) -> usize
+    ensures { λ r. ⌜ r ≡ placeOf (now (word .entry)) ends ⌝ }
+{
+    place(word, b"i a")
+}
+
+// The command of a line. Its octets are put at the front of the lent slice; what then stands behind them, or in the slice of a bad line, is left open.
+pub fn read_command(line: &[u8], lent: &mut [u8]) -> Command
+    ensures { λ r. ⌜ lineAs r (now (lent .exit)) ≡ commandOf (now (line .entry)) (length (now (lent .entry))) ⌝ }
+{
+    let word = field_at(line, 0);
+    let at = behind(line, 0);
+    let next = field_at(line, at);
+    let from = behind(line, at);
+    if is_word(word, b"open") {
+        return call(Command::OPEN, end_place(next), line, from, lent);
+    }
+    call(verb(next, line, from), end_place(word), line, from, lent)
+}

@@ -10,7 +10,7 @@ fn show(name: &[u8]) {
     io::write_all(STDOUT_FILENO, name);
     io::write_all(STDOUT_FILENO, b"\n");
     let mut buf = [0u8; 262144];
-    play_file(STDOUT_FILENO, name, &mut buf);
+    play_file(name, &mut buf);
 }
 
 fn main() {

@@ -7,16 +7,16 @@ use Rattle.playing.proofs.play.play_lines.Statement.{statement}
 use Rattle.playing.proofs.play.play_lines.Tie as tie
 
 abbrev Inv-loop : tie.InvT-loop
-Inv-loop fd script ours₀ theirs₀ lent₀ ends₀ from₀ ours theirs lent ends from = (length ours ≡ length ours₀) × (length theirs ≡ length theirs₀) × (length lent ≡ length lent₀)
+Inv-loop script both₀ lent₀ ends₀ from₀ both lent ends from = (length both ≡ length both₀) × (length lent ≡ length lent₀)
 
 abbrev μ-loop : tie.MeasureT-loop
-μ-loop fd script ours₀ theirs₀ lent₀ ends₀ from₀ ours theirs lent ends from = length script - from
+μ-loop script both₀ lent₀ ends₀ from₀ both lent ends from = length script - from
 
 both-closed-requires : tie.Need-both-closed-requires Inv-loop μ-loop
 both-closed-requires c κs = search needs
 
 loop-holds : tie.Need-loop-holds Inv-loop μ-loop
-loop-holds c = (refl, refl, refl)
+loop-holds c = (refl, refl)
 
 find-requires : tie.Need-find-requires Inv-loop μ-loop
 find-requires c κs = search needs
@@ -34,7 +34,7 @@ loop-less : tie.Need-loop-less Inv-loop μ-loop
 loop-less c = search needs
 
 loop-again : tie.Need-loop-again Inv-loop μ-loop
-loop-again c = (search needs, search needs, search needs)
+loop-again c = (search needs, search needs)
 
 used-requires : tie.Need-used-requires Inv-loop μ-loop
 used-requires c κs = search needs
@@ -45,14 +45,14 @@ used-requires-2 c κs = search needs
 used-requires-3 : tie.Need-used-requires-3 Inv-loop μ-loop
 used-requires-3 c κs = search needs
 
+print-requires : tie.Need-print-requires Inv-loop μ-loop
+print-requires c κs = search needs
+
 same-length : tie.Need-same-length Inv-loop μ-loop
 same-length c = search needs
 
 same-length-2 : tie.Need-same-length-2 Inv-loop μ-loop
 same-length-2 c = search needs
-
-same-length-3 : tie.Need-same-length-3 Inv-loop μ-loop
-same-length-3 c = search needs
 
 returns : tie.Need-returns Inv-loop μ-loop
 returns c = search needs
@@ -74,7 +74,7 @@ play-lines-spec =
     used-requires
     used-requires-2
     used-requires-3
+    print-requires
     same-length
     same-length-2
-    same-length-3
     returns)

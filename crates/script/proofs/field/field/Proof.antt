@@ -1,4 +1,5 @@
 -- Assumes nothing.
+use Rattle.script.proofs.Places.{parts}
 use borrow.Author.Needs.{needs}
 use Rattle.script.proofs.field.field.Statement.{statement}
 use Rattle.script.proofs.field.field.Tie as tie
@@ -10,7 +11,7 @@ part-requires : tie.Need-part-requires
 part-requires c κs = search needs
 
 returns : tie.Need-returns
-returns c = cc
+returns c = search parts
 
 pub field-spec : {M : Type 1} → statement M
 field-spec = tie.close (tie.spec field-end-requires part-requires returns)

@@ -1,6 +1,6 @@
 -- Assumes nothing.
 use native.Mathlib.Omega.{arith}
-use Rattle.script.proofs.Parts.{parts}
+use Rattle.script.proofs.Places.{parts}
 use borrow.Author.Needs.{needs}
 use Rattle.script.proofs.field.field_end.Statement.{statement}
 use Rattle.script.proofs.field.field_end.Tie as tie

@@ -1,0 +1,90 @@
+-- Each call by its verb, in the words of the code: x is the outcome.
+-- Assumes nothing.
+use Prim.Native.Nat.{ℕ, _%_}
+use mathlib.Core.Path.{_≡_, _∙_}
+use mathlib.Core.List.{List, [], append-nil}
+use lib.IntN.{ℤ}
+use lib.ListN.{length, replicate}
+use borrow.Author.Tests.{eq-eqb, ne-eqb}
+use Rattle.octets.specs.Octets.{signed32}
+use Rattle.put.specs.Put.{put, Written}
+use Rattle.conversation.specs.declared.Record.{Record}
+use Rattle.conversation.specs.declared.Answer.{Answer}
+use Rattle.conversation.specs.Outcomes.{Outcome, answered}
+use Rattle.conversation.specs.Writing.{opening, offering, replying, writingMetadata, writingExchange, writingVerify, writingAlert}
+use Rattle.conversation.specs.Reading.{readingToken}
+use Rattle.conversation.specs.Choosing.{choosing}
+use Rattle.script.specs.declared.Command.{Command}
+use Rattle.commands.specs.Commands.{randomIn, kept, negoOf, writerOf, callOf}
+
+module _ (o : List ℕ) where
+  pub random-none : (length o ≡ 32 → ⊥) → replicate 32 0 ≡ randomIn o
+  unfolding randomIn
+  random-none h = rw (ne-eqb _ _ h)
+
+  pub random-put : length o ≡ 32 → (d : List ℕ) (next : ℕ) → Written (replicate 32 0) 0 (length o) o d next → d ≡ randomIn o
+  unfolding randomIn put
+  random-put h d next w = w .holds ∙ rw (eq-eqb _ _ h) (rw h (append-nil o))
+
+pub ruleset randoms = (random-none, random-put)
+
+module _ (c : Command) (r : Record) (d o : List ℕ) (x : Outcome) where
+  pub nego-offer : c .verb ≡ 1 → (v : List ℕ) → v ≡ randomIn o → x ≡ offering r d v → x ≡ negoOf c r d o
+  unfolding negoOf
+  nego-offer h v v-is e = e ∙ rw (eq-eqb _ _ h, v-is)
+
+  module _ (not-offer : c .verb ≡ 1 → ⊥) where
+    pub nego-reply : c .verb ≡ 2 → (m : ℕ) → m ≡ c .number % 65536 → (v : List ℕ) → v ≡ randomIn o → x ≡ replying r d m v → x ≡ negoOf c r d o
+    unfolding negoOf
+    nego-reply h m m-is v v-is e = e ∙ rw (ne-eqb _ _ not-offer, eq-eqb _ _ h, m-is, v-is)
+
+    pub nego-none : (c .verb ≡ 2 → ⊥) → (a : Answer) → a ≡ answered 18 0 r → kept d a ≡ negoOf c r d o
+    unfolding negoOf
+    nego-none h a e = rw (ne-eqb _ _ not-offer, ne-eqb _ _ h, e)
+
+  pub write-metadata : c .verb ≡ 3 → x ≡ writingMetadata r d (c .id) o → x ≡ writerOf c r d o
+  unfolding writerOf
+  write-metadata h e = e ∙ rw (eq-eqb _ _ h)
+
+  module _ (not-metadata : c .verb ≡ 3 → ⊥) where
+    pub write-exchange : c .verb ≡ 4 → x ≡ writingExchange r d o → x ≡ writerOf c r d o
+    unfolding writerOf
+    write-exchange h e = e ∙ rw (ne-eqb _ _ not-metadata, eq-eqb _ _ h)
+
+    module _ (not-exchange : c .verb ≡ 4 → ⊥) where
+      pub write-verify : c .verb ≡ 5 → (z : ℤ) → z ≡ signed32 (c .number) → x ≡ writingVerify r d z o → x ≡ writerOf c r d o
+      unfolding writerOf
+      write-verify h z z-is e = e ∙ rw (ne-eqb _ _ not-metadata, ne-eqb _ _ not-exchange, eq-eqb _ _ h, z-is)
+
+      module _ (not-verify : c .verb ≡ 5 → ⊥) where
+        pub write-alert : c .verb ≡ 6 → (z : ℤ) → z ≡ signed32 (c .number) → x ≡ writingAlert r d z → x ≡ writerOf c r d o
+        unfolding writerOf
+        write-alert h z z-is e = e ∙ rw (ne-eqb _ _ not-metadata, ne-eqb _ _ not-exchange, ne-eqb _ _ not-verify, eq-eqb _ _ h, z-is)
+
+        pub write-nego : (c .verb ≡ 6 → ⊥) → x ≡ negoOf c r d o → x ≡ writerOf c r d o
+        unfolding writerOf
+        write-nego h e = e ∙ rw (ne-eqb _ _ not-metadata, ne-eqb _ _ not-exchange, ne-eqb _ _ not-verify, ne-eqb _ _ h)
+
+  pub call-open : c .verb ≡ 10 → (a : Answer) → a ≡ opening (c .acceptor) o (c .id) → kept d a ≡ callOf c r d o
+  unfolding callOf
+  call-open h a e = rw (eq-eqb _ _ h, e)
+
+  module _ (not-open : c .verb ≡ 10 → ⊥) where
+    pub call-read : c .verb ≡ 7 → x ≡ readingToken r d o → x ≡ callOf c r d o
+    unfolding callOf
+    call-read h e = e ∙ rw (ne-eqb _ _ not-open, eq-eqb _ _ h)
+
+    module _ (not-read : c .verb ≡ 7 → ⊥) where
+      pub call-choose : c .verb ≡ 8 → (m : ℕ) → m ≡ c .number % 65536 → (a : Answer) → a ≡ choosing r [] m .answer → kept d a ≡ callOf c r d o
+      unfolding callOf
+      call-choose h m m-is a e = rw (ne-eqb _ _ not-open, ne-eqb _ _ not-read, eq-eqb _ _ h, e, m-is)
+
+      pub call-write : (c .verb ≡ 8 → ⊥) → x ≡ writerOf c r d o → x ≡ callOf c r d o
+      unfolding callOf
+      call-write h e = e ∙ rw (ne-eqb _ _ not-open, ne-eqb _ _ not-read, ne-eqb _ _ h)
+
+pub ruleset negos = (nego-offer, nego-reply, nego-none)
+
+pub ruleset writers = (write-metadata, write-exchange, write-verify, write-alert, write-nego)
+
+pub ruleset calls = (call-open, call-read, call-choose, call-write)

@@ -1,0 +1,20 @@
+-- Assumes nothing.
+use Rattle.commands.proofs.Dispatch.{randoms}
+use borrow.Author.Needs.{needs}
+use Rattle.commands.proofs.random.Statement.{statement}
+use Rattle.commands.proofs.random.Tie as tie
+
+returns : tie.Need-returns
+returns c = search randoms
+
+slice-aggregate-put-octets : tie.Need-slice-aggregate-put-octets
+slice-aggregate-put-octets c = search needs
+
+put-octets-requires : tie.Need-put-octets-requires
+put-octets-requires c κs = search needs
+
+returns-2 : tie.Need-returns-2
+returns-2 c = search randoms
+
+pub random-spec : {M : Type 1} → statement M
+random-spec = tie.close (tie.spec returns slice-aggregate-put-octets put-octets-requires returns-2)

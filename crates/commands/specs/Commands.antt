@@ -1,0 +1,50 @@
+-- The calls of the library that a script's commands stand for.
+--
+-- Glossary
+--   randomIn o       RANDOM, which is 32 octets; zeros for any other number
+--   kept d a         an answer that leaves the transcript d as it is
+--   negoOf, writerOf the calls that write a NEGO, and all that write
+--   callOf c r d o   the call of the command c with the octets o, at an end with the record r and the transcript d
+use Prim.Native.Nat.{ℕ, _%_}
+use mathlib.Core.Bool.{cond}
+use mathlib.Core.List.{List, []}
+use lib.ListN.{length, replicate}
+use lib.Dec.{eqb}
+use Rattle.octets.specs.Octets.{signed32}
+use Rattle.conversation.specs.declared.Record.{Record}
+use Rattle.conversation.specs.declared.Answer.{Answer}
+use Rattle.conversation.specs.Outcomes.{Outcome, answered}
+use Rattle.conversation.specs.Writing.{opening, offering, replying, writingMetadata, writingExchange, writingVerify, writingAlert}
+use Rattle.conversation.specs.Reading.{readingToken}
+use Rattle.conversation.specs.Choosing.{choosing}
+use Rattle.script.specs.declared.Command.{Command}
+use Rattle.script.specs.Grammar.{OFFER, REPLY, METADATA, EXCHANGE, VERIFY, ALERT, READ, CHOOSE, OPEN}
+
+unfoldable pub randomIn : List ℕ → List ℕ
+randomIn o = cond (eqb (length o) 32) o (replicate 32 0)
+
+abbrev pub kept : List ℕ → Answer → Outcome
+kept d a = record { answer = a; transcript = d }
+
+-- "E offer RANDOM", "E reply MARKS RANDOM"; what is no call is not of this stage (18)
+unfoldable pub negoOf : Command → Record → List ℕ → List ℕ → Outcome
+negoOf c r d o =
+    cond (eqb (c .verb) OFFER) (offering r d (randomIn o))
+    (cond (eqb (c .verb) REPLY) (replying r d (c .number % 65536) (randomIn o)) (kept d (answered 18 0 r)))
+
+-- "E metadata ID OCTETS", "E exchange OCTETS", "E verify TYPE OCTETS", "E alert CODE"; "TYPE and CODE read as two's complement"
+unfoldable pub writerOf : Command → Record → List ℕ → List ℕ → Outcome
+writerOf c r d o =
+    cond (eqb (c .verb) METADATA) (writingMetadata r d (c .id) o)
+    (cond (eqb (c .verb) EXCHANGE) (writingExchange r d o)
+    (cond (eqb (c .verb) VERIFY) (writingVerify r d (signed32 (c .number)) o)
+    (cond (eqb (c .verb) ALERT) (writingAlert r d (signed32 (c .number)))
+    (negoOf c r d o))))
+
+-- "open i ROOM CONVERSATION ID ID ..", "open a ROOM ID ID ..", "E read OCTETS", "E choose MARKS"
+unfoldable pub callOf : Command → Record → List ℕ → List ℕ → Outcome
+callOf c r d o =
+    cond (eqb (c .verb) OPEN) (kept d (opening (c .acceptor) o (c .id)))
+    (cond (eqb (c .verb) READ) (readingToken r d o)
+    (cond (eqb (c .verb) CHOOSE) (kept d (choosing r [] (c .number % 65536) .answer))
+    (writerOf c r d o)))

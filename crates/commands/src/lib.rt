@@ -1,0 +1,90 @@
+// The calls of the library that a script's commands stand for.
+ghost use mathlib.Core.Path.{_≡_};
+ghost use Prim.Native.Nat.{_%_};
+ghost use Rattle.conversation.specs.Outcomes.{Outcome};
+ghost use Rattle.commands.specs.Commands.{randomIn, negoOf, writerOf, callOf};
+use calls::answer;
+use conversation::Answer;
+use conversation::Record;
+use negotiating::choice::choose;
+use negotiating::offer::write_offer;
+use negotiating::opening::open;
+use negotiating::reply::write_reply;
+use octets::to_i32;
+use put::put_octets;
+use receiving::read;
+use script::Command;
+use sending::alert::write_alert;
+use sending::exchange::write_exchange;
+use sending::metadata::write_metadata;
+use sending::verify::write_verify;
+use vector::TokenPlace;
+
+// MARKS as a set of 16 bits: four digits are no more.
+fn bits(marks: u32) -> u16
+    ensures { λ r. ⌜ r ≡ marks % 65536 ⌝ }
+{
+    (marks % 65536) as u16
+}
+
+// RANDOM, which is 32 octets; zeros for any other number.
+fn random(octets: &[u8]) -> [u8; 32]
+    ensures { λ r. ⌜ r ≡ randomIn (now (octets .entry)) ⌝ }
+{
+    let mut value = [0u8; 32];
+    if octets.len() != 32 {
+        return value;
+    }
+    put_octets(&mut value, 0, octets);
+    value
+}
+
+// The writers of a NEGO. What is no call is not of this stage: 18.
+fn write_nego(c: Command, r: Record, transcript: &mut [u8], octets: &[u8]) -> Answer
+    ensures { λ a. ⌜ _≡_ {A = Outcome} (record { answer = a; transcript = now (transcript .exit) }) (negoOf c r (now (transcript .entry)) (now (octets .entry))) ⌝ }
+{
+    if c.verb == Command::OFFER {
+        return write_offer(r, transcript, random(octets));
+    }
+    if c.verb == Command::REPLY {
+        return write_reply(r, transcript, bits(c.number), random(octets));
+    }
+    answer(18, TokenPlace(0), r)
+}
+
+// The writers of all messages.
+fn write(c: Command, r: Record, transcript: &mut [u8], octets: &[u8]) -> Answer
+    ensures { λ a. ⌜ _≡_ {A = Outcome} (record { answer = a; transcript = now (transcript .exit) }) (writerOf c r (now (transcript .entry)) (now (octets .entry))) ⌝ }
+{
+    if c.verb == Command::METADATA {
+        let id = c.id;
+        return write_metadata(r, transcript, id, octets);
+    }
+    if c.verb == Command::EXCHANGE {
+        return write_exchange(r, transcript, octets);
+    }
+    if c.verb == Command::VERIFY {
+        return write_verify(r, transcript, to_i32(c.number), octets);
+    }
+    if c.verb == Command::ALERT {
+        return write_alert(r, transcript, to_i32(c.number));
+    }
+    write_nego(c, r, transcript, octets)
+}
+
+// Makes the call of a command with its octets, at an end with the record r.
+pub fn make(c: Command, r: Record, transcript: &mut [u8], octets: &[u8]) -> Answer
+    ensures { λ a. ⌜ _≡_ {A = Outcome} (record { answer = a; transcript = now (transcript .exit) }) (callOf c r (now (transcript .entry)) (now (octets .entry))) ⌝ }
+{
+    if c.verb == Command::OPEN {
+        let id = c.id;
+        return open(c.acceptor, octets, id);
+    }
+    if c.verb == Command::READ {
+        return read(r, transcript, octets);
+    }
+    if c.verb == Command::CHOOSE {
+        return choose(r, bits(c.number));
+    }
+    write(c, r, transcript, octets)
+}

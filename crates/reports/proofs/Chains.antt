@@ -1,0 +1,68 @@
+-- Each line as the calls that write it, one behind the other, in the words of the code: t is the text before, u the text after.
+-- Assumes nothing.
+use Prim.Native.Nat.{ℕ, suc, _+_, _≤_, _<_}
+use mathlib.Core.Path.{_≡_, sym, ap, _∙_}
+use mathlib.Core.List.{List, [], _∷_, _++_}
+use native.Mathlib.Numerals.{add-one}
+use lib.ListN.{length, drop, getD, drop-of-length-le}
+use lib.Seq.{drop-cons}
+use borrow.Author.Tests.{eq-eqb, ne-eqb}
+use Rattle.text.specs.Text.{quoted, hexOf, idText, Text, written}
+use Rattle.text.proofs.Pieces.{then}
+use Rattle.conversation.specs.declared.Answer.{Answer}
+use Rattle.script.specs.declared.Command.{Command}
+use Rattle.reports.specs.Reports.{digitsOf, wroteText, choiceText, numbersLine, reportOf}
+
+module _ (t a b u : Text) (p x : List ℕ) (first : a ≡ written (p ∷ x ∷ []) t) where
+  pub two-fields : (q y z : List ℕ) → b ≡ written (q ∷ y ∷ []) a → u ≡ written (z ∷ []) b → u ≡ written (p ∷ x ∷ q ∷ y ∷ z ∷ []) t
+  two-fields q y z f g = then t b u _ _ (then t a b _ _ first f) g
+
+  pub field-then : (q : List ℕ) (ps : List (List ℕ)) → b ≡ written (q ∷ []) a → u ≡ written ps b → u ≡ written (p ∷ x ∷ q ∷ ps) t
+  field-then q ps f g = then t b u _ _ (then t a b _ _ first f) g
+
+pub choice-then : (t a b e u : Text) (w i q y z : List ℕ) → a ≡ written (w ∷ []) t → b ≡ written (idText i) a → e ≡ written (q ∷ y ∷ []) b → u ≡ written (z ∷ []) e
+    → u ≡ written (w ∷ (idText i ++ (q ∷ y ∷ z ∷ []))) t
+choice-then t a b e u w i q y z f g h k = then t a u _ _ f (then a b u _ _ g (then b e u _ _ h k))
+
+-- the digits of the octets that are left
+module _ (v : List ℕ) (i : ℕ) (x t : Text) (inv : x ≡ written (digitsOf (drop i v)) t) where
+  pub digits-more : i < length v → (u : Text) → u ≡ written (hexOf (getD v i 0) ∷ []) t → x ≡ written (digitsOf (drop (i + 1) v)) u
+  unfolding digitsOf written
+  digits-more h u e = inv ∙ rw (add-one, drop-cons v i 0) (sym (ap (written (digitsOf (drop (suc i) v))) e))
+
+  pub digits-end : length v ≤ i → t ≡ x
+  unfolding digitsOf written
+  digits-end h = sym (inv ∙ rw (drop-of-length-le v h))
+
+pub ruleset digits = (digits-more, digits-end)
+
+module _ (c : Command) (a : Answer) (message : List ℕ) (t u : Text) where
+  pub report-refused : (a .refusal ≡ 0 → ⊥) → u ≡ written (numbersLine (quoted "refused ") (a .refusal) (quoted " at=") (a .place .0)) t → u ≡ written (reportOf c a message) t
+  unfolding reportOf
+  report-refused h e = rw (ne-eqb _ _ h) e
+
+  module _ (accepted : a .refusal ≡ 0) where
+    pub report-opened : c .verb ≡ 10 → u ≡ written (quoted "opened\n" ∷ []) t → u ≡ written (reportOf c a message) t
+    unfolding reportOf
+    report-opened h e = rw (eq-eqb _ _ accepted, eq-eqb _ _ h) e
+
+    module _ (called : c .verb ≡ 10 → ⊥) where
+      pub report-read : c .verb ≡ 7 → u ≡ written (numbersLine (quoted "read messages=") (a .messages) (quoted " length=") (c .length)) t → u ≡ written (reportOf c a message) t
+      unfolding reportOf
+      report-read h e = rw (eq-eqb _ _ accepted, ne-eqb _ _ called, eq-eqb _ _ h) e
+
+      module _ (no-reading : c .verb ≡ 7 → ⊥) where
+        pub report-choice : c .verb ≡ 8 → u ≡ written (choiceText (quoted "choice ") (a .choice) (a .left)) t → u ≡ written (reportOf c a message) t
+        unfolding reportOf
+        report-choice h e = rw (eq-eqb _ _ accepted, ne-eqb _ _ called, ne-eqb _ _ no-reading, eq-eqb _ _ h) e
+
+        module _ (writes : c .verb ≡ 8 → ⊥) (w : Text) (w-is : w ≡ written (wroteText message) t) where
+          pub report-reply : c .verb ≡ 2 → u ≡ written (choiceText (quoted " choice=") (a .choice) (a .left)) w → u ≡ written (reportOf c a message) t
+          unfolding reportOf
+          report-reply h e = rw (eq-eqb _ _ accepted, ne-eqb _ _ called, ne-eqb _ _ no-reading, ne-eqb _ _ writes, eq-eqb _ _ h) (then t w u _ _ w-is e)
+
+          pub report-wrote : (c .verb ≡ 2 → ⊥) → u ≡ written (quoted "\n" ∷ []) w → u ≡ written (reportOf c a message) t
+          unfolding reportOf
+          report-wrote h e = rw (eq-eqb _ _ accepted, ne-eqb _ _ called, ne-eqb _ _ no-reading, ne-eqb _ _ writes, ne-eqb _ _ h) (then t w u _ _ w-is e)
+
+pub ruleset reports = (report-refused, report-opened, report-read, report-choice, report-reply, report-wrote)

@@ -1,0 +1,85 @@
+// What a script's calls answer, as lines of text from the front of a lent slice on.
+ghost use mathlib.Core.Path.{_≡_};
+ghost use Rattle.text.specs.Text.{text, written};
+ghost use Rattle.reports.specs.Reports.{digitsOf, wroteText, choiceText, numbersLine, usedLine, reportOf};
+use conversation::Answer;
+use script::Command;
+use text::append;
+use text::field;
+use text::hex;
+use text::id;
+use text::wide_field;
+
+// Two numbers, each behind its words, and the line's end.
+fn numbers(d: &mut [u8], words: &[u8], n: u32, further: &[u8], k: usize) -> usize
+    ensures { λ r. ⌜ text (now (d .exit)) r ≡ written (numbersLine (now (words .entry)) n (now (further .entry)) k) (text (now (d .entry)) 0) ⌝ }
+{
+    let a = field(d, 0, words, n);
+    let b = wide_field(d, a, further, k);
+    append(d, b, b"\n")
+}
+
+// A word, the id chosen, how many were left, and the line's end.
+fn choice(d: &mut [u8], at: usize, word: &[u8], chosen: [u8; 16], left: u32) -> usize
+    ensures { λ r. ⌜ text (now (d .exit)) r ≡ written (choiceText (now (word .entry)) chosen left) (text (now (d .entry)) at) ⌝ }
+{
+    let a = append(d, at, word);
+    let b = id(d, a, &chosen);
+    let e = field(d, b, b" left=", left);
+    append(d, e, b"\n")
+}
+
+// Octets as digits.
+fn digits(d: &mut [u8], at: usize, v: &[u8]) -> usize
+    ensures { λ r. ⌜ text (now (d .exit)) r ≡ written (digitsOf (now (v .entry))) (text (now (d .entry)) at) ⌝ }
+{
+    let mut next = at;
+    let mut i = 0;
+    while i < v.len() {
+        next = hex(d, next, v[i]);
+        i += 1;
+    }
+    next
+}
+
+// The length and the octets of a written message; its line is still open.
+fn wrote(d: &mut [u8], message: &[u8]) -> usize
+    ensures { λ r. ⌜ text (now (d .exit)) r ≡ written (wroteText (now (message .entry))) (text (now (d .entry)) 0) ⌝ }
+{
+    let a = wide_field(d, 0, b"wrote ", message.len());
+    let b = append(d, a, b" ");
+    digits(d, b, message)
+}
+
+// The line of a command: what its call answered, and the message that it wrote.
+pub fn report(d: &mut [u8], c: Command, a: Answer, message: &[u8]) -> usize
+    ensures { λ r. ⌜ text (now (d .exit)) r ≡ written (reportOf c a (now (message .entry))) (text (now (d .entry)) 0) ⌝ }
+{
+    if a.refusal != 0 {
+        return numbers(d, b"refused ", a.refusal, b" at=", a.place.0);
+    }
+    if c.verb == Command::OPEN {
+        return append(d, 0, b"opened\n");
+    }
+    if c.verb == Command::READ {
+        return numbers(d, b"read messages=", a.messages, b" length=", c.length);
+    }
+    let chosen = a.choice;
+    if c.verb == Command::CHOOSE {
+        return choice(d, 0, b"choice ", chosen, a.left);
+    }
+    let at = wrote(d, message);
+    if c.verb == Command::REPLY {
+        return choice(d, at, b" choice=", chosen, a.left);
+    }
+    append(d, at, b"\n")
+}
+
+// The last line: the octets used at each end.
+pub fn used(d: &mut [u8], initiator: usize, acceptor: usize) -> usize
+    ensures { λ r. ⌜ text (now (d .exit)) r ≡ written (usedLine initiator acceptor) (text (now (d .entry)) 0) ⌝ }
+{
+    let a = wide_field(d, 0, b"used i=", initiator);
+    let b = wide_field(d, a, b" a=", acceptor);
+    append(d, b, b"\n")
+}

@@ -1,0 +1,224 @@
+-- A line's command, field after field, in the words of the code.
+-- Assumes nothing.
+use Prim.Native.Nat.{ℕ, _≤_, _<_}
+use mathlib.Core.Path.{_≡_, refl, sym, ap, _∙_}
+use mathlib.Core.Bool.{Bool, true, false, cond, not}
+use mathlib.Core.List.{List, [], _∷_, map}
+use native.Mathlib.Omega.{arith}
+use lib.ListN.{length, getD, replicate, List·getD-map}
+use lib.Dec.{eqb}
+use borrow.Author.Tests.{eq-eqb, ne-eqb}
+use Rattle.octets.specs.Octets.{sameOctets}
+use Rattle.text.specs.Text.{quoted}
+use Rattle.script.specs.declared.Command.{Command}
+use Rattle.fields.specs.declared.hex.Decoded.{Decoded}
+use Rattle.fields.specs.declared.hex.Decoded.the-variants as decoded
+use Rattle.fields.specs.declared.hex.IdText.{IdText}
+use Rattle.fields.specs.declared.number.Number.{Number}
+use Rattle.fields.specs.declared.number.Number.the-variants as number
+use Rattle.fields.specs.Fields.{numberOf, decodedAs, idAs, Numeral, is, hexadecimalOf, roomOf, Octets, of, Front, front, bad, fit, octetsOf, randomOf, idOf}
+use Rattle.script.specs.Grammar.{fieldsOf, first, others, only, idsOf, Form, forms, form, formOf, past, numberIn, hasId, idIn, restIn, Line, lineAs, line, badLine, numberThen, idThen, frontThen, rested, named, numbered, called, ends, verbs, placeFrom, placeOf, verbOf, fieldsLine, commandOf}
+use Rattle.script.specs.Steps.{fieldsFrom}
+use Rattle.script.proofs.Places.{past-none, from-start, field-there}
+use Rattle.fields.proofs.Decoding.{fits}
+
+module _ (s : List ℕ) (from : ℕ) (b : Bool) where
+  pub past-read : b ≡ true → (r : ℕ) → fieldsFrom s r ≡ others (fieldsFrom s from) → fieldsFrom s r ≡ past b (fieldsFrom s from)
+  past-read h r e = rw h e
+
+  pub past-not : b ≡ false → fieldsFrom s from ≡ past b (fieldsFrom s from)
+  past-not h = rw h
+
+module _ (kind : ℕ) (fs : List (List ℕ)) where
+  pub number-none : kind ≡ 0 → is 0 ≡ numberIn kind fs
+  unfolding numberIn
+  number-none h = rw (eq-eqb _ _ h)
+
+  module _ (some : kind ≡ 0 → ⊥) (f : List ℕ) (f-is : f ≡ first fs) (x : Numeral) where
+    pub number-room : kind ≡ 1 → x ≡ roomOf f → x ≡ numberIn kind fs
+    unfolding numberIn
+    number-room h e = rw (ne-eqb _ _ some, eq-eqb _ _ h, ← f-is) e
+
+    module _ (no-room : kind ≡ 1 → ⊥) where
+      pub number-marks : kind ≡ 2 → x ≡ hexadecimalOf 4 65535 f → x ≡ numberIn kind fs
+      unfolding numberIn
+      number-marks h e = rw (ne-eqb _ _ some, ne-eqb _ _ no-room, eq-eqb _ _ h, ← f-is) e
+
+      pub number-code : (kind ≡ 2 → ⊥) → x ≡ hexadecimalOf 8 4294967295 f → x ≡ numberIn kind fs
+      unfolding numberIn
+      number-code h e = rw (ne-eqb _ _ some, ne-eqb _ _ no-room, ne-eqb _ _ h, ← f-is) e
+
+module _ (kind : ℕ) (acceptor : Bool) where
+  pub has-own : kind ≡ 4 → true ≡ hasId kind acceptor
+  has-own h = rw (eq-eqb _ _ h)
+
+  module _ (other : kind ≡ 4 → ⊥) where
+    pub has-conversation : kind ≡ 5 → not acceptor ≡ hasId kind acceptor
+    has-conversation h = rw (ne-eqb _ _ other, eq-eqb _ _ h)
+
+    pub has-none : (kind ≡ 5 → ⊥) → false ≡ hasId kind acceptor
+    has-none h = rw (ne-eqb _ _ other, ne-eqb _ _ h)
+
+module _ (b : Bool) (fs : List (List ℕ)) where
+  pub id-some : b ≡ true → (f : List ℕ) → f ≡ first fs → (x : Octets) → x ≡ idOf f → x ≡ idIn b fs
+  unfolding idIn
+  id-some h f f-is x e = rw (h, ← f-is) e
+
+  pub id-none : b ≡ false → of (replicate 16 0) ≡ idIn b fs
+  unfolding idIn
+  id-none h = rw h
+
+module _ (s : List ℕ) (from room kind : ℕ) where
+  pub rest-ids : kind ≡ 8 → (x : Front) → x ≡ fit room (idsOf (fieldsFrom s from)) → x ≡ fit room (restIn kind (fieldsFrom s from))
+  unfolding restIn
+  rest-ids h x e = rw (eq-eqb _ _ h) e
+
+  module _ (no-ids : kind ≡ 8 → ⊥) (f : List ℕ) (f-is : f ≡ only (fieldsFrom s from)) (x : Front) where
+    pub rest-octets : kind ≡ 7 → x ≡ fit room (octetsOf f) → x ≡ fit room (restIn kind (fieldsFrom s from))
+    unfolding restIn
+    rest-octets h e = rw (ne-eqb _ _ no-ids, eq-eqb _ _ h, ← f-is) e
+
+    pub rest-random : (kind ≡ 7 → ⊥) → kind ≡ 6 → x ≡ fit room (randomOf f) → x ≡ fit room (restIn kind (fieldsFrom s from))
+    unfolding restIn
+    rest-random g h e = rw (ne-eqb _ _ no-ids, ne-eqb _ _ g, eq-eqb _ _ h, ← f-is) e
+
+  module _ (no-ids : kind ≡ 8 → ⊥) (no-octets : kind ≡ 7 → ⊥) (no-random : kind ≡ 6 → ⊥) where
+    pub rest-more : from ≤ length s → bad ≡ fit room (restIn kind (fieldsFrom s from))
+    unfolding restIn
+    rest-more h = rw (ne-eqb _ _ no-ids, ne-eqb _ _ no-octets, ne-eqb _ _ no-random, field-there s from h)
+
+    pub rest-none : length s < from → front 0 [] ≡ fit room (restIn kind (fieldsFrom s from))
+    unfolding restIn
+    rest-none h = rw (ne-eqb _ _ no-ids, ne-eqb _ _ no-octets, ne-eqb _ _ no-random, past-none s from h) (fits room 0 (of []) [] refl refl (omega arith))
+
+-- the columns of the table, as the code has them
+abbrev column : (Form → ℕ) → List ℕ
+column f = map f forms
+
+of-form : (f : Form → ℕ) (verb : ℕ) → getD (column f) verb (f (form 0 0 0)) ≡ f (formOf verb)
+unfolding formOf
+of-form f verb = List·getD-map f forms verb (form 0 0 0)
+
+-- a line that is none of the calls
+bad-line : (c : Command) (d : List ℕ) → c ≡ badLine .command → lineAs c d ≡ badLine
+bad-line c d e = rw e
+
+module _ (verb : ℕ) (acceptor : Bool) (n : ℕ) (i : List ℕ) (fs : List (List ℕ)) (room kind : ℕ) (kind-is : kind ≡ getD (column (λ f. f .rest)) verb 0) (r : Decoded) (d : List ℕ) (says : decodedAs r d ≡ fit room (restIn kind fs)) where
+  rested-is : rested verb acceptor n i fs room ≡ frontThen (decodedAs r d) (line verb acceptor n i)
+  unfolding rested
+  rested-is = rw (← of-form (λ f. f .rest) verb, ← kind-is, ← says)
+
+  pub rested-bad : r ≡ decoded.Bad → (c : Command) → c ≡ badLine .command → lineAs c d ≡ rested verb acceptor n i fs room
+  rested-bad h c e = bad-line c d e ∙ sym (rested-is ∙ rw h)
+
+  pub rested-good : (k : ℕ) → r ≡ decoded.Octets k → lineAs (line verb acceptor n i k [] .command) d ≡ rested verb acceptor n i fs room
+  rested-good k h = sym (rested-is ∙ rw h)
+
+module _ (verb : ℕ) (acceptor : Bool) (n : ℕ) (fs : List (List ℕ)) (room kind : ℕ) (kind-is : kind ≡ getD (column (λ f. f .id)) verb 0) (b : Bool) (b-is : b ≡ hasId kind acceptor) (r : IdText) (says : idAs r ≡ idIn b fs) where
+  named-is : named verb acceptor n fs room ≡ idThen (idAs r) (λ i. rested verb acceptor n i (past b fs) room)
+  unfolding named
+  named-is = simp (sym (of-form (λ f. f .id) verb), sym kind-is, sym b-is, sym says)
+
+  pub named-bad : r .ok ≡ false → (c : Command) (d : List ℕ) → c ≡ badLine .command → lineAs c d ≡ named verb acceptor n fs room
+  named-bad h c d e = bad-line c d e ∙ sym (named-is ∙ rw h)
+
+  pub named-good : r .ok ≡ true → (gs : List (List ℕ)) → gs ≡ past b fs → (x : Line) → x ≡ rested verb acceptor n (r .octets) gs room → x ≡ named verb acceptor n fs room
+  named-good h gs e x x-is = x-is ∙ rw e (sym (named-is ∙ rw h))
+
+module _ (verb : ℕ) (acceptor : Bool) (fs : List (List ℕ)) (room kind : ℕ) (kind-is : kind ≡ getD (column (λ f. f .number)) verb 0) (r : Number) (says : numberOf r ≡ numberIn kind fs) where
+  numbered-is : numbered verb acceptor fs room ≡ numberThen (numberOf r) (λ n. named verb acceptor n (past (not (eqb kind 0)) fs) room)
+  unfolding numbered
+  numbered-is = simp (sym (of-form (λ f. f .number) verb), sym kind-is, sym says)
+
+  pub numbered-bad : r ≡ number.Bad → (c : Command) (d : List ℕ) → c ≡ badLine .command → lineAs c d ≡ numbered verb acceptor fs room
+  numbered-bad h c d e = bad-line c d e ∙ sym (numbered-is ∙ rw h)
+
+  pub numbered-good : (n : ℕ) → r ≡ number.Is n → (gs : List (List ℕ)) → gs ≡ past (not (eqb kind 0)) fs → (x : Line) → x ≡ named verb acceptor n gs room → x ≡ numbered verb acceptor fs room
+  numbered-good n h gs e x x-is = x-is ∙ rw e (sym (numbered-is ∙ rw h))
+
+module _ (verb end : ℕ) (fs : List (List ℕ)) (room : ℕ) where
+  pub called-nowhere : end ≡ 0 → (c : Command) (d : List ℕ) → c ≡ badLine .command → lineAs c d ≡ called verb end fs room
+  unfolding called
+  called-nowhere h c d e = bad-line c d e ∙ rw (eq-eqb _ _ h)
+
+  module _ (somewhere : end ≡ 0 → ⊥) where
+    pub called-nothing : verb ≡ 0 → (c : Command) (d : List ℕ) → c ≡ badLine .command → lineAs c d ≡ called verb end fs room
+    unfolding called
+    called-nothing h c d e = bad-line c d e ∙ rw (ne-eqb _ _ somewhere, eq-eqb _ _ h)
+
+    pub called-some : (verb ≡ 0 → ⊥) → (x : Line) → x ≡ numbered verb (eqb end 2) fs room → x ≡ called verb end fs room
+    unfolding called
+    called-some h x e = rw (ne-eqb _ _ somewhere, ne-eqb _ _ h) e
+
+module _ (s : List ℕ) (from v p : ℕ) (v-is : v ≡ p) where
+  pub verb-more : from ≤ length s → v ≡ verbOf p (fieldsFrom s from)
+  unfolding verbOf
+  verb-more h = rw (field-there s from h) v-is
+
+  module _ (alone : length s < from) where
+    pub verb-turn : v ≡ 7 → 9 ≡ verbOf p (fieldsFrom s from)
+    unfolding verbOf
+    verb-turn h = rw (past-none s from alone, ← v-is, eq-eqb _ _ h)
+
+    pub verb-alone : (v ≡ 7 → ⊥) → v ≡ verbOf p (fieldsFrom s from)
+    unfolding verbOf
+    verb-alone h = rw (past-none s from alone, ← v-is, ne-eqb _ _ h)
+
+-- the line of two fields and those behind them, of which the second may be missing
+abbrev lineWith : List ℕ → List (List ℕ) → ℕ → Line
+lineWith w fs room =
+    cond (sameOctets w (quoted "open"))
+    (called 10 (placeOf (first fs) ends) (others fs) room)
+    (called (verbOf (placeOf (first fs) verbs) (others fs)) (placeOf w ends) (others fs) room)
+
+either-bad : (b : Bool) → cond b badLine badLine ≡ badLine
+either-bad true = refl
+either-bad false = refl
+
+-- nothing is no end and no verb
+no-end : (verb : ℕ) (fs : List (List ℕ)) (room : ℕ) → called verb (placeOf [] ends) fs room ≡ badLine
+unfolding called placeFrom fieldsOf sameOctets
+no-end verb fs room = refl
+
+no-verb : (end room : ℕ) → called (verbOf (placeOf [] verbs) []) end [] room ≡ badLine
+unfolding called verbOf placeFrom fieldsOf sameOctets
+no-verb end room = either-bad (eqb end 0)
+
+line-is : (w : List ℕ) (fs : List (List ℕ)) (room : ℕ) → fieldsLine (w ∷ fs) room ≡ lineWith w fs room
+unfolding fieldsLine
+line-is w [] room = sym (rw (no-end 10 [] room, no-verb (placeOf w ends) room) (either-bad (sameOctets w (quoted "open"))))
+line-is w (x ∷ fs) room = refl
+
+module _ (s : List ℕ) (at from : ℕ) (at-is : fieldsFrom s at ≡ others (fieldsFrom s 0)) (from-is : fieldsFrom s from ≡ others (fieldsFrom s at)) (w x : List ℕ) (w-is : w ≡ first (fieldsFrom s 0)) (x-is : x ≡ first (fieldsFrom s at)) (b : Bool) (b-is : b ≡ sameOctets w (quoted "open")) (room : ℕ) (l : Line) where
+  command-is : commandOf s room ≡ cond b (called 10 (placeOf x ends) (fieldsFrom s from) room) (called (verbOf (placeOf x verbs) (fieldsFrom s from)) (placeOf w ends) (fieldsFrom s from) room)
+  unfolding commandOf
+  command-is =
+      ap (λ (fs : List (List ℕ)). fieldsLine fs room) (sym (from-start s) ∙ field-there s 0 (omega arith))
+      ∙ line-is (first (fieldsFrom s 0)) (others (fieldsFrom s 0)) room
+      ∙ simp (b-is, w-is, x-is, from-is, at-is)
+
+  pub command-open : b ≡ true → (end : ℕ) → end ≡ placeOf x ends → l ≡ called 10 end (fieldsFrom s from) room → l ≡ commandOf s room
+  command-open h end e l-is = l-is ∙ rw e (sym (command-is ∙ rw h))
+
+  pub command-call : b ≡ false → (verb end : ℕ) → verb ≡ verbOf (placeOf x verbs) (fieldsFrom s from) → end ≡ placeOf w ends → l ≡ called verb end (fieldsFrom s from) room → l ≡ commandOf s room
+  command-call h verb end v e l-is = l-is ∙ rw (v, e) (sym (command-is ∙ rw h))
+
+pub ruleset commands = (command-open, command-call)
+
+pub ruleset pasts = (past-read, past-not)
+
+pub ruleset numbers = (number-none, number-room, number-marks, number-code)
+
+pub ruleset named-ids = (has-own, has-conversation, has-none, id-some, id-none)
+
+pub ruleset rests = (rest-ids, rest-octets, rest-random, rest-more, rest-none)
+
+pub ruleset resteds = (rested-bad, rested-good)
+
+pub ruleset nameds = (named-bad, named-good)
+
+pub ruleset numbereds = (numbered-bad, numbered-good)
+
+pub ruleset calleds = (called-nowhere, called-nothing, called-some)
+
+pub ruleset verb-words = (verb-more, verb-turn, verb-alone)

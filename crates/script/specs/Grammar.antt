@@ -1,0 +1,257 @@
+-- A line of a script as one value: "Each line of the script is one call, fields separated by one space".
+--
+-- Glossary
+--   fieldsOf s        the fields of a line; longer c fs: with the octet c in front of the first of them
+--   first, others     the first of some fields, and those behind it; only: the one where there is one alone. No call has an empty field, so that one
+--                     stands for none.
+--   BAD               the verb of a bad line; OFFER, REPLY, METADATA, EXCHANGE, VERIFY, ALERT, READ, CHOOSE and OPEN: those of the calls; TURN: `read`
+--                     with nothing behind it
+--   NONE              no field behind a verb; ROOM, MARKS, CODE, ID, CONVERSATION, RANDOM, OCTETS and IDS: the fields that there are; TYPE is read as
+--                     CODE
+--   Form, forms       which fields a call has, by its verb: its number, its id and the rest of its line; form builds one, formOf is that of a verb
+--   ends, verbs       the words; placeOf w ws: the place of the word w among ws, from 1, or 0 where it is none of them; placeFrom: from another number
+--                     on
+--   verbOf v fs       the verb of a word, where the fields fs stand behind it
+--   idsOf fs          the ids of the fields fs, one behind the other; both joins octets, where none of them is bad
+--   numberIn          what the number says; idIn: the id; restIn: the rest of the line; nothingIn: nothing is left
+--   hasId             an id stands there; past b fs: the fields behind one that is read, or not
+--   Line              a command, and the octets that it is given; line builds one; badLine: that of a bad line
+--   lineAs c d        the same of an answer, whose octets stand at the front of the slice d
+--   numberThen        the line, where a number is good; idThen: an id; frontThen: octets; a bad line where it is not
+--   numbered          the line from its number on; named: from its id on; rested: from its rest on
+--   called            the line of a verb at an end; fieldsLine: that of its fields
+--   commandOf s room  what the line s says, where a slice of `room` octets is lent
+use Prim.Native.Nat.{ℕ, _+_}
+use mathlib.Core.Bool.{Bool, true, false, cond, not, _&&_, _||_}
+use mathlib.Core.List.{List, [], _∷_}
+use lib.ListN.{length, take, getD, replicate}
+use lib.Dec.{eqb}
+use Rattle.octets.specs.Octets.{sameOctets}
+use Rattle.text.specs.Text.{quoted}
+use Rattle.script.specs.declared.Command.{Command}
+use Rattle.fields.specs.Fields.{Numeral, is, nothing, hexadecimalOf, roomOf, Octets, of, none, Front, front, bad, fit, octetsOf, randomOf, idOf, behindAll}
+
+abbrev pub longer : ℕ → List (List ℕ) → List (List ℕ)
+longer c [] = []
+longer c (f ∷ fs) = (c ∷ f) ∷ fs
+
+-- "fields separated by one space"
+unfoldable pub fieldsOf : List ℕ → List (List ℕ)
+fieldsOf [] = [] ∷ []
+fieldsOf (c ∷ s) = cond (eqb c 32) ([] ∷ fieldsOf s) (longer c (fieldsOf s))
+
+abbrev pub first : List (List ℕ) → List ℕ
+first [] = []
+first (f ∷ fs) = f
+
+abbrev pub others : List (List ℕ) → List (List ℕ)
+others [] = []
+others (f ∷ fs) = fs
+
+abbrev pub only : List (List ℕ) → List ℕ
+only [] = []
+only (f ∷ []) = f
+only (f ∷ g ∷ fs) = []
+
+abbrev pub BAD : ℕ
+BAD = 0
+
+abbrev pub OFFER : ℕ
+OFFER = 1
+
+abbrev pub REPLY : ℕ
+REPLY = 2
+
+abbrev pub METADATA : ℕ
+METADATA = 3
+
+abbrev pub EXCHANGE : ℕ
+EXCHANGE = 4
+
+abbrev pub VERIFY : ℕ
+VERIFY = 5
+
+abbrev pub ALERT : ℕ
+ALERT = 6
+
+abbrev pub READ : ℕ
+READ = 7
+
+abbrev pub CHOOSE : ℕ
+CHOOSE = 8
+
+abbrev pub TURN : ℕ
+TURN = 9
+
+abbrev pub OPEN : ℕ
+OPEN = 10
+
+abbrev pub NONE : ℕ
+NONE = 0
+
+abbrev pub ROOM : ℕ
+ROOM = 1
+
+abbrev pub MARKS : ℕ
+MARKS = 2
+
+abbrev pub CODE : ℕ
+CODE = 3
+
+abbrev pub ID : ℕ
+ID = 4
+
+abbrev pub CONVERSATION : ℕ
+CONVERSATION = 5
+
+abbrev pub RANDOM : ℕ
+RANDOM = 6
+
+abbrev pub OCTETS : ℕ
+OCTETS = 7
+
+abbrev pub IDS : ℕ
+IDS = 8
+
+pub record Form : Type 0 where
+  pub number : ℕ
+  pub id : ℕ
+  pub rest : ℕ
+
+abbrev pub form : ℕ → ℕ → ℕ → Form
+form n i r = record { number = n; id = i; rest = r }
+
+-- by verb: a bad line; "E offer RANDOM"; "E reply MARKS RANDOM"; "E metadata ID OCTETS"; "E exchange OCTETS"; "E verify TYPE OCTETS"; "E alert CODE";
+-- "E read OCTETS"; "E choose MARKS"; "E read"; "open i ROOM CONVERSATION ID ID .." and "open a ROOM ID ID .."
+abbrev pub forms : List Form
+forms =
+    form NONE NONE NONE
+    ∷ form NONE NONE RANDOM
+    ∷ form MARKS NONE RANDOM
+    ∷ form NONE ID OCTETS
+    ∷ form NONE NONE OCTETS
+    ∷ form CODE NONE OCTETS
+    ∷ form CODE NONE NONE
+    ∷ form NONE NONE OCTETS
+    ∷ form MARKS NONE NONE
+    ∷ form NONE NONE NONE
+    ∷ form ROOM CONVERSATION IDS
+    ∷ []
+
+unfoldable pub formOf : ℕ → Form
+formOf verb = getD forms verb (form NONE NONE NONE)
+
+unfoldable pub placeFrom : ℕ → List ℕ → List (List ℕ) → ℕ
+placeFrom k w [] = 0
+placeFrom k w (x ∷ ws) = cond (sameOctets w x) k (placeFrom (k + 1) w ws)
+
+abbrev pub placeOf : List ℕ → List (List ℕ) → ℕ
+placeOf w ws = placeFrom 1 w ws
+
+-- "E is `i` or `a`."
+abbrev pub ends : List (List ℕ)
+ends = fieldsOf (quoted "i a")
+
+-- "words are lower case"; each has its verb's place
+abbrev pub verbs : List (List ℕ)
+verbs = fieldsOf (quoted "offer reply metadata exchange verify alert read choose")
+
+-- "E read: a copy of the other end's turn so far"
+unfoldable pub verbOf : ℕ → List (List ℕ) → ℕ
+verbOf verb [] = cond (eqb verb READ) TURN verb
+verbOf verb (f ∷ fs) = verb
+
+abbrev pub both : Octets → Octets → Octets
+both (of o) x = behindAll o x
+both none x = none
+
+-- "any number of ids"
+unfoldable pub idsOf : List (List ℕ) → Octets
+idsOf [] = of []
+idsOf (f ∷ fs) = both (idOf f) (idsOf fs)
+
+-- ROOM, MARKS, TYPE or CODE
+unfoldable pub numberIn : ℕ → List (List ℕ) → Numeral
+numberIn kind fs =
+    cond (eqb kind NONE) (is 0)
+    (cond (eqb kind ROOM) (roomOf (first fs))
+    (cond (eqb kind MARKS) (hexadecimalOf 4 65535 (first fs)) (hexadecimalOf 8 4294967295 (first fs))))
+
+-- an initiator has a CONVERSATION, and an acceptor none
+abbrev pub hasId : ℕ → Bool → Bool
+hasId kind acceptor = eqb kind ID || (eqb kind CONVERSATION && not acceptor)
+
+unfoldable pub idIn : Bool → List (List ℕ) → Octets
+idIn true fs = idOf (first fs)
+idIn false fs = of (replicate 16 0)
+
+-- the fields behind one that is read, or not
+abbrev pub past : Bool → List (List ℕ) → List (List ℕ)
+past true fs = others fs
+past false fs = fs
+
+abbrev pub nothingIn : List (List ℕ) → Octets
+nothingIn [] = of []
+nothingIn (f ∷ fs) = none
+
+unfoldable pub restIn : ℕ → List (List ℕ) → Octets
+restIn kind fs =
+    cond (eqb kind IDS) (idsOf fs)
+    (cond (eqb kind OCTETS) (octetsOf (only fs))
+    (cond (eqb kind RANDOM) (randomOf (only fs)) (nothingIn fs)))
+
+pub record Line : Type 0 where
+  pub command : Command
+  pub octets : List ℕ
+
+abbrev pub lineAs : Command → List ℕ → Line
+lineAs c d = record { command = c; octets = take (c .length) d }
+
+abbrev pub line : ℕ → Bool → ℕ → List ℕ → ℕ → List ℕ → Line
+line verb acceptor number id length octets =
+    record { command = record { verb = verb; acceptor = acceptor; number = number; id = id; length = length }; octets = octets }
+
+abbrev pub badLine : Line
+badLine = line BAD false 0 (replicate 16 0) 0 []
+
+abbrev pub numberThen : Numeral → (ℕ → Line) → Line
+numberThen (is n) f = f n
+numberThen nothing f = badLine
+
+abbrev pub idThen : Octets → (List ℕ → Line) → Line
+idThen (of i) f = f i
+idThen none f = badLine
+
+abbrev pub frontThen : Front → (ℕ → List ℕ → Line) → Line
+frontThen (front k o) f = f k o
+frontThen bad f = badLine
+
+-- the rest of the line
+unfoldable pub rested : ℕ → Bool → ℕ → List ℕ → List (List ℕ) → ℕ → Line
+rested verb acceptor n i fs room = frontThen (fit room (restIn (formOf verb .rest) fs)) (line verb acceptor n i)
+
+-- the id, and what is behind it
+unfoldable pub named : ℕ → Bool → ℕ → List (List ℕ) → ℕ → Line
+named verb acceptor n fs room =
+    idThen (idIn (hasId (formOf verb .id) acceptor) fs)
+    (λ i. rested verb acceptor n i (past (hasId (formOf verb .id) acceptor) fs) room)
+
+-- the number, and what is behind it
+unfoldable pub numbered : ℕ → Bool → List (List ℕ) → ℕ → Line
+numbered verb acceptor fs room =
+    numberThen (numberIn (formOf verb .number) fs)
+    (λ n. named verb acceptor n (past (not (eqb (formOf verb .number) NONE)) fs) room)
+
+-- a verb and an end, which both have to be some
+unfoldable pub called : ℕ → ℕ → List (List ℕ) → ℕ → Line
+called verb end fs room = cond (eqb end 0) badLine (cond (eqb verb BAD) badLine (numbered verb (eqb end 2) fs room))
+
+-- "open i ..", "open a ..", and "E offer .." to "E choose .."
+unfoldable pub fieldsLine : List (List ℕ) → ℕ → Line
+fieldsLine [] room = badLine
+fieldsLine (w ∷ []) room = badLine
+fieldsLine (w ∷ x ∷ fs) room =
+    cond (sameOctets w (quoted "open")) (called OPEN (placeOf x ends) fs room) (called (verbOf (placeOf x verbs) fs) (placeOf w ends) fs room)
+
+unfoldable pub commandOf : List ℕ → ℕ → Line
+commandOf s room = fieldsLine (fieldsOf s) room

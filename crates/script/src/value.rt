@@ -1,0 +1,95 @@
+// What the fields of a call say: its number, its id, and the rest of its line.
+ghost use mathlib.Core.Path.{_≡_};
+ghost use lib.ListN.{length};
+ghost use Rattle.fields.specs.Fields.{numberOf, fit, decodedAs, idAs};
+ghost use Rattle.script.specs.Grammar.{idsOf, numberIn, idIn, restIn};
+ghost use Rattle.script.specs.Steps.{fieldsFrom};
+use super::IDS;
+use super::MARKS;
+use super::NONE;
+use super::OCTETS;
+use super::RANDOM;
+use super::ROOM;
+use super::field::behind;
+use super::field::field;
+use super::field::last;
+use fields::hex::Decoded;
+use fields::hex::IdText;
+use fields::hex::id;
+use fields::hex::octets;
+use fields::hex::random;
+use fields::number::Number;
+use fields::number::hexadecimal;
+use fields::number::room;
+use put::put_octets;
+
+// A line's number, in the field that starts at `from`.
+pub(crate) fn number_in(line: &[u8], from: usize, kind: u8) -> Number
+    ensures { λ r. ⌜ numberOf r ≡ numberIn kind (fieldsFrom (now (line .entry)) from) ⌝ }
+{
+    if kind == NONE {
+        return Number::Is(0);
+    }
+    let s = field(line, from);
+    if kind == ROOM {
+        return room(s);
+    }
+    if kind == MARKS {
+        return hexadecimal(s, 4, 65535);
+    }
+    hexadecimal(s, 8, 4294967295)
+}
+
+// A line's id, in the field that starts at `from`, where there is one.
+pub(crate) fn id_in(line: &[u8], from: usize, some: bool) -> IdText
+    ensures { λ r. ⌜ idAs r ≡ idIn some (fieldsFrom (now (line .entry)) from) ⌝ }
+{
+    if some {
+        return id(field(line, from));
+    }
+    IdText {
+        ok: true,
+        octets: [0u8; 16],
+    }
+}
+
+// The ids of the fields from `from` on, one behind the other at the front of d.
+fn ids(line: &[u8], from: usize, d: &mut [u8]) -> Decoded
+    ensures { λ r. ⌜ decodedAs r (now (d .exit)) ≡ fit (length (now (d .entry))) (idsOf (fieldsFrom (now (line .entry)) from)) ⌝ }
+{
+    let mut at = from;
+    let mut n = 0;
+    while at <= line.len() {
+        let next = id(field(line, at));
+        if next.ok {} else {
+            return Decoded::Bad;
+        }
+        if d.len() - n < 16 {
+            return Decoded::Bad;
+        }
+        let octets = next.octets;
+        n = put_octets(d, n, &octets);
+        at = behind(line, at);
+    }
+    Decoded::Octets(n)
+}
+
+// The rest of a line, from the field that starts at `from`: its octets at the front of d.
+pub(crate) fn rest_in(line: &[u8], from: usize, kind: u8, d: &mut [u8]) -> Decoded
+    ensures { λ r. ⌜ decodedAs r (now (d .exit)) ≡ fit (length (now (d .entry))) (restIn kind (fieldsFrom (now (line .entry)) from)) ⌝ }
+{
+    if kind == IDS {
+        return ids(line, from, d);
+    }
+    let s = last(line, from);
+    if kind == OCTETS {
+        return octets(s, d);
+    }
+    if kind == RANDOM {
+        return random(s, d);
+    }
+    if from <= line.len() {
+        return Decoded::Bad;
+    }
+    Decoded::Octets(0)
+}
