@@ -1,19 +1,18 @@
 /*
  * Runs MIT's SPNEGO with NEGOEX inside, over the mechanisms of mech.c.
  *
- *   drive converse DIR OWN PEER     both ends in one process: the initiator lists OWN, the acceptor PEER
- *   drive offer FILE OWN REPLY      hands the NEGOEX token in FILE to an acceptor that lists OWN, as its first token;
- *                                   the SPNEGO token that carried it goes to FILE with `.spnego` behind the name,
- *                                   and the NEGOEX token of the answer, if there is one, to REPLY
- *   drive answer FILE OWN NEXT      hands the NEGOEX token in FILE to an initiator that lists OWN, as the reply to its first
- *                                   token; for that its kinds 0, 2 and 5 become the acceptor's 1, 3 and 4, its numbers go on
- *                                   from the first token's, its conversation becomes the first token's, and a VERIFY in it
- *                                   is signed anew, with checksum type -138, and then damaged where the environment has
- *                                   CAPTURE_DAMAGE; NEXT is as REPLY
+ *   drive converse FOLDER OWN PEER            runs both ends in one process: the initiator lists OWN, the acceptor PEER
+ *   drive offer TOKEN OWN NEXT                hands TOKEN to an acceptor that lists OWN, as its first token
+ *   drive answer TOKEN OWN FIRST REPLY NEXT   hands TOKEN to an initiator that lists OWN, as the reply to its first token
  *
- * Lists are letters: A to F for the mechanisms 1 to 6. `converse` writes each turn NN of end i or a as DIR/NN-E.spnego, and
- * the NEGOEX token in it, if there is one, as DIR/NN-E.negoex. All print one line a call: the end, the call's number, the
- * routine error, whether more is to come, the minor status and the library's text for it.
+ * TOKEN, FIRST, REPLY and NEXT are files of NEGOEX tokens. NEXT is what the end sends then; there is no such file where it
+ * sends nothing. FIRST is the initiator's first token, and REPLY is what it was handed: TOKEN made a reply, which `turn_round`
+ * does. Lists are letters: A to F for the mechanisms 1 to 6. `converse` writes turn NN of end i or a as FOLDER/NN-E.spnego, and
+ * the NEGOEX token in it, if there is one, as FOLDER/NN-E.negoex.
+ *
+ * Each call prints a line: the end, the call's number, the routine error, whether more is to come, the minor status and the
+ * library's text for it. The status is 0 where no call was refused (for `converse`: where both ends are done), 1 where one was,
+ * and 2 where nothing could be asked.
  */
 #include <stdio.h>
 #include <stdlib.h>
@@ -24,13 +23,16 @@
 
 #define LIMIT 200000
 
+/* The DER tags of a SPNEGO token; the last three are those of numbered elements. */
+enum { OCTET_STRING = 0x04, OBJECT_IDENTIFIER = 0x06, SEQUENCE = 0x30, FRAME = 0x60, ELEMENT_0 = 0xA0, ELEMENT_1, ELEMENT_2 };
+
 static unsigned char negoex_elements[] = { 0x2B, 0x06, 0x01, 0x04, 0x01, 0x82, 0x37, 0x02, 0x02, 0x1E };
 static unsigned char spnego_elements[] = { 0x2B, 0x06, 0x01, 0x05, 0x05, 0x02 };
 static gss_OID_desc spnego = { sizeof spnego_elements, spnego_elements };
 
-static void fail(const char *what)
+static void fail(const char *what, const char *which)
 {
-    fprintf(stderr, "drive: %s\n", what);
+    fprintf(stderr, "drive: %s%s\n", what, which);
     exit(2);
 }
 
@@ -38,7 +40,7 @@ static void save(const char *path, const void *octets, size_t length)
 {
     FILE *file = fopen(path, "wb");
     if (file == NULL || fwrite(octets, 1, length, file) != length || fclose(file) != 0)
-        fail("a file cannot be written");
+        fail("cannot write ", path);
 }
 
 static size_t load(const char *path, unsigned char *octets, size_t room)
@@ -46,16 +48,25 @@ static size_t load(const char *path, unsigned char *octets, size_t room)
     FILE *file = fopen(path, "rb");
     size_t length;
     if (file == NULL)
-        fail("a file cannot be opened");
+        fail("cannot open ", path);
     length = fread(octets, 1, room, file);
     if (ferror(file) || length == room)
-        fail("a file cannot be read, or is too long");
+        fail("cannot read, or too long: ", path);
     fclose(file);
     return length;
 }
 
-/* Puts a DER element's tag and length before the octets that end at `end`; `start` is where they begin. */
-static unsigned char *before(unsigned char *start, unsigned char *end, unsigned char tag)
+/* A SPNEGO token is laid out from the end of this towards its front: an element's length stands before its content. */
+static unsigned char room[LIMIT + 100];
+static unsigned char *const room_end = room + sizeof room;
+
+static unsigned char *put_before(unsigned char *start, const void *octets, size_t length)
+{
+    return memcpy(start - length, octets, length);
+}
+
+/* Makes the octets from `start` to `end` an element's content, by a tag and a length before them. */
+static unsigned char *element_of(unsigned char tag, unsigned char *start, const unsigned char *end)
 {
     size_t length = (size_t)(end - start);
     if (length < 128) {
@@ -70,53 +81,47 @@ static unsigned char *before(unsigned char *start, unsigned char *end, unsigned 
     return start;
 }
 
-/* A NegTokenInit in its GSS-API frame, with NEGOEX as its one mechanism and `token` as the mechanism's token. */
-static gss_buffer_desc wrap(const unsigned char *token, size_t length)
+/* Element 2 of a NegTokenInit and of a NegTokenResp, which is the last of both: the mechanism's token. */
+static unsigned char *token_element(const unsigned char *token, size_t length)
 {
-    static unsigned char room[LIMIT + 100];
-    unsigned char *end = room + sizeof room, *start = end - length, *list;
-    gss_buffer_desc made;
-    memcpy(start, token, length);
-    start = before(before(start, end, 0x04), end, 0xA2);
-    list = start;
-    start -= sizeof negoex_elements;
-    memcpy(start, negoex_elements, sizeof negoex_elements);
-    start = before(before(before(start, list, 0x06), list, 0x30), list, 0xA0);
-    start = before(before(start, end, 0x30), end, 0xA0);
-    list = start;
-    start -= spnego.length;
-    memcpy(start, spnego_elements, spnego.length);
-    start = before(before(start, list, 0x06), end, 0x60);
-    made.value = start;
-    made.length = (size_t)(end - start);
+    unsigned char *start = put_before(room_end, token, length);
+    return element_of(ELEMENT_2, element_of(OCTET_STRING, start, room_end), room_end);
+}
+
+static unsigned char *negoex_before(unsigned char *end)
+{
+    return element_of(OBJECT_IDENTIFIER, put_before(end, negoex_elements, sizeof negoex_elements), end);
+}
+
+static gss_buffer_desc laid_out(unsigned char *start)
+{
+    gss_buffer_desc made = { (size_t)(room_end - start), start };
     return made;
+}
+
+/* A NegTokenInit in its GSS-API frame, with NEGOEX as its one mechanism and `token` as the mechanism's token. */
+static gss_buffer_desc wrap_first(const unsigned char *token, size_t length)
+{
+    unsigned char *list = token_element(token, length), *inner, *start;
+    start = element_of(ELEMENT_0, element_of(SEQUENCE, negoex_before(list), list), list);
+    inner = element_of(ELEMENT_0, element_of(SEQUENCE, start, room_end), room_end);
+    start = element_of(OBJECT_IDENTIFIER, put_before(inner, spnego_elements, sizeof spnego_elements), inner);
+    return laid_out(element_of(FRAME, start, room_end));
 }
 
 /* A NegTokenResp of state 1 (not done yet) that names NEGOEX, with `token` as its token. */
 static gss_buffer_desc wrap_reply(const unsigned char *token, size_t length)
 {
-    static const unsigned char state[] = { 0xA0, 0x03, 0x0A, 0x01, 0x01 };
-    static unsigned char room[LIMIT + 100];
-    unsigned char *end = room + sizeof room, *start = end - length, *name;
-    gss_buffer_desc made;
-    memcpy(start, token, length);
-    start = before(before(start, end, 0x04), end, 0xA2);
-    name = start;
-    start -= sizeof negoex_elements;
-    memcpy(start, negoex_elements, sizeof negoex_elements);
-    start = before(before(start, name, 0x06), name, 0xA1);
-    start -= sizeof state;
-    memcpy(start, state, sizeof state);
-    start = before(before(start, end, 0x30), end, 0xA1);
-    made.value = start;
-    made.length = (size_t)(end - start);
-    return made;
+    static const unsigned char state[] = { ELEMENT_0, 0x03, 0x0A, 0x01, 0x01 };
+    unsigned char *name = token_element(token, length);
+    unsigned char *start = put_before(element_of(ELEMENT_1, negoex_before(name), name), state, sizeof state);
+    return laid_out(element_of(ELEMENT_1, element_of(SEQUENCE, start, room_end), room_end));
 }
 
 struct span { const unsigned char *at; size_t length; };
 
 /* Takes the first element off `rest`; answers its tag, and its content in `inside`; 0 where there is none. */
-static int element(struct span *rest, struct span *inside)
+static int take_element(struct span *rest, struct span *inside)
 {
     size_t length, header = 2;
     int tag;
@@ -143,29 +148,30 @@ static int element(struct span *rest, struct span *inside)
 /* The token in element 2 of a NegTokenInit or a NegTokenResp; its length is 0 where there is none. */
 static struct span unwrap(gss_buffer_t spnego_token)
 {
-    struct span rest = { spnego_token->value, spnego_token->length }, inside, none = { NULL, 0 };
-    int tag = element(&rest, &inside);
-    if (tag == 0x60) {
+    struct span rest = { spnego_token->value, spnego_token->length }, none = { NULL, 0 }, inside = none;
+    int tag = take_element(&rest, &inside);
+    if (tag == FRAME) {
         rest = inside;
-        if (element(&rest, &inside) != 0x06)
+        if (take_element(&rest, &inside) != OBJECT_IDENTIFIER)
             return none;
-        tag = element(&rest, &inside);
+        tag = take_element(&rest, &inside);
     }
     rest = inside;
-    if ((tag != 0xA0 && tag != 0xA1) || element(&rest, &inside) != 0x30)
+    if ((tag != ELEMENT_0 && tag != ELEMENT_1) || take_element(&rest, &inside) != SEQUENCE)
         return none;
     rest = inside;
-    while ((tag = element(&rest, &inside)) != 0)
-        if (tag == 0xA2) {
+    while ((tag = take_element(&rest, &inside)) != 0)
+        if (tag == ELEMENT_2) {
             rest = inside;
-            return element(&rest, &inside) == 0x04 ? inside : none;
+            return take_element(&rest, &inside) == OCTET_STRING ? inside : none;
         }
     return none;
 }
 
+/* A SPNEGO token may hold another mechanism's token instead. */
 static int is_negoex(struct span token)
 {
-    return token.length >= 8 && memcmp(token.at, "NEGOEXTS", 8) == 0;
+    return token.length >= 40 && memcmp(token.at, "NEGOEXTS", 8) == 0;
 }
 
 /* The mechanisms that the letters of `list` name. */
@@ -176,11 +182,13 @@ static gss_OID_set mechanisms(const char *list)
     gss_OID_set set;
     OM_uint32 minor;
     if (gss_create_empty_oid_set(&minor, &set) != GSS_S_COMPLETE)
-        fail("no set of mechanisms");
+        fail("no set of mechanisms was made", "");
     for (; *list != '\0'; list++) {
+        if (*list < 'A' || *list > 'F')
+            fail("a list has letters from A to F, and not: ", list);
         arc[sizeof arc - 1] = (unsigned char)(*list - 'A' + 1);
         if (gss_add_oid_set_member(&minor, &mech, &set) != GSS_S_COMPLETE)
-            fail("no mechanism of this letter");
+            fail("no set of mechanisms was made", "");
     }
     return set;
 }
@@ -192,9 +200,9 @@ static gss_cred_id_t credential(const char *list, int usage)
     gss_cred_id_t made;
     OM_uint32 minor;
     if (gss_acquire_cred(&minor, GSS_C_NO_NAME, GSS_C_INDEFINITE, &wanted, usage, &made, NULL, NULL) != GSS_S_COMPLETE)
-        fail("no credential: is GSS_MECH_CONFIG set?");
+        fail("MIT's library gives no credential: is GSS_MECH_CONFIG set?", "");
     if (gss_set_neg_mechs(&minor, made, own) != GSS_S_COMPLETE)
-        fail("the list of mechanisms was not taken");
+        fail("MIT's library doesn't take the list ", list);
     gss_release_oid_set(&minor, &own);
     return made;
 }
@@ -211,16 +219,33 @@ static void report(char end, int call, OM_uint32 major, OM_uint32 minor)
     gss_release_buffer(&ignored, &text);
 }
 
+/* Writes the NEGOEX token in a SPNEGO token, if there is one, and answers it. */
+static struct span save_inner(const char *path, gss_buffer_t token)
+{
+    struct span inner = unwrap(token), none = { NULL, 0 };
+    if (!is_negoex(inner))
+        return none;
+    save(path, inner.at, inner.length);
+    return inner;
+}
+
 static void keep(const char *folder, int turn, char end, gss_buffer_t token)
 {
     char path[4096];
-    struct span inner = unwrap(token);
     snprintf(path, sizeof path, "%s/%02d-%c.spnego", folder, turn, end);
     save(path, token->value, token->length);
-    if (is_negoex(inner)) {
-        snprintf(path, sizeof path, "%s/%02d-%c.negoex", folder, turn, end);
-        save(path, inner.at, inner.length);
-    }
+    snprintf(path, sizeof path, "%s/%02d-%c.negoex", folder, turn, end);
+    save_inner(path, token);
+}
+
+static gss_name_t target_name(void)
+{
+    gss_buffer_desc service = { 12, "host@example" };
+    gss_name_t target;
+    OM_uint32 minor;
+    if (gss_import_name(&minor, &service, GSS_C_NT_HOSTBASED_SERVICE, &target) != GSS_S_COMPLETE)
+        fail("MIT's library takes no name", "");
+    return target;
 }
 
 static OM_uint32 initiate(gss_cred_id_t own, gss_ctx_id_t *context, gss_name_t target, gss_buffer_t in, gss_buffer_t out, int turn)
@@ -244,11 +269,9 @@ static int converse(const char *folder, const char *own, const char *peer)
 {
     gss_cred_id_t initiator = credential(own, GSS_C_INITIATE), acceptor = credential(peer, GSS_C_ACCEPT);
     gss_ctx_id_t contexts[2] = { GSS_C_NO_CONTEXT, GSS_C_NO_CONTEXT };
-    gss_buffer_desc tokens[2] = { { 0, NULL }, { 0, NULL } }, service = { 12, "host@example" };
+    gss_buffer_desc tokens[2] = { { 0, NULL }, { 0, NULL } };
     OM_uint32 minor, majors[2] = { GSS_S_CONTINUE_NEEDED, GSS_S_CONTINUE_NEEDED };
-    gss_name_t target;
-    if (gss_import_name(&minor, &service, GSS_C_NT_HOSTBASED_SERVICE, &target) != GSS_S_COMPLETE)
-        fail("no name");
+    gss_name_t target = target_name();
     for (int turn = 0; turn < 100; turn++) {
         int end = turn % 2;
         gss_buffer_t in = &tokens[1 - end], out = &tokens[end];
@@ -263,21 +286,14 @@ static int converse(const char *folder, const char *own, const char *peer)
     return majors[0] == GSS_S_COMPLETE && majors[1] == GSS_S_COMPLETE ? 0 : 1;
 }
 
-static int offer(const char *path, const char *own, const char *reply)
+static int offer(const char *path, const char *own, const char *next)
 {
     static unsigned char token[LIMIT];
-    char beside[4096];
     gss_cred_id_t acceptor = credential(own, GSS_C_ACCEPT);
     gss_ctx_id_t context = GSS_C_NO_CONTEXT;
-    gss_buffer_desc in = wrap(token, load(path, token, sizeof token)), out = { 0, NULL };
-    struct span inner;
-    OM_uint32 major;
-    snprintf(beside, sizeof beside, "%s.spnego", path);
-    save(beside, in.value, in.length);
-    major = accept_token(acceptor, &context, &in, &out, 0);
-    inner = unwrap(&out);
-    if (is_negoex(inner))
-        save(reply, inner.at, inner.length);
+    gss_buffer_desc in = wrap_first(token, load(path, token, sizeof token)), out = { 0, NULL };
+    OM_uint32 major = accept_token(acceptor, &context, &in, &out, 0);
+    save_inner(next, &out);
     return GSS_ERROR(major) ? 1 : 0;
 }
 
@@ -293,8 +309,8 @@ static size_t message_length(const unsigned char *at, size_t left)
     return stored < 40 ? 40 : stored > left ? left : stored;
 }
 
-/* Signs the VERIFY at `at` of the reply as an acceptor does, with the key of mech.c: all that comes before is signed, and the
-   checksum goes to `value`. */
+/* Signs the VERIFY at `at` of the reply as MIT's acceptor does, with key usage 23 and the key of mech.c: all that comes before
+   is signed, and the checksum goes to `value`. Where the environment has CAPTURE_DAMAGE one bit of it is changed. */
 static void sign(struct span first, unsigned char *reply, size_t at, unsigned char *value)
 {
     unsigned char octets[16];
@@ -305,11 +321,11 @@ static void sign(struct span first, unsigned char *reply, size_t at, unsigned ch
     for (size_t k = 0; k < sizeof octets; k++)
         octets[k] = (unsigned char)(k + 1);
     if (before_it.data == NULL || krb5_init_context(&context) != 0)
-        fail("no checksum can be made");
+        fail("no checksum can be made", "");
     memcpy(before_it.data, first.at, first.length);
     memcpy(before_it.data + first.length, reply, at);
     if (krb5_c_make_checksum(context, CKSUMTYPE_HMAC_MD5_ARCFOUR, &key, 23, &before_it, &made) != 0 || made.length != 16)
-        fail("no checksum was made");
+        fail("MIT's library makes no checksum", "");
     memcpy(value, made.contents, 16);
     if (getenv("CAPTURE_DAMAGE") != NULL)
         value[0] ^= 1;
@@ -318,7 +334,9 @@ static void sign(struct span first, unsigned char *reply, size_t at, unsigned ch
     free(before_it.data);
 }
 
-/* Makes a first token's messages those of a reply to `first`; one of another conversation stays so. */
+/* Makes a first token's messages those of a reply to `first`: types 0, 2 and 5 become the acceptor's 1, 3 and 4, the numbers go on
+   from the first token's, the conversation becomes the first token's (a message of another one stays so), and a VERIFY is
+   signed anew. */
 static void turn_round(unsigned char *token, size_t length, struct span first)
 {
     static const unsigned char kinds[] = { 1, 1, 3, 3, 4, 4, 6, 7 };
@@ -341,29 +359,26 @@ static void turn_round(unsigned char *token, size_t length, struct span first)
     }
 }
 
-static int answer(const char *path, const char *own, const char *next)
+static int answer(const char *path, const char *own, const char *first_path, const char *reply_path, const char *next)
 {
     static unsigned char token[LIMIT];
     size_t length = load(path, token, sizeof token);
     gss_cred_id_t initiator = credential(own, GSS_C_INITIATE);
     gss_ctx_id_t context = GSS_C_NO_CONTEXT;
-    gss_buffer_desc first = { 0, NULL }, in, out = { 0, NULL }, service = { 12, "host@example" };
-    gss_name_t target;
-    struct span inner;
-    OM_uint32 minor, major;
-    if (gss_import_name(&minor, &service, GSS_C_NT_HOSTBASED_SERVICE, &target) != GSS_S_COMPLETE)
-        fail("no name");
-    if (initiate(initiator, &context, target, GSS_C_NO_BUFFER, &first, 0) != GSS_S_CONTINUE_NEEDED)
-        fail("no first token");
-    inner = unwrap(&first);
-    if (!is_negoex(inner) || inner.length < 40)
-        fail("no NEGOEX in the first token");
-    turn_round(token, length, inner);
+    gss_buffer_desc sent = { 0, NULL }, in, out = { 0, NULL };
+    gss_name_t target = target_name();
+    struct span first;
+    OM_uint32 major;
+    if (initiate(initiator, &context, target, GSS_C_NO_BUFFER, &sent, 0) != GSS_S_CONTINUE_NEEDED)
+        fail("MIT's initiator makes no first token", "");
+    first = save_inner(first_path, &sent);
+    if (first.length == 0)
+        fail("no NEGOEX in the first token of MIT's initiator", "");
+    turn_round(token, length, first);
+    save(reply_path, token, length);
     in = wrap_reply(token, length);
     major = initiate(initiator, &context, target, &in, &out, 2);
-    inner = unwrap(&out);
-    if (is_negoex(inner))
-        save(next, inner.at, inner.length);
+    save_inner(next, &out);
     return GSS_ERROR(major) ? 1 : 0;
 }
 
@@ -373,8 +388,8 @@ int main(int count, char **words)
         return converse(words[2], words[3], words[4]);
     if (count == 5 && strcmp(words[1], "offer") == 0)
         return offer(words[2], words[3], words[4]);
-    if (count == 5 && strcmp(words[1], "answer") == 0)
-        return answer(words[2], words[3], words[4]);
-    fail("usage: drive converse DIR OWN PEER | drive offer FILE OWN REPLY | drive answer FILE OWN NEXT");
+    if (count == 7 && strcmp(words[1], "answer") == 0)
+        return answer(words[2], words[3], words[4], words[5], words[6]);
+    fail("usage: drive converse FOLDER OWN PEER | drive offer TOKEN OWN NEXT | drive answer TOKEN OWN FIRST REPLY NEXT", "");
     return 2;
 }

@@ -43,6 +43,7 @@ struct context {
     int open;        /* tokens are still to come */
 };
 
+/* The one credential and the one name that there are: only their addresses count. */
 static int credential, name;
 
 __attribute__((constructor)) static void fill_mechs(void)
