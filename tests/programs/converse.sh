@@ -1,10 +1,10 @@
 #!/bin/sh
 # What `converse` and the front door answer to odd scripts. Prints one line for each failure, and last how many cases there were.
 set -u
-cd "$(dirname "$0")/.." || exit 1
+cd "$(dirname "$0")/../.." || exit 1
 root=$PWD
 converse=$root/target/bin/converse
-[ -x "$converse" ] || { echo "tests/converse.sh: target/bin/converse is not built" >&2; exit 1; }
+[ -x "$converse" ] || { echo "tests/programs/converse.sh: target/bin/converse is not built" >&2; exit 1; }
 work=$(mktemp -d) || exit 1
 trap 'rm -rf "$work"' EXIT
 data=$root/crates/scripts/data
@@ -18,7 +18,7 @@ expect() {
     cases=$((cases + 1))
     if [ "$2" != "$3" ]; then
         failures=$((failures + 1))
-        printf 'tests/converse.sh: %s: got "%s", and not "%s"\n' "$1" "$(printf '%s' "$2" | head -c 300)" "$3" >&2
+        printf 'tests/programs/converse.sh: %s: got "%s", and not "%s"\n' "$1" "$(printf '%s' "$2" | head -c 300)" "$3" >&2
     fi
 }
 
@@ -123,5 +123,5 @@ expect 'a missing script: status' "$?" 1
 expect 'a missing script: output' "$got" ''
 expect 'a missing script: line' "$(cat "$work/errors")" "negoex: no such file: $work/missing"
 
-printf 'tests/converse.sh: %d cases, %d failed\n' "$cases" "$failures"
+printf 'tests/programs/converse.sh: %d cases, %d failed\n' "$cases" "$failures"
 [ "$failures" -eq 0 ]

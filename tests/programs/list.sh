@@ -1,10 +1,10 @@
 #!/bin/sh
 # What `list` and the front door answer to odd input. Prints one line for each failure, and last how many cases there were.
 set -u
-cd "$(dirname "$0")/.." || exit 1
+cd "$(dirname "$0")/../.." || exit 1
 root=$PWD
 list=$root/target/bin/list
-[ -x "$list" ] || { echo "tests/list.sh: target/bin/list is not built" >&2; exit 1; }
+[ -x "$list" ] || { echo "tests/programs/list.sh: target/bin/list is not built" >&2; exit 1; }
 work=$(mktemp -d) || exit 1
 trap 'rm -rf "$work"' EXIT
 example=$root/crates/list/data/example
@@ -17,7 +17,7 @@ expect() {
     cases=$((cases + 1))
     if [ "$2" != "$3" ]; then
         failures=$((failures + 1))
-        printf 'tests/list.sh: %s: got "%s", and not "%s"\n' "$1" "$2" "$3" >&2
+        printf 'tests/programs/list.sh: %s: got "%s", and not "%s"\n' "$1" "$2" "$3" >&2
     fi
 }
 
@@ -84,5 +84,5 @@ expect 'a missing kit: status' "$?" 1
 expect 'a missing kit: line' "$got" "negoex: the Rattle kit's command 'rt' is not in PATH"
 expect 'help' "$(./negoex help | head -n 1)" 'usage: ./negoex list [FILE]       list the NEGOEX token in FILE, or in the bundled example'
 
-printf 'tests/list.sh: %d cases, %d failed\n' "$cases" "$failures"
+printf 'tests/programs/list.sh: %d cases, %d failed\n' "$cases" "$failures"
 [ "$failures" -eq 0 ]
