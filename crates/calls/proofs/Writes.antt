@@ -20,7 +20,7 @@ use Rattle.conversation.specs.declared.Record.{Record}
 use Rattle.conversation.specs.declared.Answer.{Answer}
 use Rattle.conversation.specs.Turns.{typeOf, placeAfter, mayWrite}
 use Rattle.conversation.specs.Outcomes.{Outcome, WrittenAs, answered, decide, row, fits, wrote, unchanged, appended}
-use Rattle.conversation.specs.Writing.{heading, messageOf, stageRows}
+use Rattle.conversation.specs.Writing.{heading, messageOf, stageRows, thenFits}
 use Rattle.conversation.proofs.Rows.{without}
 use Rattle.calls.specs.Calls.{writeRefusal, Inside, Ready, Appended}
 use Rattle.calls.proofs.Refusals.{call-refused, call-passed, passed-inside, passed-room, measured}
@@ -74,7 +74,7 @@ write-ready r d kind rows size n n-is z sure c s ids e f =
 
 -- a call that writes a message, with the tests of its own between 18 and 16
 abbrev pub called : Record → List ℕ → ℕ → List Row → Contents → Outcome → Outcome
-called r d kind rows c action = decide (stageRows r kind ++ (rows ++ (fits r d (length (messageOf r kind c)) ∷ []))) r d action
+called r d kind rows c action = decide (stageRows r kind ++ thenFits rows r d (messageOf r kind c)) r d action
 
 module _ (r : Record) (arrays : Sized r) (d : List ℕ) (kind : ℕ) (rows : List Row) (c : Contents) (size : ℕ) (whole : Inside r → AllTrue rows → Whole c × (sizeOf c ≡ size)) (n : ℕ) (n-is : n ≡ writeRefusal r kind rows size (length d)) where
   by-length : (action : Outcome) → decide (stageRows r kind ++ (rows ++ (fits r d size ∷ []))) r d action ≡ called r d kind rows c action

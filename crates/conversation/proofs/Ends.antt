@@ -25,7 +25,7 @@ use Rattle.conversation.specs.declared.Scan.{Scan}
 use Rattle.conversation.specs.State.{ownOf, limitRows, fresh}
 use Rattle.conversation.specs.Turns.{NEGO, writing, reading, kindOf, after, writes, reads, placeAfter, mayWrite, mayRead}
 use Rattle.conversation.specs.Outcomes.{Outcome, zeroId, answered, row, fits, WrittenAs, unchanged, wrote, appended}
-use Rattle.conversation.specs.Writing.{stageRows, offered, offerRows, offering, someLeft, firstOr, replyMessage, naming, replying, opening}
+use Rattle.conversation.specs.Writing.{stageRows, thenFits, offered, offerRows, offering, someLeft, firstOr, replyMessage, naming, replying, opening}
 use Rattle.conversation.specs.Admitting.{listedBy}
 use Rattle.conversation.specs.Reading.{conversationOf, whole, judged, commonAfter, keptAfter, taken}
 use Rattle.conversation.specs.Choosing.{openTo, mayChoose, chose, choosing}
@@ -175,7 +175,7 @@ module _ (o : Opening) (Q : ℕ → Type 0)
       ini-offer : (random : Sized 32) → IniGoal (offer random) no17 (offering r d (random .0))
       unfolding offering
       ini-offer random =
-          let more : List Row = offerRows r d (random .0) in
+          let more : List Row = thenFits (offerRows r) r d (offered r (random .0)) in
           decide-out (IniGoal (offer random) no17) (stageRows r NEGO ++ more) r d (appended r d (placeAfter r NEGO) (offered r (random .0)) (unchanged r))
           (stopped e IniOk beside ok tg (offer random) (stageRows r NEGO ++ more) refl refl)
           (λ g. record {

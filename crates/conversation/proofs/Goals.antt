@@ -21,7 +21,7 @@ use Rattle.conversation.specs.declared.Scan.{Scan}
 use Rattle.conversation.specs.State.{limitRows}
 use Rattle.conversation.specs.Turns.{NEGO, METADATA, EXCHANGE, VERIFY, ALERT, afterOpening, afterFurther, after, reads, placeAfter, mayWrite, mayRead}
 use Rattle.conversation.specs.Outcomes.{Outcome, answered, refused, decide, row, room, WrittenAs, wrote, appended}
-use Rattle.conversation.specs.Writing.{stageRows, someLeft, metadataRows, metadataMessage, writingMetadata, namedRows, exchangeMessage, writingExchange, verifyMessage, writingVerify, alertMessage, writingAlert}
+use Rattle.conversation.specs.Writing.{stageRows, thenFits, someLeft, metadataRows, metadataMessage, writingMetadata, namedRows, exchangeMessage, writingExchange, verifyMessage, writingVerify, alertMessage, writingAlert}
 use Rattle.conversation.specs.Reading.{Judged, whole, halted, judged, taken, finish, tokenRows, readingToken}
 use Rattle.conversation.specs.Runs.{Sized, Call, metadata, exchange, verify, alert, read, End, turnAfter, moved}
 use Rattle.conversation.proofs.Rows.{decide-out, without, fails-other, true-behind}
@@ -109,12 +109,13 @@ module _ (e : End) (Inv : End → Type 0) (Tog : ℕ → Type 0) where
 
     -- a message that begins no turn
     module _ (more : (kind : ℕ) (w : WrittenAs) (x d′ : List ℕ) → NotFirst kind → mayWrite r kind ≡ true → Inv (record { record-of = wrote r (placeAfter r kind) (length x) w; transcript = d′; turn = e .turn ++ x })) where
-      write : (k : Call) (kind : ℕ) (rows : List Row) (x : List ℕ) (w : WrittenAs) → NotFirst kind → turnAfter e k ≡ e .turn ++ x → without 0 rows ≡ true → without 17 rows ≡ true → Goal k no17 (decide (stageRows r kind ++ rows) r d (appended r d (placeAfter r kind) x w))
+      write : (k : Call) (kind : ℕ) (rows : List Row) (x : List ℕ) (w : WrittenAs) → NotFirst kind → turnAfter e k ≡ e .turn ++ x
+          → without 0 (thenFits rows r d x) ≡ true → without 17 (thenFits rows r d x) ≡ true → Goal k no17 (decide (stageRows r kind ++ thenFits rows r d x) r d (appended r d (placeAfter r kind) x w))
       write k kind rows x w nf t z s =
-          decide-out (Goal k no17) (stageRows r kind ++ rows) r d (appended r d (placeAfter r kind) x w)
-          (stopped k (stageRows r kind ++ rows) z s)
+          let table : List Row = stageRows r kind ++ thenFits rows r d x in
+          decide-out (Goal k no17) table r d (appended r d (placeAfter r kind) x w) (stopped k table z s)
           (λ g. record {
-            then-ok = rw t (more kind w x (put d (r .used) x) nf (true-behind (limitRows r) (row 18 (mayWrite r kind)) rows g));
+            then-ok = rw t (more kind w x (put d (r .used) x) nf (true-behind (limitRows r) (row 18 (mayWrite r kind)) (thenFits rows r d x) g));
             then-together = tg;
             fair = λ q. omega arith;
           })
@@ -122,22 +123,22 @@ module _ (e : End) (Inv : End → Type 0) (Tog : ℕ → Type 0) where
       pub metadata-goal : (id : Sized 16) (value : List ℕ) → Goal (metadata id value) no17 (writingMetadata r d (id .0) value)
       unfolding writingMetadata
       metadata-goal id value =
-          write (metadata id value) METADATA (metadataRows r d (id .0) value) (metadataMessage r (id .0) value) _ metadata-not-first refl refl refl
+          write (metadata id value) METADATA (metadataRows r (id .0) (length value)) (metadataMessage r (id .0) value) _ metadata-not-first refl refl refl
 
       pub exchange-goal : (value : List ℕ) → Goal (exchange value) no17 (writingExchange r d value)
       unfolding writingExchange
       exchange-goal value =
-          write (exchange value) EXCHANGE (namedRows r d (exchangeMessage r value)) (exchangeMessage r value) _ exchange-not-first refl refl refl
+          write (exchange value) EXCHANGE (namedRows r) (exchangeMessage r value) _ exchange-not-first refl refl refl
 
       pub verify-goal : (type : ℤ) (value : List ℕ) → Goal (verify type value) no17 (writingVerify r d type value)
       unfolding writingVerify
       verify-goal type value =
-          write (verify type value) VERIFY (namedRows r d (verifyMessage r type value)) (verifyMessage r type value) _ verify-not-first refl refl refl
+          write (verify type value) VERIFY (namedRows r) (verifyMessage r type value) _ verify-not-first refl refl refl
 
       pub alert-goal : (code : ℤ) → Goal (alert code) no17 (writingAlert r d code)
       unfolding writingAlert
       alert-goal code =
-          write (alert code) ALERT (namedRows r d (alertMessage r code)) (alertMessage r code) _ alert-not-first refl refl refl
+          write (alert code) ALERT (namedRows r) (alertMessage r code) _ alert-not-first refl refl refl
 
     -- a reading of the other end's turn so far
     module _ (peer : List ℕ) (reads-on : (n : ℕ) (c : Scan) (d′ : List ℕ) → mayRead r ≡ true → judged r peer ≡ whole n c → Inv (record { record-of = taken r peer n c; transcript = d′; turn = [] }) × Tog (reads r + 1)) where

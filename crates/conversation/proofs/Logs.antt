@@ -25,7 +25,7 @@ use Rattle.conversation.specs.declared.Scan.{Scan}
 use Rattle.conversation.specs.State.{ownOf, schemeAt, replied, limitRows, fresh}
 use Rattle.conversation.specs.Turns.{FIRST, ANSWER, NEGO, METADATA, EXCHANGE, VERIFY, ALERT, typeOf, writes, reads, placeAfter, mayRead}
 use Rattle.conversation.specs.Outcomes.{Outcome, zeroId, answered, refused, decide, row, room, fits, WrittenAs, unchanged, wrote, appended}
-use Rattle.conversation.specs.Writing.{heading, messageOf, stageRows, offering, someLeft, replyMessage, naming, replying, metadataAllowed, metadataMessage, writingMetadata, schemeNow, startsWith, schemeAllowed, exchangeMessage, askedBy, writingExchange, verifyMessage, writingVerify, alertMessage, writingAlert}
+use Rattle.conversation.specs.Writing.{heading, messageOf, stageRows, thenFits, offerRows, offering, someLeft, replyMessage, naming, replying, metadataAllowed, metadataMessage, metadataRows, writingMetadata, schemeNow, startsWith, schemeAllowed, namedRows, exchangeMessage, askedBy, writingExchange, verifyMessage, writingVerify, alertMessage, writingAlert}
 use Rattle.conversation.specs.Reading.{conversationOf, startOf, Judged, whole, halted, chainFor, judged, taken, finish, readingToken}
 use Rattle.conversation.specs.Choosing.{openTo, mayChoose, chose, choosing}
 use Rattle.conversation.specs.Runs.{Sized, Call, offer, reply, metadata, exchange, verify, alert, read, choose, End, act, turnAfter, moved, World, world, next, ends}
@@ -153,12 +153,12 @@ module _ (e f : End) (le lf : List (List ℕ)) (ok : Sound (e .record-of) (e .tr
 
   writes-call : (k : Call) (kind : ℕ) (rows : List Row) (c : Contents) (w : WrittenAs)
       → added e (f .turn) k ≡ messageOf r kind c ∷ [] → turnAfter e k ≡ e .turn ++ messageOf r kind c
-      → without 0 (stageRows r kind ++ (rows ++ (fits r d (length (messageOf r kind c)) ∷ []))) ≡ true
-      → (AllTrue (stageRows r kind ++ (rows ++ (fits r d (length (messageOf r kind c)) ∷ []))) → Given c w)
-      → Goal k (decide (stageRows r kind ++ (rows ++ (fits r d (length (messageOf r kind c)) ∷ []))) r d (appended r d (placeAfter r kind) (messageOf r kind c) w))
+      → without 0 (stageRows r kind ++ thenFits rows r d (messageOf r kind c)) ≡ true
+      → (AllTrue (stageRows r kind ++ thenFits rows r d (messageOf r kind c)) → Given c w)
+      → Goal k (decide (stageRows r kind ++ thenFits rows r d (messageOf r kind c)) r d (appended r d (placeAfter r kind) (messageOf r kind c) w))
   writes-call k kind rows c w adds turns z given =
-      decide-out (Goal k) (stageRows r kind ++ (rows ++ (fits r d (length (messageOf r kind c)) ∷ []))) r d (appended r d (placeAfter r kind) (messageOf r kind c) w)
-      (stopped k (stageRows r kind ++ (rows ++ (fits r d (length (messageOf r kind c)) ∷ []))) z)
+      let table : List Row = stageRows r kind ++ thenFits rows r d (messageOf r kind c) in
+      decide-out (Goal k) table r d (appended r d (placeAfter r kind) (messageOf r kind c) w) (stopped k table z)
       (λ g.
       let v = given g in
       let a = writes-message kind (placeAfter r kind) c w (v .whole) (v .marks) (v .told) (true-behind (stageRows r kind ++ rows) (fits r d (length (messageOf r kind c))) [] g) in
@@ -174,7 +174,7 @@ module _ (e f : End) (le lf : List (List ℕ)) (ok : Sound (e .record-of) (e .tr
   offers : (random : Sized 32) → Goal (offer random) (offering r d (random .0))
   unfolding offering
   offers random =
-      writes-call (offer random) NEGO (row 18 (not (r .acceptor)) ∷ []) (ofNego (record { random = random .0; schemes = take (16 * r .count) (r .list) })) (unchanged r) refl refl refl
+      writes-call (offer random) NEGO (offerRows r) (ofNego (record { random = random .0; schemes = take (16 * r .count) (r .list) })) (unchanged r) refl refl refl
       (λ g. record { whole = random .1; marks = marks-here; told = told-here })
 
   replies : (m : ℕ) (random : Sized 32) → Goal (reply m random) (replying r d m (random .0))
@@ -195,7 +195,7 @@ module _ (e f : End) (le lf : List (List ℕ)) (ok : Sound (e .record-of) (e .tr
   tells : (id : Sized 16) (value : List ℕ) → Goal (metadata id value) (writingMetadata r d (id .0) value)
   unfolding writingMetadata
   tells id value =
-      writes-call (metadata id value) METADATA (row 19 (leb 1 (length value)) ∷ row 15 (metadataAllowed r (id .0)) ∷ []) (ofExchange (record { scheme = id .0; value = value }))
+      writes-call (metadata id value) METADATA (metadataRows r (id .0) (length value)) (ofExchange (record { scheme = id .0; value = value }))
       (record { marks = r .marks; told = r .told + 2 ^ place (ownOf r) (id .0); asked = r .asked; verified = r .verified }) refl refl refl
       (λ g. record {
         whole = id .1;
@@ -210,21 +210,21 @@ module _ (e f : End) (le lf : List (List ℕ)) (ok : Sound (e .record-of) (e .tr
   exchanges : (value : List ℕ) → Goal (exchange value) (writingExchange r d value)
   unfolding writingExchange
   exchanges value =
-      writes-call (exchange value) EXCHANGE (row 15 (schemeAllowed r) ∷ []) (ofExchange (record { scheme = schemeAt r (schemeNow r); value = value }))
+      writes-call (exchange value) EXCHANGE (namedRows r) (ofExchange (record { scheme = schemeAt r (schemeNow r); value = value }))
       (record { marks = r .marks; told = r .told; asked = askedBy r; verified = r .verified }) refl refl refl
       (λ g. record { whole = now-whole EXCHANGE (fits r d (length (exchangeMessage r value)) ∷ []) g; marks = marks-here; told = told-here })
 
   verifies : (type : ℤ) (value : List ℕ) → Goal (verify type value) (writingVerify r d type value)
   unfolding writingVerify
   verifies type value =
-      writes-call (verify type value) VERIFY (row 15 (schemeAllowed r) ∷ []) (ofVerify (record { scheme = schemeAt r (schemeNow r); type = type; value = value }))
+      writes-call (verify type value) VERIFY (namedRows r) (ofVerify (record { scheme = schemeAt r (schemeNow r); type = type; value = value }))
       (record { marks = r .marks; told = r .told; asked = r .asked; verified = true }) refl refl refl
       (λ g. record { whole = now-whole VERIFY (fits r d (length (verifyMessage r type value)) ∷ []) g; marks = marks-here; told = told-here })
 
   alerts : (code : ℤ) → Goal (alert code) (writingAlert r d code)
   unfolding writingAlert
   alerts code =
-      writes-call (alert code) ALERT (row 15 (schemeAllowed r) ∷ []) (ofAlert (record { scheme = schemeAt r (schemeNow r); code = code })) (unchanged r) refl refl refl
+      writes-call (alert code) ALERT (namedRows r) (ofAlert (record { scheme = schemeAt r (schemeNow r); code = code })) (unchanged r) refl refl refl
       (λ g. record { whole = now-whole ALERT (fits r d (length (alertMessage r code)) ∷ []) g; marks = marks-here; told = told-here })
 
   -- 3. a token, read

@@ -21,7 +21,7 @@ use Rattle.conversation.specs.declared.Scan.{Scan}
 use Rattle.conversation.specs.State.{ownOf, limitRows}
 use Rattle.conversation.specs.Turns.{NEGO, METADATA, EXCHANGE, VERIFY, ALERT, writing, reading, after, writes, placeAfter, mayWrite}
 use Rattle.conversation.specs.Outcomes.{Outcome, answered, refused, decide, row, room, fits, WrittenAs, appended, wrote}
-use Rattle.conversation.specs.Writing.{stageRows, offered, offerRows, offering, someLeft, replyMessage, replyRows, naming, replying, metadataMessage, metadataRows, writingMetadata, namedRows, exchangeMessage, writingExchange, verifyMessage, writingVerify, alertMessage, writingAlert}
+use Rattle.conversation.specs.Writing.{stageRows, thenFits, offered, offerRows, offering, someLeft, replyMessage, replyRows, naming, replying, metadataMessage, metadataRows, writingMetadata, namedRows, exchangeMessage, writingExchange, verifyMessage, writingVerify, alertMessage, writingAlert}
 use Rattle.conversation.specs.Reading.{Judged, whole, halted, judged, taken, finish, tokenRows, readingToken}
 use Rattle.conversation.specs.Choosing.{openTo, mayChoose, choiceRows, chose, choosing}
 use Rattle.conversation.specs.Runs.{Sized, Call, offer, reply, metadata, exchange, verify, alert, read, choose, End, act, Opening, World, world, outcomeAt, next, Entry, run, marksIn, isAccepted}
@@ -76,12 +76,13 @@ module _ (x : Bool) (r : Record) (d : List ℕ) (role : r .acceptor ≡ x) where
   wrote-stays true kind n w h (inr s) = inr s
   wrote-stays false kind n w h s = s
 
-  write : (k : Call) (kind : ℕ) (rows : List Row) (m : List ℕ) (w : WrittenAs) → (WithMarks k → ⊥) → without 0 rows ≡ true → Goes k (decide (stageRows r kind ++ rows) r d (appended r d (placeAfter r kind) m w))
+  write : (k : Call) (kind : ℕ) (rows : List Row) (m : List ℕ) (w : WrittenAs) → (WithMarks k → ⊥) → without 0 (thenFits rows r d m) ≡ true → Goes k (decide (stageRows r kind ++ thenFits rows r d m) r d (appended r d (placeAfter r kind) m w))
   write k kind rows m w plain z =
-      decide-out (Goes k) (stageRows r kind ++ rows) r d (appended r d (placeAfter r kind) m w) (stopped k (stageRows r kind ++ rows) z)
+      let table : List Row = stageRows r kind ++ thenFits rows r d m in
+      decide-out (Goes k) table r d (appended r d (placeAfter r kind) m w) (stopped k table z)
       (λ g. record {
         role = role;
-        stays = wrote-stays x kind (length m) w (true-behind (limitRows r) (row 18 (mayWrite r kind)) rows g);
+        stays = wrote-stays x kind (length m) w (true-behind (limitRows r) (row 18 (mayWrite r kind)) (thenFits rows r d m) g);
         spends = λ m a. absurd (plain m);
       })
 
@@ -102,10 +103,10 @@ module _ (x : Bool) (r : Record) (d : List ℕ) (role : r .acceptor ≡ x) where
       let l : List Id = left (ownOf r) (r .common) m in
       let rest : List Row = row 19 (below (r .count) m) ∷ row 17 (someLeft l) ∷ fits r d (length (replyMessage r m (random .0))) ∷ [] in
       let w : WrittenAs = record { marks = m; told = r .told; asked = r .asked; verified = r .verified } in
-      decide-out (Goes (reply m random)) (stageRows r NEGO ++ replyRows r d m (random .0)) r d (naming l (appended r d (placeAfter r NEGO) (replyMessage r m (random .0)) w))
-      (stopped (reply m random) (stageRows r NEGO ++ replyRows r d m (random .0)) refl)
+      decide-out (Goes (reply m random)) (stageRows r NEGO ++ thenFits (replyRows r m) r d (replyMessage r m (random .0))) r d (naming l (appended r d (placeAfter r NEGO) (replyMessage r m (random .0)) w))
+      (stopped (reply m random) (stageRows r NEGO ++ thenFits (replyRows r m) r d (replyMessage r m (random .0))) refl)
       (λ g.
-      let h = true-behind (limitRows r) (row 18 (mayWrite r NEGO)) (replyRows r d m (random .0)) g in
+      let h = true-behind (limitRows r) (row 18 (mayWrite r NEGO)) (thenFits (replyRows r m) r d (replyMessage r m (random .0))) g in
       record {
         role = role;
         stays = wrote-stays x NEGO (length (replyMessage r m (random .0))) w h;
@@ -149,20 +150,20 @@ behind : (x : Bool) (e : End) (peer : List ℕ) (k : Call) → e .record-of .acc
 unfolding act offering writingMetadata writingExchange writingVerify writingAlert
 behind x e peer (offer random) h =
     write x (e .record-of) (e .transcript) h (offer random) NEGO
-    (offerRows (e .record-of) (e .transcript) (random .0)) (offered (e .record-of) (random .0)) _ (λ m. m) refl
+    (offerRows (e .record-of)) (offered (e .record-of) (random .0)) _ (λ m. m) refl
 behind x e peer (reply m random) h = write-reply x (e .record-of) (e .transcript) h m random
 behind x e peer (metadata id value) h =
     write x (e .record-of) (e .transcript) h (metadata id value) METADATA
-    (metadataRows (e .record-of) (e .transcript) (id .0) value) (metadataMessage (e .record-of) (id .0) value) _ (λ m. m) refl
+    (metadataRows (e .record-of) (id .0) (length value)) (metadataMessage (e .record-of) (id .0) value) _ (λ m. m) refl
 behind x e peer (exchange value) h =
     write x (e .record-of) (e .transcript) h (exchange value) EXCHANGE
-    (namedRows (e .record-of) (e .transcript) (exchangeMessage (e .record-of) value)) (exchangeMessage (e .record-of) value) _ (λ m. m) refl
+    (namedRows (e .record-of)) (exchangeMessage (e .record-of) value) _ (λ m. m) refl
 behind x e peer (verify type value) h =
     write x (e .record-of) (e .transcript) h (verify type value) VERIFY
-    (namedRows (e .record-of) (e .transcript) (verifyMessage (e .record-of) type value)) (verifyMessage (e .record-of) type value) _ (λ m. m) refl
+    (namedRows (e .record-of)) (verifyMessage (e .record-of) type value) _ (λ m. m) refl
 behind x e peer (alert code) h =
     write x (e .record-of) (e .transcript) h (alert code) ALERT
-    (namedRows (e .record-of) (e .transcript) (alertMessage (e .record-of) code)) (alertMessage (e .record-of) code) _ (λ m. m) refl
+    (namedRows (e .record-of)) (alertMessage (e .record-of) code) _ (λ m. m) refl
 behind x e peer read h = read-goes x (e .record-of) (e .transcript) h peer
 behind x e peer (choose m) h = choose-goes x (e .record-of) (e .transcript) h m
 
@@ -291,12 +292,12 @@ module _ (e : End) (peer : List ℕ) where
 
   verified-stays : (k : Call) → r .verified ≡ true → act e peer k .answer .next .verified ≡ true
   unfolding act offering replying writingMetadata writingExchange writingVerify writingAlert readingToken choosing
-  verified-stays (offer random) h = marked-behind (stageRows r NEGO ++ offerRows r d (random .0)) _ h h
-  verified-stays (reply m random) h = marked-behind (stageRows r NEGO ++ replyRows r d m (random .0)) _ h h
-  verified-stays (metadata id value) h = marked-behind (stageRows r METADATA ++ metadataRows r d (id .0) value) _ h h
-  verified-stays (exchange value) h = marked-behind (stageRows r EXCHANGE ++ namedRows r d (exchangeMessage r value)) _ h h
-  verified-stays (verify type value) h = marked-behind (stageRows r VERIFY ++ namedRows r d (verifyMessage r type value)) _ h refl
-  verified-stays (alert code) h = marked-behind (stageRows r ALERT ++ namedRows r d (alertMessage r code)) _ h h
+  verified-stays (offer random) h = marked-behind (stageRows r NEGO ++ thenFits (offerRows r) r d (offered r (random .0))) _ h h
+  verified-stays (reply m random) h = marked-behind (stageRows r NEGO ++ thenFits (replyRows r m) r d (replyMessage r m (random .0))) _ h h
+  verified-stays (metadata id value) h = marked-behind (stageRows r METADATA ++ thenFits (metadataRows r (id .0) (length value)) r d (metadataMessage r (id .0) value)) _ h h
+  verified-stays (exchange value) h = marked-behind (stageRows r EXCHANGE ++ thenFits (namedRows r) r d (exchangeMessage r value)) _ h h
+  verified-stays (verify type value) h = marked-behind (stageRows r VERIFY ++ thenFits (namedRows r) r d (verifyMessage r type value)) _ h refl
+  verified-stays (alert code) h = marked-behind (stageRows r ALERT ++ thenFits (namedRows r) r d (alertMessage r code)) _ h h
   verified-stays read h = marked-behind (limitRows r ++ tokenRows r peer) _ h (finish-verified (judged r peer) h)
   verified-stays (choose m) h = marked-behind (limitRows r ++ choiceRows r m) _ h h
 
@@ -304,9 +305,9 @@ module _ (e : End) (peer : List ℕ) where
   verify-spends : (k : Call) → IsVerify k → isAccepted (act e peer k .answer) ≡ true → (r .verified ≡ true → ⊥) × (act e peer k .answer .next .verified ≡ true)
   unfolding act writingVerify after
   verify-spends (verify type value) s =
-      decide-out (λ out. isAccepted (out .answer) ≡ true → (r .verified ≡ true → ⊥) × (out .answer .next .verified ≡ true)) (stageRows r VERIFY ++ namedRows r d (verifyMessage r type value)) r d _
-      (λ n f a. no-true (sym (ne-eqb n 0 (fails-other 0 (stageRows r VERIFY ++ namedRows r d (verifyMessage r type value)) n refl f)) ∙ a))
-      (λ g a. ((λ v. no-true (rw v at (true-behind (limitRows r) (row 18 (mayWrite r VERIFY)) (namedRows r d (verifyMessage r type value)) g))), refl))
+      decide-out (λ out. isAccepted (out .answer) ≡ true → (r .verified ≡ true → ⊥) × (out .answer .next .verified ≡ true)) (stageRows r VERIFY ++ thenFits (namedRows r) r d (verifyMessage r type value)) r d _
+      (λ n f a. no-true (sym (ne-eqb n 0 (fails-other 0 (stageRows r VERIFY ++ thenFits (namedRows r) r d (verifyMessage r type value)) n refl f)) ∙ a))
+      (λ g a. ((λ v. no-true (rw v at (true-behind (limitRows r) (row 18 (mayWrite r VERIFY)) (thenFits (namedRows r) r d (verifyMessage r type value)) g))), refl))
 
 pub verify-once : (o : Opening) (cs : List (Bool × Call)) (x : Bool) (y z : Entry) → List·Memᴰ y (run (world o) cs) → List·Memᴰ z (run (world o) cs) → At IsVerify x y → At IsVerify x z → y ≡ z
 verify-once o cs x y z =

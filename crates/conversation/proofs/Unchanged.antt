@@ -13,7 +13,7 @@ use Rattle.schemes.specs.Sets.{left, named}
 use Rattle.conversation.specs.State.{ownOf, limitRows}
 use Rattle.conversation.specs.Turns.{NEGO, METADATA, EXCHANGE, VERIFY, ALERT, placeAfter}
 use Rattle.conversation.specs.Outcomes.{Outcome, answered, decide, room, WrittenAs, unchanged, appended}
-use Rattle.conversation.specs.Writing.{stageRows, offered, offerRows, replyMessage, replyRows, naming, metadataMessage, metadataRows, namedRows, exchangeMessage, askedBy, verifyMessage, alertMessage, offering, replying, writingMetadata, writingExchange, writingVerify, writingAlert}
+use Rattle.conversation.specs.Writing.{stageRows, thenFits, offered, offerRows, replyMessage, replyRows, naming, metadataMessage, metadataRows, namedRows, exchangeMessage, askedBy, verifyMessage, alertMessage, offering, replying, writingMetadata, writingExchange, writingVerify, writingAlert}
 use Rattle.conversation.specs.Reading.{Judged, whole, halted, judged, finish, tokenRows, readingToken}
 use Rattle.conversation.specs.Choosing.{openTo, choiceRows, chose, choosing}
 use Rattle.conversation.specs.Runs.{Call, offer, reply, metadata, exchange, verify, alert, read, choose, End, act}
@@ -52,21 +52,21 @@ module _ (e : End) (peer : List ℕ) where
   pub refused-unchanged : (k : Call) → Unchanged r d (act e peer k)
   unfolding act offering replying writingMetadata writingExchange writingVerify writingAlert readingToken choosing
   refused-unchanged (offer random) =
-      wrote-unchanged (stageRows r NEGO ++ offerRows r d (random .0)) r d (placeAfter r NEGO) (offered r (random .0)) (unchanged r)
+      wrote-unchanged (stageRows r NEGO ++ thenFits (offerRows r) r d (offered r (random .0))) r d (placeAfter r NEGO) (offered r (random .0)) (unchanged r)
   refused-unchanged (reply m random) =
-      named-unchanged (stageRows r NEGO ++ replyRows r d m (random .0)) r d
+      named-unchanged (stageRows r NEGO ++ thenFits (replyRows r m) r d (replyMessage r m (random .0))) r d
       (left (ownOf r) (r .common) m) (appended r d (placeAfter r NEGO) (replyMessage r m (random .0)) (record { marks = m; told = r .told; asked = r .asked; verified = r .verified })) refl
   refused-unchanged (metadata id value) =
-      wrote-unchanged (stageRows r METADATA ++ metadataRows r d (id .0) value) r d (placeAfter r METADATA) (metadataMessage r (id .0) value)
+      wrote-unchanged (stageRows r METADATA ++ thenFits (metadataRows r (id .0) (length value)) r d (metadataMessage r (id .0) value)) r d (placeAfter r METADATA) (metadataMessage r (id .0) value)
       (record { marks = r .marks; told = r .told + 2 ^ place (ownOf r) (id .0); asked = r .asked; verified = r .verified })
   refused-unchanged (exchange value) =
-      wrote-unchanged (stageRows r EXCHANGE ++ namedRows r d (exchangeMessage r value)) r d (placeAfter r EXCHANGE) (exchangeMessage r value)
+      wrote-unchanged (stageRows r EXCHANGE ++ thenFits (namedRows r) r d (exchangeMessage r value)) r d (placeAfter r EXCHANGE) (exchangeMessage r value)
       (record { marks = r .marks; told = r .told; asked = askedBy r; verified = r .verified })
   refused-unchanged (verify type value) =
-      wrote-unchanged (stageRows r VERIFY ++ namedRows r d (verifyMessage r type value)) r d (placeAfter r VERIFY) (verifyMessage r type value)
+      wrote-unchanged (stageRows r VERIFY ++ thenFits (namedRows r) r d (verifyMessage r type value)) r d (placeAfter r VERIFY) (verifyMessage r type value)
       (record { marks = r .marks; told = r .told; asked = r .asked; verified = true })
   refused-unchanged (alert code) =
-      wrote-unchanged (stageRows r ALERT ++ namedRows r d (alertMessage r code)) r d (placeAfter r ALERT) (alertMessage r code) (unchanged r)
+      wrote-unchanged (stageRows r ALERT ++ thenFits (namedRows r) r d (alertMessage r code)) r d (placeAfter r ALERT) (alertMessage r code) (unchanged r)
   refused-unchanged read =
       decided (limitRows r ++ tokenRows r peer) r d (finish r d peer (judged r peer)) (finished r d peer (judged r peer))
   refused-unchanged (choose m) =

@@ -3,12 +3,13 @@
 -- Glossary
 --   heading            the common fields of the next message; messageOf: the next message of a kind, with its contents
 --   stageRows          18, in front of every writer's table
---   offering           INITIATOR_NEGO: record, transcript and arguments in, outcome out; offered: its message; offerRows: the rest of its table
+--   thenFits           a writer's own tests, and 16 behind them
+--   offering           INITIATOR_NEGO: record, transcript and arguments in, outcome out; offered: its message; offerRows: its own tests
 --   replying           ACCEPTOR_NEGO; replyMessage, replyRows: the same for it
 --   someLeft, firstOr  of the schemes left: whether there is one, and the first, zeros where there is none
 --   chosenBy, naming   an answer, and an outcome, that names the first of the schemes left and their number
---   writingMetadata    metadata; metadataAllowed: 15; metadataMessage, metadataRows: its message and table
---   schemeNow r        the own place of the rule's scheme for an exchange, VERIFY or ALERT; schemeAllowed: 15; namedRows: their table
+--   writingMetadata    metadata; metadataAllowed: 15; metadataMessage, metadataRows: its message and own tests
+--   schemeNow r        the own place of the rule's scheme for an exchange, VERIFY or ALERT; schemeAllowed: 15; namedRows: their own tests
 --   startsWith l id    id is the first of l
 --   firstOfReply r     the AP_REQUEST's scheme is the first of the reply
 --   writingExchange    AP_REQUEST or CHALLENGE; exchangeMessage: its message; askedBy: the AP_REQUEST that the record then keeps
@@ -43,16 +44,21 @@ messageOf r kind c = encoded (heading r kind) c
 abbrev pub stageRows : Record → ℕ → List Row
 stageRows r kind = limitRows r ++ (row 18 (mayWrite r kind) ∷ [])
 
+-- "Other calls check 18, 19, 15, 17, 16.": 16 is the last of a writer's tests
+abbrev pub thenFits : List Row → Record → List ℕ → List ℕ → List Row
+thenFits rows r d message = rows ++ (fits r d (length message) ∷ [])
+
 -- "The initiator writes into its NEGO its whole own list, in its order."
 abbrev pub offered : Record → List ℕ → List ℕ
 offered r random = messageOf r NEGO (ofNego (record { random = random; schemes = take (16 * r .count) (r .list) }))
 
-abbrev pub offerRows : Record → List ℕ → List ℕ → List Row
-offerRows r d random = row 18 (not (r .acceptor)) ∷ fits r d (length (offered r random)) ∷ []
+abbrev pub offerRows : Record → List Row
+offerRows r = row 18 (not (r .acceptor)) ∷ []
 
 unfoldable pub offering : Record → List ℕ → List ℕ → Outcome
 offering r d random =
-    decide (stageRows r NEGO ++ offerRows r d random) r d (appended r d (placeAfter r NEGO) (offered r random) (unchanged r))
+    decide (stageRows r NEGO ++ thenFits (offerRows r) r d (offered r random)) r d
+    (appended r d (placeAfter r NEGO) (offered r random) (unchanged r))
 
 abbrev pub someLeft : List Id → Bool
 someLeft [] = false
@@ -73,17 +79,13 @@ chosenBy a l = record { refusal = a .refusal; place = a .place; messages = a .me
 abbrev pub naming : List Id → Outcome → Outcome
 naming l o = record { answer = chosenBy (o .answer) l; transcript = o .transcript }
 
-abbrev pub replyRows : Record → List ℕ → ℕ → List ℕ → List Row
-replyRows r d m random =
-    row 18 (r .acceptor)
-    ∷ row 19 (below (r .count) m)
-    ∷ row 17 (someLeft (left (ownOf r) (r .common) m))
-    ∷ fits r d (length (replyMessage r m random))
-    ∷ []
+-- 19: "marks beyond the list"; 17: "no common scheme is left after the end's own marks"
+abbrev pub replyRows : Record → ℕ → List Row
+replyRows r m = row 18 (r .acceptor) ∷ row 19 (below (r .count) m) ∷ row 17 (someLeft (left (ownOf r) (r .common) m)) ∷ []
 
 unfoldable pub replying : Record → List ℕ → ℕ → List ℕ → Outcome
 replying r d m random =
-    decide (stageRows r NEGO ++ replyRows r d m random) r d
+    decide (stageRows r NEGO ++ thenFits (replyRows r m) r d (replyMessage r m random)) r d
     (naming (left (ownOf r) (r .common) m)
     (appended r d (placeAfter r NEGO) (replyMessage r m random) (record { marks = m; told = r .told; asked = r .asked; verified = r .verified })))
 
@@ -94,12 +96,13 @@ metadataAllowed r id = mem id (cond (r .acceptor) (replied r) (ownOf r)) && not 
 abbrev pub metadataMessage : Record → Id → List ℕ → List ℕ
 metadataMessage r id value = messageOf r METADATA (ofExchange (record { scheme = id; value = value }))
 
-abbrev pub metadataRows : Record → List ℕ → Id → List ℕ → List Row
-metadataRows r d id value = row 19 (leb 1 (length value)) ∷ row 15 (metadataAllowed r id) ∷ fits r d (length (metadataMessage r id value)) ∷ []
+-- 19: "empty metadata to write", by its length
+abbrev pub metadataRows : Record → Id → ℕ → List Row
+metadataRows r id size = row 19 (leb 1 size) ∷ row 15 (metadataAllowed r id) ∷ []
 
 unfoldable pub writingMetadata : Record → List ℕ → Id → List ℕ → Outcome
 writingMetadata r d id value =
-    decide (stageRows r METADATA ++ metadataRows r d id value) r d
+    decide (stageRows r METADATA ++ thenFits (metadataRows r id (length value)) r d (metadataMessage r id value)) r d
     (appended r d (placeAfter r METADATA) (metadataMessage r id value)
     (record { marks = r .marks; told = r .told + 2 ^ place (ownOf r) id; asked = r .asked; verified = r .verified }))
 
@@ -119,9 +122,9 @@ firstOfReply r = ltb (r .asked) (r .count) && startsWith (replied r) (schemeAt r
 abbrev pub schemeAllowed : Record → Bool
 schemeAllowed r = cond (eqb (writes r) ANSWER) (firstOfReply r) (ltb (schemeNow r) (r .count))
 
--- of an exchange, VERIFY or ALERT, by its message
-abbrev pub namedRows : Record → List ℕ → List ℕ → List Row
-namedRows r d message = row 15 (schemeAllowed r) ∷ fits r d (length message) ∷ []
+-- of an exchange, VERIFY or ALERT
+abbrev pub namedRows : Record → List Row
+namedRows r = row 15 (schemeAllowed r) ∷ []
 
 abbrev pub exchangeMessage : Record → List ℕ → List ℕ
 exchangeMessage r value = messageOf r EXCHANGE (ofExchange (record { scheme = schemeAt r (schemeNow r); value = value }))
@@ -132,7 +135,7 @@ askedBy r = cond (eqb (writes r) FIRST) 0 (r .asked)
 
 unfoldable pub writingExchange : Record → List ℕ → List ℕ → Outcome
 writingExchange r d value =
-    decide (stageRows r EXCHANGE ++ namedRows r d (exchangeMessage r value)) r d
+    decide (stageRows r EXCHANGE ++ thenFits (namedRows r) r d (exchangeMessage r value)) r d
     (appended r d (placeAfter r EXCHANGE) (exchangeMessage r value)
     (record { marks = r .marks; told = r .told; asked = askedBy r; verified = r .verified }))
 
@@ -141,7 +144,7 @@ verifyMessage r type value = messageOf r VERIFY (ofVerify (record { scheme = sch
 
 unfoldable pub writingVerify : Record → List ℕ → ℤ → List ℕ → Outcome
 writingVerify r d type value =
-    decide (stageRows r VERIFY ++ namedRows r d (verifyMessage r type value)) r d
+    decide (stageRows r VERIFY ++ thenFits (namedRows r) r d (verifyMessage r type value)) r d
     (appended r d (placeAfter r VERIFY) (verifyMessage r type value)
     (record { marks = r .marks; told = r .told; asked = r .asked; verified = true }))
 
@@ -150,7 +153,7 @@ alertMessage r code = messageOf r ALERT (ofAlert (record { scheme = schemeAt r (
 
 unfoldable pub writingAlert : Record → List ℕ → ℤ → Outcome
 writingAlert r d code =
-    decide (stageRows r ALERT ++ namedRows r d (alertMessage r code)) r d
+    decide (stageRows r ALERT ++ thenFits (namedRows r) r d (alertMessage r code)) r d
     (appended r d (placeAfter r ALERT) (alertMessage r code) (unchanged r))
 
 -- "Opening takes a role, an own list and, for the initiator, the conversation id; it answers a fresh record with nothing used, or 19 and no record."

@@ -19,11 +19,11 @@ use Rattle.conversation.specs.declared.Answer.{Answer}
 use Rattle.conversation.specs.State.{ownOf, limitRows}
 use Rattle.conversation.specs.Outcomes.{Outcome, answered}
 use Rattle.conversation.specs.Writing.{firstOr, chosenBy, naming}
-use Rattle.conversation.specs.Choosing.{openTo, firstPlace, chose, mayChoose, choosing}
+use Rattle.conversation.specs.Choosing.{openTo, firstPlace, chose, mayChoose, choiceRows, choosing}
 use Rattle.calls.specs.Calls.{callRefusal}
 use Rattle.calls.proofs.Refusals.{limits-inside, limits-stop, limits-within, limits-on, call-refused, call-given, call-passed}
 use Rattle.calls.proofs.Lefts.{kept-inside, open-none, open-some, open-count, open-first}
-use Rattle.negotiating.specs.Negotiating.{choiceRows, ChoiceReady}
+use Rattle.negotiating.specs.Negotiating.{ChoiceReady}
 
 module _ (r : Record) (m n : ℕ) (n-is : n ≡ firstFailing (limitRows r)) where
   module _ (z : n ≡ 0) where

@@ -13,12 +13,11 @@ use Rattle.conversation.specs.declared.Record.{Record}
 use Rattle.conversation.specs.declared.Answer.{Answer}
 use Rattle.conversation.specs.Turns.{typeOf}
 use Rattle.conversation.specs.Outcomes.{Outcome, answered, unchanged}
-use Rattle.conversation.specs.Writing.{offering}
+use Rattle.conversation.specs.Writing.{offerRows, offering}
 use Rattle.calls.specs.Calls.{roomFor, stageRefusal, writeRefusal, Inside, Ready, Appended}
 use Rattle.calls.proofs.Refusals.{stage-inside, write-stage, write-on, passed-inside}
 use Rattle.calls.proofs.Sizes.{Sized}
 use Rattle.calls.proofs.Writes.{write-refused, write-ready, write-written}
-use Rattle.negotiating.specs.Negotiating.{offerRows}
 
 module _ (r : Record) (len n : ℕ) (n-is : n ≡ stageRefusal r 1) (z : n ≡ 0) where
   pub offer-size : 16 * r .count < 18446744073709551616

@@ -24,13 +24,13 @@ use Rattle.conversation.specs.declared.Answer.{Answer}
 use Rattle.conversation.specs.State.{ownOf}
 use Rattle.conversation.specs.Turns.{typeOf, placeAfter}
 use Rattle.conversation.specs.Outcomes.{Outcome, answered, row, appended}
-use Rattle.conversation.specs.Writing.{someLeft, replyMessage, naming, replying}
+use Rattle.conversation.specs.Writing.{someLeft, replyMessage, replyRows, naming, replying}
 use Rattle.calls.specs.Calls.{roomFor, stageRefusal, writeRefusal, Inside, Ready, Appended}
 use Rattle.calls.proofs.Refusals.{stage-inside, write-stage, write-on, passed-inside, passed-own}
 use Rattle.calls.proofs.Sizes.{Sized}
 use Rattle.calls.proofs.Writes.{changed, write-refused, write-ready, write-passed}
 use Rattle.calls.proofs.Lefts.{own-count, own-none, own-some, own-place, own-first, left-less}
-use Rattle.negotiating.specs.Negotiating.{replyRows, ReplyReady}
+use Rattle.negotiating.specs.Negotiating.{ReplyReady}
 
 abbrev listed : Record → ℕ → List Id
 listed r m = left (ownOf r) (r .common) m

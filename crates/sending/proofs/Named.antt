@@ -13,12 +13,11 @@ use Rattle.conversation.specs.declared.Answer.{Answer}
 use Rattle.conversation.specs.State.{schemeAt}
 use Rattle.conversation.specs.Turns.{typeOf, placeAfter}
 use Rattle.conversation.specs.Outcomes.{Outcome, WrittenAs, answered, unchanged, wrote, appended}
-use Rattle.conversation.specs.Writing.{messageOf, schemeNow, schemeAllowed, askedBy, writingExchange, writingVerify, writingAlert}
+use Rattle.conversation.specs.Writing.{messageOf, schemeNow, schemeAllowed, namedRows, askedBy, writingExchange, writingVerify, writingAlert}
 use Rattle.calls.specs.Calls.{roomFor, stageRefusal, writeRefusal, Inside, Ready, Appended}
 use Rattle.calls.proofs.Refusals.{write-stage, write-on, passed-inside, passed-own}
 use Rattle.calls.proofs.Sizes.{Sized}
 use Rattle.calls.proofs.Writes.{changed, called, write-refused, write-ready, write-written}
-use Rattle.sending.specs.Sending.{namedRows}
 use Rattle.sending.proofs.Schemes.{own-id, allowed-inside}
 
 module _ (r : Record) (kind size len n : ℕ) (n-is : n ≡ stageRefusal r kind) (z : n ≡ 0) (b : Bool) (b-is : b ≡ schemeAllowed r) where

@@ -22,13 +22,12 @@ use Rattle.conversation.specs.declared.Answer.{Answer}
 use Rattle.conversation.specs.State.{ownOf, replied}
 use Rattle.conversation.specs.Turns.{typeOf}
 use Rattle.conversation.specs.Outcomes.{Outcome, answered, row}
-use Rattle.conversation.specs.Writing.{metadataAllowed, writingMetadata}
+use Rattle.conversation.specs.Writing.{metadataAllowed, metadataRows, writingMetadata}
 use Rattle.calls.specs.Calls.{roomFor, stageRefusal, writeRefusal, Inside, Ready, Appended}
 use Rattle.calls.proofs.Refusals.{write-stage, write-on, passed-inside, passed-own}
 use Rattle.calls.proofs.Sizes.{Sized}
 use Rattle.calls.proofs.Writes.{changed, write-refused, write-ready, write-written}
 use Rattle.calls.proofs.Replies.{left-mem}
-use Rattle.sending.specs.Sending.{metadataRows}
 
 -- ---- where a scheme stands
 pub place-most : (l : List Id) (s : Id) → place l s ≤ length l

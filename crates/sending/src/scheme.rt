@@ -2,9 +2,8 @@
 ghost use mathlib.Core.Path.{_≡_};
 ghost use Prim.Native.Nat.{_+_, _≤_, _<_};
 ghost use Rattle.conversation.specs.State.{schemeAt};
-ghost use Rattle.conversation.specs.Writing.{schemeNow, firstOfReply, schemeAllowed};
+ghost use Rattle.conversation.specs.Writing.{schemeNow, firstOfReply, schemeAllowed, namedRows};
 ghost use Rattle.calls.specs.Calls.{writeRefusal, Inside};
-ghost use Rattle.sending.specs.Sending.{namedRows};
 use calls::has_room;
 use calls::stage_refusal;
 use conversation::Record;
