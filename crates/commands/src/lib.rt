@@ -7,17 +7,17 @@ use calls::answer;
 use conversation::Answer;
 use conversation::Record;
 use negotiating::choice::choose;
-use negotiating::offer::write_offer;
 use negotiating::opening::open;
-use negotiating::reply::write_reply;
 use octets::to_i32;
 use put::put_octets;
 use receiving::read;
 use script::Command;
-use sending::alert::write_alert;
-use sending::exchange::write_exchange;
-use sending::metadata::write_metadata;
-use sending::verify::write_verify;
+use sending_alert::write_alert;
+use sending_exchange::exchange::write_exchange;
+use sending_exchange::metadata::write_metadata;
+use sending_nego::offer::write_offer;
+use sending_nego::reply::write_reply;
+use sending_verify::write_verify;
 use vector::TokenPlace;
 
 // MARKS as a set of 16 bits: four digits are no more.

@@ -23,7 +23,7 @@ use Rattle.conversation.specs.Choosing.{openTo, firstPlace, chose, mayChoose, c
 use Rattle.calls.specs.Calls.{callRefusal}
 use Rattle.calls.proofs.Refusals.{limits-inside, limits-stop, limits-within, limits-on, call-refused, call-given, call-passed}
 use Rattle.calls.proofs.Lefts.{kept-inside, open-none, open-some, open-count, open-first}
-use Rattle.negotiating.specs.Negotiating.{ChoiceReady}
+use Rattle.negotiating.specs.Ready.{ChoiceReady}
 
 module _ (r : Record) (m n : ℕ) (n-is : n ≡ firstFailing (limitRows r)) where
   module _ (z : n ≡ 0) where

@@ -1,4 +1,2 @@
 pub mod Openings
-pub mod Offering
-pub mod Replying
 pub mod Choices

@@ -1,1 +1,1 @@
-pub mod Negotiating
+pub mod Ready

@@ -7,7 +7,7 @@ ghost use Rattle.conversation.specs.Outcomes.{answered};
 ghost use Rattle.conversation.specs.Writing.{chosenBy};
 ghost use Rattle.conversation.specs.Choosing.{openTo, choiceRows, chose, choosing};
 ghost use Rattle.calls.specs.Calls.{callRefusal};
-ghost use Rattle.negotiating.specs.Negotiating.{ChoiceReady};
+ghost use Rattle.negotiating.specs.Ready.{ChoiceReady};
 use calls::answer;
 use calls::naming;
 use conversation::Answer;

@@ -1,5 +1,3 @@
-// Negotiating: opening an end, both ends' NEGO, and the initiator's choice.
+// Opening an end, and the initiator's choice.
 pub mod choice;
-pub mod offer;
 pub mod opening;
-pub mod reply;

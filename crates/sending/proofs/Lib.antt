@@ -1,3 +1,2 @@
 pub mod Schemes
 pub mod Named
-pub mod Tellings

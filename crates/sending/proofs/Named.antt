@@ -5,19 +5,18 @@ use mathlib.Core.Path.{_≡_, refl, ap, _∙_}
 use mathlib.Core.Bool.{Bool, true, false}
 use mathlib.Core.List.{List}
 use lib.ListN.{length}
-use lib.IntN.{ℤ}
 use Rattle.message.proofs.Tables.{AllTrue}
-use Rattle.encode.specs.Encode.{Whole, Contents, ofExchange, ofVerify, ofAlert, sizeOf}
+use Rattle.encode.specs.Encode.{Whole, Contents, sizeOf}
 use Rattle.conversation.specs.declared.Record.{Record}
 use Rattle.conversation.specs.declared.Answer.{Answer}
 use Rattle.conversation.specs.State.{schemeAt}
-use Rattle.conversation.specs.Turns.{typeOf, placeAfter}
+use Rattle.conversation.specs.Turns.{placeAfter}
 use Rattle.conversation.specs.Outcomes.{Outcome, WrittenAs, answered, unchanged, wrote, appended}
-use Rattle.conversation.specs.Writing.{messageOf, schemeNow, schemeAllowed, namedRows, askedBy, writingExchange, writingVerify, writingAlert}
-use Rattle.calls.specs.Calls.{roomFor, stageRefusal, writeRefusal, Inside, Ready, Appended}
+use Rattle.conversation.specs.Writing.{messageOf, schemeNow, schemeAllowed, namedRows}
+use Rattle.calls.specs.Calls.{roomFor, stageRefusal, writeRefusal, Inside, Appended}
 use Rattle.calls.proofs.Refusals.{write-stage, write-on, passed-inside, passed-own}
 use Rattle.calls.proofs.Sizes.{Sized}
-use Rattle.calls.proofs.Writes.{changed, called, write-refused, write-ready, write-written}
+use Rattle.calls.proofs.Writes.{changed, called, write-refused, write-written}
 use Rattle.sending.proofs.Schemes.{own-id, allowed-inside}
 
 module _ (r : Record) (kind size len n : ℕ) (n-is : n ≡ stageRefusal r kind) (z : n ≡ 0) (b : Bool) (b-is : b ≡ schemeAllowed r) where
@@ -46,72 +45,9 @@ module _ (r : Record) (arrays : Sized r) (d : List ℕ) (kind : ℕ) (of : List 
   whole : Inside r → AllTrue (namedRows r) → Whole contents × (sizeOf contents ≡ sizeOf contents)
   whole i t = (whole-of _ (own-id r arrays (i .few) (schemeNow r) (allowed-inside r (t .0))), refl)
 
-  named-refused : (n ≡ 0 → ⊥) → (a : Answer) → a ≡ answered n 0 r → (action : Outcome) → _≡_ {A = Outcome} (record { answer = a; transcript = d }) (called r d kind (namedRows r) contents action)
+  pub named-refused : (n ≡ 0 → ⊥) → (a : Answer) → a ≡ answered n 0 r → (action : Outcome) → _≡_ {A = Outcome} (record { answer = a; transcript = d }) (called r d kind (namedRows r) contents action)
   named-refused = write-refused r arrays d kind (namedRows r) contents (sizeOf contents) whole n n-is
 
-  named-written : n ≡ 0 → (w : Record → WrittenAs) (s : List ℕ) → s ≡ schemeAt r (schemeNow r) → (v : Contents) → v ≡ of s → (d' : List ℕ) (next : Record) → Appended r d kind v d' next → (a : Answer) → a ≡ answered 0 0 (changed next (w next))
+  pub named-written : n ≡ 0 → (w : Record → WrittenAs) (s : List ℕ) → s ≡ schemeAt r (schemeNow r) → (v : Contents) → v ≡ of s → (d' : List ℕ) (next : Record) → Appended r d kind v d' next → (a : Answer) → a ≡ answered 0 0 (changed next (w next))
       → _≡_ {A = Outcome} (record { answer = a; transcript = d' }) (called r d kind (namedRows r) contents (appended r d (placeAfter r kind) (messageOf r kind contents) (w (wrote r (placeAfter r kind) (length (messageOf r kind contents)) (unchanged r)))))
   named-written z w s s-is v v-is = write-written r arrays d kind (namedRows r) contents (sizeOf contents) whole n n-is z refl w v (v-is ∙ ap of s-is)
-
--- ---- AP_REQUEST and CHALLENGE
-module _ (r : Record) (arrays : Sized r) (d value : List ℕ) (n : ℕ) (n-is : n ≡ writeRefusal r 3 (namedRows r) (64 + length value) (length d)) where
-  abbrev exchange : List ℕ → Contents
-  exchange s = ofExchange (record { scheme = s; value = value })
-
-  pub exchange-refused : (n ≡ 0 → ⊥) → (a : Answer) → a ≡ answered n 0 r → _≡_ {A = Outcome} (record { answer = a; transcript = d }) (writingExchange r d value)
-  unfolding writingExchange
-  exchange-refused h a a-is = named-refused r arrays d 3 exchange (λ s l. l) n n-is h a a-is _
-
-  module _ (z : n ≡ 0) where
-    pub exchange-ready : (s : List ℕ) → Ready r d 3 (exchange s)
-    unfolding typeOf
-    exchange-ready s = write-ready r d 3 (namedRows r) (64 + length value) n n-is z refl (exchange s) refl tt refl refl
-
-    module _ (s : List ℕ) (s-is : s ≡ schemeAt r (schemeNow r)) where
-      pub exchange-written : (k : ℕ) → k ≡ askedBy r → (d' : List ℕ) (next : Record) → Appended r d 3 (exchange s) d' next → (a : Answer)
-          → a ≡ answered 0 0 (changed next (record { marks = next .marks; told = next .told; asked = k; verified = next .verified }))
-          → _≡_ {A = Outcome} (record { answer = a; transcript = d' }) (writingExchange r d value)
-      unfolding writingExchange
-      exchange-written k k-is d' next y a a-is =
-          named-written r arrays d 3 exchange (λ s l. l) n n-is z (λ q. record { marks = q .marks; told = q .told; asked = askedBy r; verified = q .verified }) s s-is (exchange s) refl d' next y a (a-is ∙ rw k-is)
-
--- ---- VERIFY
-module _ (r : Record) (arrays : Sized r) (d : List ℕ) (type : ℤ) (value : List ℕ) (n : ℕ) (n-is : n ≡ writeRefusal r 4 (namedRows r) (80 + length value) (length d)) where
-  abbrev checksum : List ℕ → Contents
-  checksum s = ofVerify (record { scheme = s; type = type; value = value })
-
-  pub verify-refused : (n ≡ 0 → ⊥) → (a : Answer) → a ≡ answered n 0 r → _≡_ {A = Outcome} (record { answer = a; transcript = d }) (writingVerify r d type value)
-  unfolding writingVerify
-  verify-refused h a a-is = named-refused r arrays d 4 checksum (λ s l. l) n n-is h a a-is _
-
-  module _ (z : n ≡ 0) where
-    pub verify-ready : (s : List ℕ) → Ready r d 4 (checksum s)
-    unfolding typeOf
-    verify-ready s = write-ready r d 4 (namedRows r) (80 + length value) n n-is z refl (checksum s) refl tt refl refl
-
-    module _ (s : List ℕ) (s-is : s ≡ schemeAt r (schemeNow r)) (t : ℤ) (t-is : t ≡ type) where
-      pub verify-written : (d' : List ℕ) (next : Record) → Appended r d 4 (ofVerify (record { scheme = s; type = t; value = value })) d' next → (a : Answer)
-          → a ≡ answered 0 0 (changed next (record { marks = next .marks; told = next .told; asked = next .asked; verified = true }))
-          → _≡_ {A = Outcome} (record { answer = a; transcript = d' }) (writingVerify r d type value)
-      unfolding writingVerify
-      verify-written = named-written r arrays d 4 checksum (λ s l. l) n n-is z (λ q. record { marks = q .marks; told = q .told; asked = q .asked; verified = true }) s s-is _ (rw t-is)
-
--- ---- ALERT
-module _ (r : Record) (arrays : Sized r) (d : List ℕ) (code : ℤ) (n : ℕ) (n-is : n ≡ writeRefusal r 5 (namedRows r) 92 (length d)) where
-  abbrev pulse : List ℕ → Contents
-  pulse s = ofAlert (record { scheme = s; code = code })
-
-  pub alert-refused : (n ≡ 0 → ⊥) → (a : Answer) → a ≡ answered n 0 r → _≡_ {A = Outcome} (record { answer = a; transcript = d }) (writingAlert r d code)
-  unfolding writingAlert
-  alert-refused h a a-is = named-refused r arrays d 5 pulse (λ s l. l) n n-is h a a-is _
-
-  module _ (z : n ≡ 0) where
-    pub alert-ready : (s : List ℕ) → Ready r d 5 (pulse s)
-    unfolding typeOf
-    alert-ready s = write-ready r d 5 (namedRows r) 92 n n-is z refl (pulse s) refl tt refl refl
-
-    module _ (s : List ℕ) (s-is : s ≡ schemeAt r (schemeNow r)) (t : ℤ) (t-is : t ≡ code) where
-      pub alert-written : (d' : List ℕ) (next : Record) → Appended r d 5 (ofAlert (record { scheme = s; code = t })) d' next → (a : Answer) → a ≡ answered 0 0 next
-          → _≡_ {A = Outcome} (record { answer = a; transcript = d' }) (writingAlert r d code)
-      unfolding writingAlert
-      alert-written = named-written r arrays d 5 pulse (λ s l. l) n n-is z unchanged s s-is _ (rw t-is)

@@ -20,7 +20,7 @@ use Rattle.schemes.proofs.Ids.{length-ids, id-at, mem-place}
 use Rattle.conversation.specs.declared.Record.{Record}
 use Rattle.conversation.specs.State.{ownOf, schemeAt, replied}
 use Rattle.conversation.specs.Turns.{writing, writes}
-use Rattle.conversation.specs.Writing.{someLeft, startsWith, schemeNow, firstOfReply, schemeAllowed, askedBy}
+use Rattle.conversation.specs.Writing.{someLeft, startsWith, schemeNow, firstOfReply, schemeAllowed}
 use Rattle.calls.specs.Calls.{Inside}
 use Rattle.calls.proofs.Sizes.{Sized, own-sized}
 use Rattle.calls.proofs.Lefts.{own-none, own-some, own-place, own-starts}
@@ -29,12 +29,6 @@ module _ (r : Record) (t : ℕ) (t-is : t ≡ writing (r .acceptor) (r .stage)) 
   pub now-first : t ≡ 0 → 0 ≡ schemeNow r
   unfolding schemeNow
   now-first e = rw (← t-is, e)
-
-  pub asked-first : t ≡ 0 → 0 ≡ askedBy r
-  asked-first e = rw (← t-is, e)
-
-  pub asked-later : (t ≡ 0 → ⊥) → r .asked ≡ askedBy r
-  asked-later e = rw (← t-is, ne-eqb _ _ e)
 
   module _ (f : t ≡ 0 → ⊥) where
     pub now-answer : t ≡ 1 → r .asked ≡ schemeNow r
@@ -51,7 +45,7 @@ module _ (r : Record) (t : ℕ) (t-is : t ≡ writing (r .acceptor) (r .stage)) 
   pub allowed-other : (t ≡ 1 → ⊥) → (p : ℕ) → p ≡ schemeNow r → ltb p (r .count) ≡ schemeAllowed r
   allowed-other e p p-is = rw (← t-is, ne-eqb t 1 e, p-is)
 
-pub ruleset nows = (now-first, asked-first, asked-later, now-answer, now-later, allowed-answer, allowed-other)
+pub ruleset nows = (now-first, now-answer, now-later, allowed-answer, allowed-other)
 
 -- an id of the own list has 16 octets
 pub own-id : (r : Record) → Sized r → r .count ≤ 16 → (k : ℕ) → k < r .count → length (schemeAt r k) ≡ 16

@@ -1,0 +1,40 @@
+// ALERT.
+ghost use mathlib.Core.Path.{_≡_};
+ghost use Rattle.encode.specs.Encode.{ofAlert};
+ghost use Rattle.conversation.specs.Turns.{ALERT};
+ghost use Rattle.conversation.specs.Outcomes.{Outcome};
+ghost use Rattle.conversation.specs.Writing.{writingAlert};
+ghost use Rattle.calls.specs.Calls.{Ready, Appended};
+use calls::ALERT;
+use calls::answer;
+use calls::next::after_message;
+use calls::next::heading_of;
+use conversation::Answer;
+use conversation::Record;
+use encode_alert::write;
+use sending::named_refusal;
+use sending::scheme_id;
+use vector::TokenPlace;
+
+// An ALERT at the transcript's end.
+fn append_alert(r: Record, transcript: &mut [u8], id: [u8; 16], code: i32) -> Record
+    requires { ⌜ Ready r (now transcript) ALERT (ofAlert (record { scheme = id; code = code })) ⌝ }
+    ensures { λ a. ⌜ Appended r (now (transcript .entry)) ALERT (ofAlert (record { scheme = id; code = code })) (now (transcript .exit)) a ⌝ }
+{
+    let heading = heading_of(r, ALERT);
+    write(transcript, r.used, heading, id, code);
+    after_message(r, ALERT, 92)
+}
+
+// Writes an ALERT of the chosen scheme: an error code, with a pulse.
+pub fn write_alert(r: Record, transcript: &mut [u8], code: i32) -> Answer
+    ensures { λ a. ⌜ _≡_ {A = Outcome} (record { answer = a; transcript = now (transcript .exit) }) (writingAlert r (now (transcript .entry)) code) ⌝ }
+{
+    let n = named_refusal(r, ALERT, 92, 0, transcript.len());
+    if n != 0 {
+        return answer(n, TokenPlace(0), r);
+    }
+    let id = scheme_id(r);
+    let next = append_alert(r, transcript, id, code);
+    answer(0, TokenPlace(0), next)
+}

@@ -1,0 +1,59 @@
+// AP_REQUEST and CHALLENGE.
+ghost use mathlib.Core.Path.{_≡_};
+ghost use Rattle.encode.specs.Encode.{ofExchange};
+ghost use Rattle.conversation.specs.Outcomes.{Outcome};
+ghost use Rattle.conversation.specs.Writing.{askedBy, writingExchange};
+ghost use Rattle.calls.specs.Calls.{Ready, Appended};
+use calls::EXCHANGE;
+use calls::answer;
+use calls::next::after_message;
+use calls::next::heading_of;
+use conversation::Answer;
+use conversation::Record;
+use conversation::turns::writing_token;
+use encode_exchange::write;
+use sending::named_refusal;
+use sending::scheme_id;
+use vector::TokenPlace;
+
+// An exchange or metadata at the transcript's end.
+pub(crate) fn append_payload(
+    r: Record,
+    transcript: &mut [u8],
+    kind: u8,
+    id: [u8; 16],
+    value: &[u8],
+) -> Record
+    requires { ⌜ Ready r (now transcript) kind (ofExchange (record { scheme = id; value = now value })) ⌝ }
+    ensures { λ a. ⌜ Appended r (now (transcript .entry)) kind (ofExchange (record { scheme = id; value = now (value .entry) })) (now (transcript .exit)) a ⌝ }
+{
+    let heading = heading_of(r, kind);
+    let n = value.len();
+    write(transcript, r.used, heading, id, value);
+    after_message(r, kind, 64 + n)
+}
+
+// Where an initiator's AP_REQUEST of the first token is kept: it has named place 0.
+fn asked_by(r: Record) -> usize
+    ensures { λ a. ⌜ a ≡ askedBy r ⌝ }
+{
+    if writing_token(r.acceptor, r.stage) == 0 {
+        return 0;
+    }
+    r.asked
+}
+
+// Writes an exchange of the rule's scheme.
+pub fn write_exchange(r: Record, transcript: &mut [u8], value: &[u8]) -> Answer
+    ensures { λ a. ⌜ _≡_ {A = Outcome} (record { answer = a; transcript = now (transcript .exit) }) (writingExchange r (now (transcript .entry)) (now (value .entry))) ⌝ }
+{
+    let n = named_refusal(r, EXCHANGE, 64, value.len(), transcript.len());
+    if n != 0 {
+        return answer(n, TokenPlace(0), r);
+    }
+    let id = scheme_id(r);
+    let asked = asked_by(r);
+    let mut next = append_payload(r, transcript, EXCHANGE, id, value);
+    next.asked = asked;
+    answer(0, TokenPlace(0), next)
+}

@@ -1,0 +1,3 @@
+// Writing metadata, AP_REQUEST and CHALLENGE.
+pub mod exchange;
+pub mod metadata;

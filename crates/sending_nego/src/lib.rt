@@ -1,0 +1,3 @@
+// Writing the NEGO of each end.
+pub mod offer;
+pub mod reply;

@@ -1,0 +1,48 @@
+// VERIFY.
+ghost use mathlib.Core.Path.{_≡_};
+ghost use Rattle.encode.specs.Encode.{ofVerify};
+ghost use Rattle.conversation.specs.Turns.{VERIFY};
+ghost use Rattle.conversation.specs.Outcomes.{Outcome};
+ghost use Rattle.conversation.specs.Writing.{writingVerify};
+ghost use Rattle.calls.specs.Calls.{Ready, Appended};
+use calls::VERIFY;
+use calls::answer;
+use calls::next::after_message;
+use calls::next::heading_of;
+use conversation::Answer;
+use conversation::Record;
+use encode_verify::write;
+use sending::named_refusal;
+use sending::scheme_id;
+use vector::TokenPlace;
+
+// A VERIFY at the transcript's end.
+fn append_verify(
+    r: Record,
+    transcript: &mut [u8],
+    id: [u8; 16],
+    checksum: i32,
+    value: &[u8],
+) -> Record
+    requires { ⌜ Ready r (now transcript) VERIFY (ofVerify (record { scheme = id; type = checksum; value = now value })) ⌝ }
+    ensures { λ a. ⌜ Appended r (now (transcript .entry)) VERIFY (ofVerify (record { scheme = id; type = checksum; value = now (value .entry) })) (now (transcript .exit)) a ⌝ }
+{
+    let heading = heading_of(r, VERIFY);
+    let n = value.len();
+    write(transcript, r.used, heading, id, checksum, value);
+    after_message(r, VERIFY, 80 + n)
+}
+
+// Writes a VERIFY of the chosen scheme: the checksum's type and its value.
+pub fn write_verify(r: Record, transcript: &mut [u8], checksum: i32, value: &[u8]) -> Answer
+    ensures { λ a. ⌜ _≡_ {A = Outcome} (record { answer = a; transcript = now (transcript .exit) }) (writingVerify r (now (transcript .entry)) checksum (now (value .entry))) ⌝ }
+{
+    let n = named_refusal(r, VERIFY, 80, value.len(), transcript.len());
+    if n != 0 {
+        return answer(n, TokenPlace(0), r);
+    }
+    let id = scheme_id(r);
+    let mut next = append_verify(r, transcript, id, checksum, value);
+    next.verified = true;
+    answer(0, TokenPlace(0), next)
+}
