@@ -145,7 +145,7 @@ module _ (e : End) (Inv : End → Type 0) (Tog : ℕ → Type 0) where
       pub read-goal : Goal read no17 (readingToken r d peer)
       unfolding readingToken
       read-goal =
-          let rows : List Row = limitRows r ++ tokenRows r peer in
+          let rows : List Row = limitRows r ++ tokenRows r (length peer) in
           decide-out (Goal read no17) rows r d (finish r d peer (judged r peer))
           (stopped read rows refl refl)
           (λ g. token (judged r peer) refl (true-behind (limitRows r) (row 18 (mayRead r)) (row 1 (leb (length peer) 65535) ∷ []) g)) where

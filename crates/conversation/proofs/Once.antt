@@ -137,7 +137,7 @@ module _ (x : Bool) (r : Record) (d : List ℕ) (role : r .acceptor ≡ x) where
   read-goes : (t : List ℕ) → Goes read (readingToken r d t)
   unfolding readingToken
   read-goes t =
-      let rows : List Row = limitRows r ++ tokenRows r t in
+      let rows : List Row = limitRows r ++ tokenRows r (length t) in
       decide-out (Goes read) rows r d (finish r d t (judged r t)) (stopped read rows refl) (λ g. token (judged r t) refl) where
         token : (j : Judged) → judged r t ≡ j → Goes read (finish r d t j)
         token (halted n p) w = unfold finish in refusal read n p (judged-number r t n p w .0)
@@ -298,7 +298,7 @@ module _ (e : End) (peer : List ℕ) where
   verified-stays (exchange value) h = marked-behind (stageRows r EXCHANGE ++ thenFits (namedRows r) r d (exchangeMessage r value)) _ h h
   verified-stays (verify type value) h = marked-behind (stageRows r VERIFY ++ thenFits (namedRows r) r d (verifyMessage r type value)) _ h refl
   verified-stays (alert code) h = marked-behind (stageRows r ALERT ++ thenFits (namedRows r) r d (alertMessage r code)) _ h h
-  verified-stays read h = marked-behind (limitRows r ++ tokenRows r peer) _ h (finish-verified (judged r peer) h)
+  verified-stays read h = marked-behind (limitRows r ++ tokenRows r (length peer)) _ h (finish-verified (judged r peer) h)
   verified-stays (choose m) h = marked-behind (limitRows r ++ choiceRows r m) _ h h
 
   -- a VERIFY is written where none was, and is then one

@@ -68,7 +68,7 @@ module _ (e : End) (peer : List ℕ) where
   refused-unchanged (alert code) =
       wrote-unchanged (stageRows r ALERT ++ thenFits (namedRows r) r d (alertMessage r code)) r d (placeAfter r ALERT) (alertMessage r code) (unchanged r)
   refused-unchanged read =
-      decided (limitRows r ++ tokenRows r peer) r d (finish r d peer (judged r peer)) (finished r d peer (judged r peer))
+      decided (limitRows r ++ tokenRows r (length peer)) r d (finish r d peer (judged r peer)) (finished r d peer (judged r peer))
   refused-unchanged (choose m) =
       named-unchanged (limitRows r ++ choiceRows r m) r d
       (named (ownOf r) (openTo r m)) (record { answer = answered 0 0 (chose r m); transcript = d }) refl

@@ -9,7 +9,8 @@
 --   chainFor        the chain of a token in a conversation; judged: the token judged
 --   commonAfter     the common set behind a token; keptAfter: the kept places
 --   taken           the record behind an accepted token; takenAs: its answer
---   finish          16, behind all messages; then the record and the transcript
+--   accepted        the outcome of a whole token that has room
+--   finish          16, behind all messages; then that outcome
 --   readingToken    the call: record, transcript and token in, outcome out; tokenRows: 18 and 1
 use Prim.Native.Nat.{ℕ, _+_}
 use mathlib.Core.Bool.{cond}
@@ -90,16 +91,17 @@ taken r t n c = record {
 abbrev pub takenAs : Record → ℕ → Answer
 takenAs r n = record { refusal = 0; place = record { 0 = 0 }; messages = n; choice = zeroId; left = 0; next = r }
 
+-- "each accepted token, is put at its end; no other octet changes"
+abbrev pub accepted : Record → List ℕ → List ℕ → ℕ → Scan → Outcome
+accepted r d t n c = record { answer = takenAs (taken r t n c) n; transcript = put d (r .used) t }
+
 unfoldable pub finish : Record → List ℕ → List ℕ → Judged → Outcome
 finish r d t (halted number place) = refused r d number place
-finish r d t (whole n c) =
-    cond (leb (r .used + length t) (room d))
-    (record { answer = takenAs (taken r t n c) n; transcript = put d (r .used) t })
-    (refused r d 16 0)
+finish r d t (whole n c) = cond (leb (r .used + length t) (room d)) (accepted r d t n c) (refused r d 16 0)
 
--- before any message is looked at
-abbrev pub tokenRows : Record → List ℕ → List Row
-tokenRows r t = row 18 (mayRead r) ∷ row 1 (leb (length t) 65535) ∷ []
+-- before any message is looked at, by the token's length
+abbrev pub tokenRows : Record → ℕ → List Row
+tokenRows r size = row 18 (mayRead r) ∷ row 1 (leb size 65535) ∷ []
 
 unfoldable pub readingToken : Record → List ℕ → List ℕ → Outcome
-readingToken r d t = decide (limitRows r ++ tokenRows r t) r d (finish r d t (judged r t))
+readingToken r d t = decide (limitRows r ++ tokenRows r (length t)) r d (finish r d t (judged r t))

@@ -21,27 +21,27 @@ use Rattle.conversation.specs.State.{limitRows}
 use Rattle.conversation.specs.Turns.{mayRead}
 use Rattle.conversation.specs.Outcomes.{Outcome, answered, row}
 use Rattle.conversation.specs.Admitting.{Admitted, on, stop, admit}
-use Rattle.conversation.specs.Reading.{conversationOf, startOf, Judged, whole, thenJudge, judge, judged, taken, takenAs, finish, readingToken}
+use Rattle.conversation.specs.Reading.{conversationOf, startOf, Judged, whole, thenJudge, judge, judged, taken, takenAs, accepted, finish, tokenRows, readingToken}
 use Rattle.conversation.proofs.Rows.{true-behind}
 use Rattle.conversation.proofs.Tokens.{judged-first}
 use Rattle.receiving.specs.declared.Judgement.{Judgement}
 use Rattle.receiving.specs.declared.Judgement.the-variants as judgement
 use Rattle.calls.specs.Calls.{roomFor, callRefusal, Inside}
 use Rattle.calls.proofs.Refusals.{limits-inside, limits-stop, limits-on, call-refused, call-given, call-passed}
-use Rattle.receiving.specs.Receiving.{judgedAs, Taking, readingRows, Judging, accepted, haltedAs}
+use Rattle.receiving.specs.Receiving.{judgedAs, Taking, Judging, haltedAs}
 
 -- 18 and 1
 module _ (r : Record) (size n : ℕ) (n-is : n ≡ firstFailing (limitRows r)) (z : n ≡ 0) (a : Bool) (a-is : a ≡ mayRead r) where
-  behind : (x : ℕ) → x ≡ firstFailing (readingRows r size) → x ≡ callRefusal r (readingRows r size)
-  behind = limits-on r (readingRows r size) n n-is z
+  behind : (x : ℕ) → x ≡ firstFailing (tokenRows r size) → x ≡ callRefusal r (tokenRows r size)
+  behind = limits-on r (tokenRows r size) n n-is z
 
-  pub before-turn : a ≡ false → 18 ≡ callRefusal r (readingRows r size)
+  pub before-turn : a ≡ false → 18 ≡ callRefusal r (tokenRows r size)
   before-turn e = behind 18 (rw (← a-is, e))
 
-  pub before-long : a ≡ true → 65535 < size → 1 ≡ callRefusal r (readingRows r size)
+  pub before-long : a ≡ true → 65535 < size → 1 ≡ callRefusal r (tokenRows r size)
   before-long e h = behind 1 (rw (← a-is, e, lt-leb _ _ h))
 
-  pub before-none : a ≡ true → size ≤ 65535 → 0 ≡ callRefusal r (readingRows r size)
+  pub before-none : a ≡ true → size ≤ 65535 → 0 ≡ callRefusal r (tokenRows r size)
   before-none e h = behind 0 (rw (← a-is, e, le-leb _ _ h))
 
 pub ruleset befores = (limits-stop, before-turn, before-long, before-none)
@@ -111,17 +111,17 @@ module _ (r : Record) (d t : List ℕ) (j : Judgement) where
 pub ruleset finishes = (halted-answer, whole-answer, accept-is, finish-halted, finish-taking, finish-16, finish-room, finish-accepted)
 
 -- the whole call
-module _ (r : Record) (d t : List ℕ) (n : ℕ) (n-is : n ≡ callRefusal r (readingRows r (length t))) where
+module _ (r : Record) (d t : List ℕ) (n : ℕ) (n-is : n ≡ callRefusal r (tokenRows r (length t))) where
   pub read-refused : (n ≡ 0 → ⊥) → (a : Answer) → a ≡ answered n 0 r → _≡_ {A = Outcome} (record { answer = a; transcript = d }) (readingToken r d t)
   unfolding readingToken
-  read-refused e a a-is = rw a-is (call-refused r (readingRows r (length t)) n n-is d (finish r d t (judged r t)) e)
+  read-refused e a a-is = rw a-is (call-refused r (tokenRows r (length t)) n n-is d (finish r d t (judged r t)) e)
 
   module _ (z : n ≡ 0) where
-    given : AllTrue (limitRows r ++ readingRows r (length t))
-    given = call-given r (readingRows r (length t)) n n-is refl z
+    given : AllTrue (limitRows r ++ tokenRows r (length t))
+    given = call-given r (tokenRows r (length t)) n n-is refl z
 
     pub read-inside : Inside r
-    read-inside = limits-inside r (readingRows r (length t)) given
+    read-inside = limits-inside r (tokenRows r (length t)) given
 
     pub read-short : length t ≤ 65535
     read-short = leb-true _ _ (true-behind (limitRows r ++ (row 18 (mayRead r) ∷ [])) (row 1 (leb (length t) 65535)) [] given)
@@ -132,6 +132,6 @@ module _ (r : Record) (d t : List ℕ) (n : ℕ) (n-is : n ≡ callRefusal r (re
 
       pub read-on : (x : Outcome) → x ≡ finish r d t (judgedAs j) → x ≡ readingToken r d t
       unfolding readingToken
-      read-on x x-is = x-is ∙ ap (finish r d t) j-is ∙ call-passed r (readingRows r (length t)) n n-is refl z d (finish r d t (judged r t))
+      read-on x x-is = x-is ∙ ap (finish r d t) j-is ∙ call-passed r (tokenRows r (length t)) n n-is refl z d (finish r d t (judged r t))
 
 pub ruleset calls = (read-refused, read-inside, read-short, read-judging, read-on)

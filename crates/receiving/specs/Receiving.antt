@@ -6,23 +6,19 @@
 --   Taking r size n  what the record behind a token of n messages relies on
 --   withSets         a record with another common set and other kept places
 --   movedBy          what every accepted token changes in a record
---   readingRows      18 and 1: what is tested behind a record's limits and before any message
 --   Judging          what 16 and the record rely on behind the messages
---   accepted         the outcome of a token that passes 16; haltedAs: the answer to one that is halted
+--   haltedAs         the answer to a token that is halted
 use Prim.Native.Nat.{ℕ, _≤_}
 use mathlib.Core.Path.{_≡_}
-use mathlib.Core.List.{List, [], _∷_}
+use mathlib.Core.List.{List}
 use lib.ListN.{length}
-use lib.Dec.{leb}
-use Rattle.message.specs.Check.{Verdict, read, refused as V·refused, Row}
+use Rattle.message.specs.Check.{Verdict, read, refused as V·refused}
 use Rattle.conversation.specs.declared.Record.{Record}
 use Rattle.conversation.specs.declared.Scan.{Scan}
-use Rattle.conversation.specs.Turns.{mayRead}
 use Rattle.conversation.specs.declared.Answer.{Answer}
-use Rattle.conversation.specs.Outcomes.{Outcome, answered, row}
-use Rattle.put.specs.Put.{put}
+use Rattle.conversation.specs.Outcomes.{answered}
 use Rattle.conversation.specs.Admitting.{Admitted, on, stop}
-use Rattle.conversation.specs.Reading.{Judged, whole, halted, judged, taken, takenAs}
+use Rattle.conversation.specs.Reading.{Judged, whole, halted, judged, taken}
 use Rattle.calls.specs.Calls.{Inside}
 use Rattle.receiving.specs.declared.Judgement.{Judgement}
 use Rattle.receiving.specs.declared.Judgement.the-variants as judgement
@@ -70,18 +66,10 @@ withSets r x k = record {
 abbrev pub movedBy : Record → List ℕ → ℕ → Scan → Record
 movedBy r t n c = withSets (taken r t n c) (r .common) (r .kept)
 
--- "Reading checks 18, 1, then message by message"
-abbrev pub readingRows : Record → ℕ → List Row
-readingRows r size = row 18 (mayRead r) ∷ row 1 (leb size 65535) ∷ []
-
 pub record Judging (r : Record) (t : List ℕ) (j : Judgement) : Type 0 where
   pub inside : Inside r
   pub short : length t ≤ 65535
   pub says : judgedAs j ≡ judged r t
-
--- "each accepted token, is put at its end; no other octet changes"
-abbrev pub accepted : Record → List ℕ → List ℕ → ℕ → Scan → Outcome
-accepted r d t n c = record { answer = takenAs (taken r t n c) n; transcript = put d (r .used) t }
 
 -- a whole token has no refusal, and 0 stands for that
 abbrev pub haltedAs : Record → Judged → Answer

@@ -3,9 +3,9 @@ ghost use mathlib.Core.Path.{_≡_};
 ghost use Prim.Native.Nat.{_+_, _≤_};
 ghost use lib.ListN.{length};
 ghost use Rattle.conversation.specs.Outcomes.{Outcome};
-ghost use Rattle.conversation.specs.Reading.{finish, readingToken};
+ghost use Rattle.conversation.specs.Reading.{accepted, finish, tokenRows, readingToken};
 ghost use Rattle.calls.specs.Calls.{callRefusal};
-ghost use Rattle.receiving.specs.Receiving.{Taking, Judging, judgedAs, readingRows, accepted, haltedAs};
+ghost use Rattle.receiving.specs.Receiving.{Taking, Judging, judgedAs, haltedAs};
 use calls::answer;
 use calls::has_room;
 use conversation::Answer;
@@ -29,7 +29,7 @@ pub enum Judgement {
 
 // 18 and 1: the first that refuses before any message is looked at, or 0.
 fn refusal_before(r: Record, size: usize) -> u32
-    ensures { λ a. ⌜ a ≡ callRefusal r (readingRows r size) ⌝ }
+    ensures { λ a. ⌜ a ≡ callRefusal r (tokenRows r size) ⌝ }
 {
     let number = outside(r);
     if number != 0 {
