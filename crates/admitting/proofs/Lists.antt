@@ -3,21 +3,20 @@
 use Prim.Native.Nat.{ℕ, zero, suc, _+_, _-_, _/_, _<_, _≤_, min}
 use mathlib.Core.Path.{_≡_, refl, sym, ap, _∙_}
 use mathlib.Core.Bool.{Bool, true, false}
-use mathlib.Core.Logic.{_⊎_, inl, inr}
 use mathlib.Core.List.{List, [], _∷_, map}
 use native.Mathlib.Numerals.{sub-one}
 use native.Mathlib.Omega.{arith}
 use lib.ListN.{length, take, drop, length-take, length-drop, drop-of-length-le}
 use lib.Seq.{take-all, length-take-le, ext-getD, getD-take, getD-drop}
+use Rattle.octets.proofs.Slices.{tail-all}
 use Rattle.octets.specs.Octets.{le, octets, sameOctets, sameId}
-use Rattle.octets.proofs.Same.{same-eq}
+use Rattle.octets.proofs.Same.{same-sizes}
 use Rattle.vector.specs.Vector.{shown}
 use Rattle.message.specs.Layout.{headOf, size, front, schemeVector}
 use Rattle.message.specs.Show.{idsAt, idsOf, schemesIn}
-use Rattle.message.proofs.Tables.{which}
 use Rattle.parts.proofs.Shows.{shown-short}
 use Rattle.schemes.specs.Lists.{Id, mem}
-use Rattle.schemes.proofs.Ids.{same-as, tail-all}
+use Rattle.schemes.proofs.Ids.{same-as}
 use Rattle.conversation.specs.Writing.{startsWith}
 use Rattle.conversation.specs.Admitting.{schemeIn, listedBy, messagesAt, metadataFits}
 use Rattle.admitting.specs.Admissions.{listedIn}
@@ -64,22 +63,16 @@ module _ (l id : List ℕ) where
       rw q (e ∙ same-as id (take 16 l) (length-take-le 16 l h))
 
 -- octets of another number are others
-differ : (a b : List ℕ) → (length a ≡ length b → ⊥) → false ≡ sameOctets a b
-differ a b u = go (which (sameOctets a b)) where
-  go : (sameOctets a b ≡ true) ⊎ (sameOctets a b ≡ false) → false ≡ sameOctets a b
-  go (inl e) = absurd (u (ap length (same-eq a b e)))
-  go (inr e) = sym e
-
 scheme-length : (n : ℕ) (s : List ℕ) → length (schemeIn (take n s)) ≡ min 16 (min n (length s) - 40)
 scheme-length n s = simp (length-take, length-drop)
 
 -- the first n octets of s, as a message
 module _ (s : List ℕ) (n : ℕ) (id : List ℕ) (sixteen : length id ≡ 16) where
   pub names-short : length s < 56 → false ≡ sameOctets id (schemeIn (take n s))
-  names-short h = differ id (schemeIn (take n s)) (λ e. omega (arith, scheme-length n s))
+  names-short h = same-sizes id (schemeIn (take n s)) (λ e. omega (arith, scheme-length n s))
 
   pub names-early : n < 56 → false ≡ sameOctets id (schemeIn (take n s))
-  names-early h = differ id (schemeIn (take n s)) (λ e. omega (arith, scheme-length n s))
+  names-early h = same-sizes id (schemeIn (take n s)) (λ e. omega (arith, scheme-length n s))
 
   module _ (long : 56 ≤ length s) (late : 56 ≤ n) where
     scheme-there : octets 16 s 40 ≡ schemeIn (take n s)

@@ -8,8 +8,9 @@ use mathlib.Core.List.{List, [], _∷_, _++_}
 use native.Mathlib.Omega.{arith}
 use lib.Dec.{leb}
 use borrow.Author.Tests.{le-leb, lt-leb, eq-eqb, ne-eqb, leb-true, leb-false, ltb-true}
+use Rattle.octets.proofs.Bools.{which}
 use Rattle.message.specs.Check.{Row, firstFailing}
-use Rattle.message.proofs.Tables.{AllTrue, which}
+use Rattle.message.proofs.Tables.{AllTrue}
 use Rattle.conversation.specs.declared.Record.{Record}
 use Rattle.conversation.specs.State.{limitRows}
 use Rattle.conversation.specs.Turns.{placeAfter, mayWrite}

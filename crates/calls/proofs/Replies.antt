@@ -8,8 +8,9 @@ use native.Mathlib.Omega.{arith}
 use lib.ListN.{length}
 use lib.Dec.{ltb}
 use borrow.Author.Tests.{lt-ltb, le-ltb, not-true}
+use Rattle.octets.proofs.Bools.{both}
 use Rattle.octets.specs.Octets.{sameOctets}
-use Rattle.octets.proofs.Same.{both, same-eq}
+use Rattle.octets.proofs.Same.{same-eq}
 use Rattle.message.specs.Show.{idsAt}
 use Rattle.schemes.specs.Lists.{Id, mem, place, distinct, bit}
 use Rattle.schemes.specs.Sets.{left}
@@ -34,9 +35,6 @@ mem-left (x ∷ l) c m s d = go (sameOctets s x) (bit c 0 && not (bit m 0)) refl
   go true false e f ih = rw (f, e) (rw f (ih ∙ rw (absent e, lt-ltb 0 (suc (length l)) (omega arith))))
   go false true e f ih = rw (f, e) (rw compare·suc-suc ih)
   go false false e f ih = rw (f, e) (rw compare·suc-suc ih)
-
-pub left-mem : (l : List Id) (c m : ℕ) (s : Id) → distinct l ≡ true → mem s (left l c m) ≡ true → mem s l ≡ true
-left-mem l c m s d h = mem-place s l ∙ both (ltb (place l s) (length l)) (bit c (place l s) && not (bit m (place l s))) (sym (mem-left l c m s d) ∙ h) .0
 
 module _ (r : Record) (id : List ℕ) (i : Inside r) (k : ℕ) (k-is : k ≡ place (idsAt (r .count) (r .list)) id) where
   reply-is : mem id (replied r) ≡ (ltb k (r .count) && (bit (r .common) k && not (bit (r .marks) k)))

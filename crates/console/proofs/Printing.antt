@@ -10,8 +10,8 @@ use lib.ListN.{length, take, drop, length-append, length-take, length-drop}
 use lib.Seq.{length-take-le}
 use lib.Dec.{leb}
 use borrow.Author.Tests.{leb-true, leb-false}
+use Rattle.octets.proofs.Bools.{which}
 use Rattle.io.specs.Counts.{Counts}
-use Rattle.text.proofs.Pieces.{which}
 use Rattle.listing.specs.declared.Shown.{Shown}
 use Rattle.listing.specs.Listing.{linesOf, range, Outcome, outcome, windowOf}
 use Rattle.listing.proofs.Covers.{gets-on, window-octets, window-lines}

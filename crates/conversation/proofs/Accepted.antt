@@ -6,7 +6,7 @@ use mathlib.Core.Bool.{Bool, true, false, cond}
 use mathlib.Core.Logic.{inl, inr}
 use mathlib.Core.List.{List, [], _∷_}
 use borrow.Author.Tests.{eqb-false}
-use Rattle.message.proofs.Tables.{which}
+use Rattle.octets.proofs.Bools.{which}
 use Rattle.conversation.specs.Runs.{Call, End, act, moved, World, outcomeAt, next, ends, isAccepted}
 use Rattle.conversation.proofs.Unchanged.{refused-unchanged}
 

@@ -11,6 +11,7 @@ use lib.ListN.{length, take}
 use lib.Seq.{take-at}
 use lib.Dec.{eqb, leb}
 use borrow.Author.Tests.{eq-eqb, leb-true, le-leb}
+use Rattle.octets.proofs.Bools.{no-true, and-l, and-r, and-i}
 use Rattle.message.specs.Show.{idsOf}
 use Rattle.message.proofs.Tables.{AllTrue}
 use Rattle.encode.specs.Encode.{ofNego, encodable}
@@ -19,7 +20,7 @@ use Rattle.roundtrip.proofs.RoundTrip.{AllIds, ids-joined, nego-begins}
 use Rattle.schemes.specs.Lists.{Id, mem, distinct, first, bit, leftOver, rule2, oneTo16, joinIds}
 use Rattle.schemes.specs.Sets.{left, padTo}
 use Rattle.schemes.specs.Longer.{Longer, SameMarks}
-use Rattle.schemes.proofs.Choice.{no-true, and-l, and-r, still-usable, still-common, longer}
+use Rattle.schemes.proofs.Choice.{still-usable, still-common, longer}
 use Rattle.conversation.specs.declared.Record.{Record}
 use Rattle.conversation.specs.declared.Answer.{Answer}
 use Rattle.conversation.specs.State.{ownOf, limitRows}
@@ -46,15 +47,12 @@ module _ (r : Record) (random : Sized 32) (l : List Id) (sized : (s : Id) → Li
       let (l1, (l2, (l3, (l4, (l5, (l6, (l7, (l8, (l9, (l10, rest)))))))))) = limits in
       let sq : r .sequence ≤ 1023 = leb-true _ _ l10 in
       record {
-        can = kind (r .acceptor) (and-two (eqb (length schemes % 16) 0) (leb (length schemes) 1048560) (eq-eqb _ _ (let z : length schemes % 16 ≡ 0 = omega arith in z)) (le-leb _ _ (let z : length schemes ≤ 1048560 = omega arith in z)));
+        can = kind (r .acceptor) (and-i (eqb (length schemes % 16) 0) (leb (length schemes) 1048560) (eq-eqb _ _ (let z : length schemes % 16 ≡ 0 = omega arith in z)) (le-leb _ _ (let z : length schemes ≤ 1048560 = omega arith in z)));
         number = omega arith;
         id = talk;
         whole = random .1;
         range = tt;
       } where
-        and-two : (a b : Bool) → a ≡ true → b ≡ true → a && b ≡ true
-        and-two a b p q = rw (p, q)
-
         kind : (a : Bool) {b : Bool} → b ≡ true → leb (typeOf a NEGO) 1 && b ≡ true
         kind true e = e
         kind false e = e

@@ -11,13 +11,13 @@ use lib.ListN.{length, length-take, length-drop, length-append}
 use lib.Seq.{take-at, drop-at}
 use lib.Dec.{eqb, leb}
 use borrow.Author.Tests.{eq-eqb, eqb-true}
+use Rattle.octets.proofs.Bools.{which, no-true, and-r}
 use Rattle.octets.specs.Octets.{octets}
 use Rattle.message.specs.Show.{idsAt, idsOf}
 use Rattle.message.specs.Check.{Row, FirstFails}
-use Rattle.message.proofs.Tables.{which, AllTrue}
+use Rattle.message.proofs.Tables.{AllTrue}
 use Rattle.schemes.specs.Lists.{Id, distinct, first, leftOver, rule2, oneTo16, listOk, joinIds}
 use Rattle.schemes.specs.Sets.{commonSet, left, keptPlaces, ones, named, below, padTo}
-use Rattle.schemes.proofs.Choice.{no-true, and-r}
 use Rattle.schemes.proofs.Replies.{replyOf, left-keep, left-of-reply}
 use Rattle.conversation.specs.declared.Record.{Record}
 use Rattle.conversation.specs.declared.Answer.{Answer}

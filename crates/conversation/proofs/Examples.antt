@@ -1,6 +1,6 @@
 -- The promises about runs are not empty: a whole conversation, computed; and two runs that meet demand 3's premises.
 -- Assumes nothing.
-use Prim.Native.Nat.{ℕ, zero, suc}
+use Prim.Native.Nat.{ℕ}
 use mathlib.Core.Path.{_≡_, refl}
 use mathlib.Core.Bool.{Bool, true, false, _&&_}
 use mathlib.Core.Logic.{inl, inr}
@@ -11,20 +11,20 @@ use native.Mathlib.Omega.{arith}
 use lib.Dec.{T, eqb}
 use lib.IntN.{pos, negsuc}
 use borrow.Author.Tests.{eqb-true}
+use Rattle.octets.proofs.Bools.{which, no-true, and-l, and-r}
 use Rattle.octets.specs.Octets.{le, signed32, sameOctets, sameId}
 use Rattle.octets.proofs.Same.{same-eq}
 use Rattle.vector.specs.Vector.{keepsRule, shown}
 use Rattle.message.specs.Layout.{shapeOf, headOf, elementsAt, contentOf, vectorsOf}
 use Rattle.message.specs.Check.{commonRows, zeros, padsZero, allKeepRule, noneCritical, contentRows, bodyRows, frontRows}
 use Rattle.message.specs.Show.{idsAt, schemesIn}
-use Rattle.message.proofs.Tables.{which}
 use Rattle.token.specs.Token.{orderRows, nextRows, chainOf}
 use Rattle.put.specs.Put.{put}
 use Rattle.encode.specs.Encode.{encoded}
-use Rattle.schemes.specs.Lists.{mem, place, distinct, bit}
+use Rattle.schemes.specs.Lists.{mem, place, distinct}
 use Rattle.schemes.specs.Sets.{setOf, left, has, mentions, ones, openPlaces, keptBelow}
 use Rattle.schemes.specs.Longer.{none-left, kept, gained, Longer}
-use Rattle.schemes.proofs.Choice.{no-true, and-l, and-r}
+use Rattle.schemes.proofs.Offers.{bit-zero}
 use Rattle.conversation.specs.State.{fresh}
 use Rattle.conversation.specs.Outcomes.{answered}
 use Rattle.conversation.specs.Turns as turns
@@ -95,10 +95,6 @@ no-marks (x ∷ cs) h c m i e = elim (List·Memᴰ·cases-cons i) [
   | inl q ↦ eqb-true m 0 (rw (← q, e) at (and-l (zeroMark (marksIn (x .1))) (noMarks cs) h))
   | inr j ↦ no-marks cs (and-r (zeroMark (marksIn (x .1))) (noMarks cs) h) c m j e
 ]
-
-bit-zero : (k : ℕ) → bit 0 k ≡ false
-bit-zero zero = refl
-bit-zero (suc k) = bit-zero k
 
 unmarked : (o : Opening) (cs : List (Bool × Call)) (o′ : Opening) (cs′ : List (Bool × Call)) → noMarks cs ≡ true → noMarks cs′ ≡ true → MarksKept o cs o′ cs′
 unmarked o cs o′ cs′ h h′ x m i r e k m′ j e′ s a b =

@@ -10,11 +10,10 @@ use lib.ListN.{length}
 use lib.Dec.{eqb, leb}
 use lib.IntN.{ℤ}
 use borrow.Author.Tests.{eqb-true, ne-eqb}
+use Rattle.octets.proofs.Bools.{which, no-true}
 use Rattle.message.specs.Check.{Row, FirstFails}
-use Rattle.message.proofs.Tables.{which}
 use Rattle.put.specs.Put.{put}
 use Rattle.schemes.specs.Lists.{Id}
-use Rattle.schemes.proofs.Choice.{no-true}
 use Rattle.conversation.specs.declared.Record.{Record}
 use Rattle.conversation.specs.declared.Answer.{Answer}
 use Rattle.conversation.specs.declared.Scan.{Scan}

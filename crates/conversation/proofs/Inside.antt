@@ -10,13 +10,14 @@ use lib.ListN.{length, getD}
 use lib.Pow.{pow-pos, pow-mono}
 use lib.Dec.{eqb, ltb}
 use borrow.Author.Tests.{eqb-true, leb-true, ltb-true, le-leb, lt-ltb, not-true}
+use Rattle.octets.proofs.Bools.{which, no-true, and-l, and-r}
 use Rattle.octets.specs.Octets.{sameOctets}
 use Rattle.message.specs.Layout.{headOf}
-use Rattle.message.proofs.Tables.{which, AllTrue}
+use Rattle.message.proofs.Tables.{AllTrue}
 use Rattle.schemes.specs.Lists.{Id, mem, place, bit}
 use Rattle.schemes.specs.Answers.{leftOf}
 use Rattle.schemes.specs.Sets.{commonSet, left, keptPlaces, ones, below, keptBelow, padTo}
-use Rattle.schemes.proofs.Choice.{no-true, and-l, and-r, mem-tail}
+use Rattle.schemes.proofs.Choice.{mem-tail}
 use Rattle.schemes.proofs.Digits.{ones-pow, bit-room}
 use Rattle.schemes.proofs.Ids.{length-ids}
 use Rattle.schemes.proofs.Places.{set-bound}
@@ -26,9 +27,9 @@ use Rattle.schemes.proofs.Replies.{place-below}
 use Rattle.conversation.specs.declared.Record.{Record}
 use Rattle.conversation.specs.declared.Scan.{Scan}
 use Rattle.conversation.specs.State.{NONE, ownOf, schemeAt, replied, limitRows}
-use Rattle.conversation.specs.Turns.{FIRST, ANSWER, FURTHER, NEGO, METADATA, reading, kindOf, after, afterFurther, reads}
+use Rattle.conversation.specs.Turns.{FIRST, ANSWER, FURTHER, NEGO, METADATA, reading, kindOf, after, afterFurther, writes, reads}
 use Rattle.conversation.specs.Outcomes.{WrittenAs, wrote}
-use Rattle.conversation.specs.Writing.{metadataAllowed}
+use Rattle.conversation.specs.Writing.{metadataAllowed, startsWith, schemeNow, schemeAllowed}
 use Rattle.conversation.specs.Admitting.{listedBy, schemeIn, isAt, furtherFits, schemeFits, passed, on, admit}
 use Rattle.conversation.specs.Reading.{commonAfter, keptAfter, taken}
 use Rattle.conversation.specs.Choosing.{openTo, firstPlace, chose}
@@ -71,16 +72,31 @@ module _ (r : Record) where
 
   -- 2. metadata, told once
 
-  pub told-below : (id : Id) → below (r .count) (r .told) ≡ true → metadataAllowed r id ≡ true → below (r .count) (r .told + 2 ^ place (ownOf r) id) ≡ true
-  told-below id b h =
-      let m : mem id (ownOf r) ≡ true = own (r .acceptor) (and-l (mem id (cond (r .acceptor) (replied r) (ownOf r))) (not (bit (r .told) (place (ownOf r) id))) h) in
-      let clear : bit (r .told) (place (ownOf r) id) ≡ false = not-true _ (and-r (mem id (cond (r .acceptor) (replied r) (ownOf r))) (not (bit (r .told) (place (ownOf r) id))) h) in
-      lt-ltb _ _ (bit-room (r .count) (r .told) (place (ownOf r) id) (ltb-true _ _ b) (place-own id m) clear) where
-        own : (a : Bool) → mem id (cond a (replied r) (ownOf r)) ≡ true → mem id (ownOf r) ≡ true
-        own true e = replied-mem id e
-        own false e = e
+  module _ (id : Id) (h : metadataAllowed r id ≡ true) where
+    pub allowed-own : mem id (ownOf r) ≡ true
+    allowed-own = own (r .acceptor) (and-l (mem id (cond (r .acceptor) (replied r) (ownOf r))) (not (bit (r .told) (place (ownOf r) id))) h) where
+      own : (a : Bool) → mem id (cond a (replied r) (ownOf r)) ≡ true → mem id (ownOf r) ≡ true
+      own true e = replied-mem id e
+      own false e = e
 
-  -- 3. the chosen place of a token's messages
+    pub allowed-untold : bit (r .told) (place (ownOf r) id) ≡ false
+    allowed-untold = not-true _ (and-r (mem id (cond (r .acceptor) (replied r) (ownOf r))) (not (bit (r .told) (place (ownOf r) id))) h)
+
+    pub told-below : below (r .count) (r .told) ≡ true → below (r .count) (r .told + 2 ^ place (ownOf r) id) ≡ true
+    told-below b = lt-ltb _ _ (bit-room (r .count) (r .told) (place (ownOf r) id) (ltb-true _ _ b) (place-own id allowed-own) allowed-untold)
+
+  -- 3. the rule's scheme
+
+  pub now-below : schemeAllowed r ≡ true → schemeNow r < r .count
+  unfolding schemeNow
+  now-below h = elim (which (eqb (writes r) ANSWER)) [
+    | inl a ↦
+        let first : eqb (writes r) FIRST ≡ false = (let w : writes r ≡ 1 = eqb-true _ _ a in rw w) in
+        rw (first, a) (ltb-true (r .asked) (r .count) (and-l (ltb (r .asked) (r .count)) (startsWith (replied r) (schemeAt r (r .asked))) (rw a at h)))
+    | inr a ↦ rw a (ltb-true (cond (eqb (writes r) FIRST) 0 (r .chosen)) (r .count) (rw a at h))
+  ]
+
+  -- 4. the chosen place of a token's messages
 
   abbrev pub ChosenBelow : ℕ → Type 0
   ChosenBelow k = (eqb k NONE || ltb k (r .count)) ≡ true

@@ -10,30 +10,31 @@ use lib.ListN.{length, take, drop, getD, length-append, length-take, length-drop
 use lib.Seq.{take-at, length-take-le}
 use lib.Pow.{pow-pos}
 use lib.IntN.{ℤ}
-use lib.Dec.{eqb, leb, ltb}
-use borrow.Author.Tests.{eqb-true, leb-true, ltb-true, lt-ltb, ne-eqb, not-true}
-use Rattle.message.specs.Check.{Row, FirstFails, firstFailing}
-use Rattle.message.proofs.Tables.{which, AllTrue}
+use lib.Dec.{eqb, leb}
+use borrow.Author.Tests.{leb-true, lt-ltb, ne-eqb, not-true}
+use Rattle.octets.proofs.Bools.{which, and-l, and-r}
+use Rattle.message.specs.Check.{Row, FirstFails}
+use Rattle.message.proofs.Tables.{AllTrue}
 use Rattle.token.specs.Split.{join}
 use Rattle.put.specs.Put.{put}
 use Rattle.encode.specs.Encode.{Whole, Contents, ofNego, ofExchange, ofVerify, ofAlert}
 use Rattle.schemes.specs.Lists.{Id, distinct, oneTo16, joinIds, place}
 use Rattle.schemes.specs.Sets.{left, named, below, keptBelow}
-use Rattle.schemes.proofs.Choice.{and-l, and-r}
 use Rattle.conversation.specs.declared.Record.{Record}
 use Rattle.conversation.specs.declared.Scan.{Scan}
-use Rattle.conversation.specs.State.{ownOf, schemeAt, replied, limitRows, fresh}
-use Rattle.conversation.specs.Turns.{FIRST, ANSWER, NEGO, METADATA, EXCHANGE, VERIFY, ALERT, typeOf, writes, reads, placeAfter, mayRead}
+use Rattle.conversation.specs.State.{ownOf, schemeAt, limitRows, fresh}
+use Rattle.conversation.specs.Turns.{FIRST, NEGO, METADATA, EXCHANGE, VERIFY, ALERT, typeOf, reads, placeAfter, mayRead}
 use Rattle.conversation.specs.Outcomes.{Outcome, zeroId, answered, refused, decide, row, room, fits, WrittenAs, unchanged, wrote, appended}
-use Rattle.conversation.specs.Writing.{heading, messageOf, stageRows, thenFits, offerRows, offering, someLeft, replyMessage, naming, replying, metadataAllowed, metadataMessage, metadataRows, writingMetadata, schemeNow, startsWith, schemeAllowed, namedRows, exchangeMessage, askedBy, writingExchange, verifyMessage, writingVerify, alertMessage, writingAlert}
+use Rattle.conversation.specs.Writing.{heading, messageOf, stageRows, thenFits, offerRows, offering, someLeft, replyMessage, naming, replying, metadataAllowed, metadataMessage, metadataRows, writingMetadata, schemeNow, schemeAllowed, namedRows, exchangeMessage, askedBy, writingExchange, verifyMessage, writingVerify, alertMessage, writingAlert}
 use Rattle.conversation.specs.Reading.{conversationOf, startOf, Judged, whole, halted, chainFor, judged, taken, finish, readingToken}
 use Rattle.conversation.specs.Choosing.{openTo, mayChoose, chose, choosing}
 use Rattle.conversation.specs.Runs.{Sized, Call, offer, reply, metadata, exchange, verify, alert, read, choose, End, act, turnAfter, moved, World, world, next, ends}
 use Rattle.conversation.specs.Logs.{messagesIn, added, logged, Logs, nextLogs, logsBehind, Counted, InStep, EveryRun}
+use Rattle.conversation.proofs.Decides.{all-first}
 use Rattle.conversation.proofs.Rows.{decide-out, without, fails-other, true-behind}
 use Rattle.conversation.proofs.Tokens.{judged-first, judged-number}
 use Rattle.conversation.proofs.Ends.{ok-distinct, own-opened, count-joined}
-use Rattle.conversation.proofs.Inside.{told-below, ChosenBelow, admit-chosen, limits-wrote, limits-taken, limits-chose, limits-counts}
+use Rattle.conversation.proofs.Inside.{told-below, ChosenBelow, admit-chosen, limits-wrote, limits-taken, limits-chose, limits-counts, now-below}
 use Rattle.conversation.proofs.Messages.{FramedFrom, Framed, framed-more, framed-behind, framed-long, framed-order, join-append, join-one, same-messages, same-start, written-framed, judge-keeps, Taken, token-taken}
 
 -- 1. the invariant of an end
@@ -67,15 +68,6 @@ type-known true kind = small (eqb kind 1) (omega arith) (small (eqb kind 2) (ome
 type-known false kind = small (eqb kind 1) (omega arith) (small (eqb kind 2) (omega arith) (small (eqb kind 3) (omega arith) (small (eqb kind 4) (omega arith) (omega arith))))
 
 -- the rule's scheme is one of the own list
-now-below : (r : Record) → schemeAllowed r ≡ true → schemeNow r < r .count
-unfolding schemeNow
-now-below r h = elim (which (eqb (writes r) ANSWER)) [
-  | inl a ↦
-      let first : eqb (writes r) FIRST ≡ false = (let w : writes r ≡ 1 = eqb-true _ _ a in rw w) in
-      rw (first, a) (ltb-true (r .asked) (r .count) (and-l (ltb (r .asked) (r .count)) (startsWith (replied r) (schemeAt r (r .asked))) (rw a at h)))
-  | inr a ↦ rw a (ltb-true (cond (eqb (writes r) FIRST) 0 (r .chosen)) (r .count) (rw a at h))
-]
-
 -- 2. a call at the end e, beside the end f
 
 module _ (e f : End) (le lf : List (List ℕ)) (ok : Sound (e .record-of) (e .transcript) le) (ok′ : Sound (f .record-of) (f .transcript) lf) (here : InStep (e .turn) le lf) (there : InStep (f .turn) lf le) where
@@ -200,7 +192,7 @@ module _ (e f : End) (le lf : List (List ℕ)) (ok : Sound (e .record-of) (e .tr
       (λ g. record {
         whole = id .1;
         marks = marks-here;
-        told = told-below r (id .0) told-here (true-behind (stageRows r METADATA ++ (row 19 (leb 1 (length value)) ∷ [])) (row 15 (metadataAllowed r (id .0))) (fits r d (length (metadataMessage r (id .0) value)) ∷ []) g);
+        told = told-below r (id .0) (true-behind (stageRows r METADATA ++ (row 19 (leb 1 (length value)) ∷ [])) (row 15 (metadataAllowed r (id .0))) (fits r d (length (metadataMessage r (id .0) value)) ∷ []) g) told-here;
       })
 
   -- the rule's scheme has 16 octets
@@ -400,16 +392,13 @@ sound-fresh a l v d sized ok talk =
 
 counted : (r : Record) (d : List ℕ) (log : List (List ℕ)) → Sound r d log → Counted r d log
 counted r d log s = record {
-  inside = passing (limitRows r) (s .limits);
+  inside = all-first (limitRows r) (s .limits);
   used = s .used;
   sequence = s .sequence;
   next-number = limits-counts r (s .limits) .1;
   numbers = framed-order 0 log (s .framed);
   transcript = s .transcript;
-} where
-  passing : (rows : List Row) → AllTrue rows → firstFailing rows ≡ 0
-  passing [] h = refl
-  passing (x ∷ xs) h = rw (h .0) (passing xs (h .1))
+}
 
 pub every-run : EveryRun
 every-run o cs =

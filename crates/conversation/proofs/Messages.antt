@@ -10,9 +10,9 @@ use native.Mathlib.Omega.{arith}
 use lib.ListN.{length, take, drop, length-append, take-append-drop}
 use lib.Seq.{take-at, drop-at, drop-nil}
 use borrow.Author.Tests.{ne-eqb}
+use Rattle.octets.proofs.Bools.{which}
 use Rattle.message.specs.Layout.{Head, shapeOf, headerOf, headOf, size, front}
 use Rattle.message.specs.Check.{SIGNATURE}
-use Rattle.message.proofs.Tables.{which}
 use Rattle.token.specs.Token.{passes, Chain, end, refused as cutAt, message, chainOf}
 use Rattle.token.specs.Split.{Numbered, join}
 use Rattle.token.proofs.Cuts.{passes-sized, drop-one}

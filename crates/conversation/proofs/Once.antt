@@ -10,11 +10,10 @@ use native.Mathlib.Omega.{arith}
 use lib.ListN.{length}
 use lib.Dec.{eqb, leb}
 use borrow.Author.Tests.{eqb-true, ne-eqb}
+use Rattle.octets.proofs.Bools.{which, no-true, and-r}
 use Rattle.message.specs.Check.{Row, FirstFails}
-use Rattle.message.proofs.Tables.{which}
 use Rattle.schemes.specs.Lists.{Id}
 use Rattle.schemes.specs.Sets.{left, named, below}
-use Rattle.schemes.proofs.Choice.{no-true, and-r}
 use Rattle.conversation.specs.declared.Record.{Record}
 use Rattle.conversation.specs.declared.Answer.{Answer}
 use Rattle.conversation.specs.declared.Scan.{Scan}

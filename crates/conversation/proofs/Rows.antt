@@ -7,9 +7,9 @@ use mathlib.Core.Logic.{inl, inr}
 use mathlib.Core.List.{List, [], _∷_, _++_}
 use lib.Dec.{eqb}
 use borrow.Author.Tests.{eq-eqb}
+use Rattle.octets.proofs.Bools.{no-true, and-l, and-r}
 use Rattle.message.specs.Check.{Row, FirstFails}
 use Rattle.message.proofs.Tables.{AllTrue}
-use Rattle.schemes.proofs.Choice.{no-true, and-l, and-r}
 use Rattle.conversation.specs.declared.Record.{Record}
 use Rattle.conversation.specs.Outcomes.{Outcome, refused, decide, row}
 

@@ -9,9 +9,10 @@ use native.Mathlib.Omega.{arith}
 use lib.ListN.{length}
 use lib.Dec.{eqb}
 use borrow.Author.Tests.{ne-eqb}
+use Rattle.octets.proofs.Bools.{which}
 use Rattle.message.specs.Layout.{Head, headOf, size, front}
 use Rattle.message.specs.Check.{firstFailing, commonRows, bodyRows, contentRows, frontRows}
-use Rattle.message.proofs.Tables.{which, refuses-first}
+use Rattle.message.proofs.Tables.{refuses-first}
 use Rattle.token.specs.Token.{orderRows, nextRows, passes, Chain, end, refused as cutAt, message, chainOf}
 use Rattle.token.proofs.Cuts.{passes-parts, passes-sized, turn-pass, turn-fail}
 use Rattle.message.proofs.Local.{head-front}

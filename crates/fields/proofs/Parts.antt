@@ -1,20 +1,16 @@
 -- Parts of a text, in the words of the code.
 -- Assumes nothing.
 use Prim.Native.Nat.{ℕ, _-_, _≤_, _<_, min}
-use mathlib.Core.Path.{_≡_, refl, sym, _∙_}
-use mathlib.Core.Bool.{Bool, true, false}
+use mathlib.Core.Path.{_≡_, sym, _∙_}
 use mathlib.Core.List.{List}
-use mathlib.Core.Logic.{_⊎_, inl, inr, ⊎-elim}
+use mathlib.Core.Logic.{_⊎_, ⊎-elim}
 use native.Mathlib.Omega.{arith}
 use lib.ListN.{length, take, drop, length-drop, drop-of-length-le}
 use lib.Seq.{take-all, take-nil}
 use lib.Dec.{leb}
 use borrow.Author.Tests.{leb-true, leb-false}
+use Rattle.octets.proofs.Bools.{which}
 use Rattle.fields.specs.Fields.{part}
-
-pub which : (b : Bool) → (b ≡ true) ⊎ (b ≡ false)
-which true = inl refl
-which false = inr refl
 
 module _ (s : List ℕ) (from end to : ℕ) (least : to ≡ min end (length s)) where
   pub part-none : to < from → take 0 s ≡ part s from end

@@ -1,27 +1,15 @@
 -- Comparing a field with a word, octet by octet.
 -- Assumes nothing.
 use Prim.Native.Nat.{ℕ, suc, _+_, _≤_, _<_}
-use mathlib.Core.Path.{_≡_, refl, sym, ap, _∙_}
-use mathlib.Core.Bool.{Bool, true, false, _&&_}
-use mathlib.Core.List.{List, [], _∷_}
+use mathlib.Core.Path.{_≡_, sym, _∙_}
+use mathlib.Core.Bool.{Bool, true, false}
+use mathlib.Core.List.{List, _∷_}
 use native.Mathlib.Numerals.{add-one}
 use native.Mathlib.Omega.{arith}
 use lib.ListN.{length, drop, getD, drop-of-length-le}
-use lib.Seq.{drop-cons}
-use lib.Dec.{eqb}
 use borrow.Author.Tests.{eq-eqb, ne-eqb}
 use Rattle.octets.specs.Octets.{sameOctets}
-
-either-false : (a b : Bool) → false ≡ b → false ≡ (a && b)
-either-false true b h = h
-either-false false b h = refl
-
-pub word-size : (a b : List ℕ) → (length a ≡ length b → ⊥) → false ≡ sameOctets a b
-unfolding sameOctets
-word-size [] [] h = absurd (h refl)
-word-size [] (y ∷ b) h = refl
-word-size (x ∷ a) [] h = refl
-word-size (x ∷ a) (y ∷ b) h = either-false (eqb x y) (sameOctets a b) (word-size a b (λ e. h (ap suc e)))
+use Rattle.octets.proofs.Same.{same-sizes, same-step}
 
 module _ (a b : List ℕ) (sized : length a ≡ length b) (i : ℕ) (x : Bool) (inv : x ≡ sameOctets (drop i a) (drop i b)) where
   pub word-end : length a ≤ i → true ≡ x
@@ -30,7 +18,7 @@ module _ (a b : List ℕ) (sized : length a ≡ length b) (i : ℕ) (x : Bool) (
 
   module _ (more : i < length a) where
     step : sameOctets (drop i a) (drop i b) ≡ sameOctets (getD a i 0 ∷ drop (suc i) a) (getD b i 0 ∷ drop (suc i) b)
-    step = let w : i < length b = omega arith in rw (drop-cons a i 0, drop-cons b i 0)
+    step = same-step a b i more (omega arith)
 
     pub word-differ : (getD a i 0 ≡ getD b i 0 → ⊥) → false ≡ x
     unfolding sameOctets
@@ -40,4 +28,4 @@ module _ (a b : List ℕ) (sized : length a ≡ length b) (i : ℕ) (x : Bool) (
     unfolding sameOctets
     word-agree h = inv ∙ step ∙ simp (eq-eqb _ _ h, add-one)
 
-pub ruleset words = (word-size, word-end, word-differ, word-agree)
+pub ruleset words = (same-sizes, word-end, word-differ, word-agree)

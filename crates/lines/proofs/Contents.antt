@@ -10,9 +10,8 @@ use lib.ListN.{length, take, drop, getD, length-append, List·getD-eq-default}
 use borrow.Author.Tests.{le-leb, leb-true, leb-false}
 use mathlib.Core.Logic.{inl, inr}
 use lib.Dec.{leb}
-use Rattle.message.proofs.Tables.{which}
+use Rattle.octets.proofs.Bools.{which, both}
 use Rattle.octets.specs.Octets.{le, octets}
-use Rattle.octets.proofs.Same.{both}
 use Rattle.vector.specs.declared.Vector.{Vector}
 use Rattle.vector.specs.Vector.{keepsRule, part, shown}
 use Rattle.message.specs.Layout.{Shape, nego, exchange, verify, alert, headOf, shapeOf, Element, elementAt, elementsOf, contentOf, vectorsOf, schemeVector, extensionVector, exchangeVector, checksumVector, alertVector}

@@ -10,9 +10,10 @@ use lib.ListN.{length, take, drop, getD, length-take, length-drop, take-append-d
 use lib.Seq.{drop-drop, getD-take, getD-drop, take-all}
 use lib.Dec.{leb}
 use borrow.Author.Tests.{le-leb, leb-true, leb-false}
+use Rattle.octets.proofs.Bools.{which}
 use Rattle.put.specs.Put.{joined, put}
 use Rattle.put.proofs.Laws.{joined-append}
-use Rattle.text.proofs.Pieces.{which, take-put}
+use Rattle.text.proofs.Pieces.{take-put}
 use Rattle.listing.specs.declared.Shown.{Shown}
 use Rattle.listing.specs.Listing.{tokenLines, linesOf, fitting, range, Outcome, outcome, windowOf}
 use Rattle.lines.proofs.Shorts.{short-at}

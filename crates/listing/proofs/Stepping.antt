@@ -11,10 +11,10 @@ use lib.ListN.{length, take, drop, getD, drop-of-length-le}
 use lib.Seq.{drop-cons}
 use lib.Dec.{leb, eqb}
 use borrow.Author.Tests.{le-leb, lt-leb, eq-eqb, ne-eqb, leb-true, eqb-false}
+use Rattle.octets.proofs.Bools.{which}
 use Rattle.put.specs.Put.{joined, put}
 use Rattle.text.specs.Text.{Text, text, appended, written}
 use Rattle.put.proofs.Laws.{length-put}
-use Rattle.text.proofs.Pieces.{which}
 use Rattle.listing.specs.declared.Progress.{Progress}
 use Rattle.lines.specs.Lines.{messageLines}
 use Rattle.listing.specs.Listing.{texts}

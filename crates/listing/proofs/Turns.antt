@@ -8,6 +8,7 @@ use native.Mathlib.Omega.{arith}
 use lib.ListN.{length, take, drop, length-append, length-drop}
 use lib.Seq.{take-at, drop-at, take-all, length-take-le}
 use Rattle.octets.specs.Octets.{le}
+use Rattle.octets.proofs.Slices.{tail-all}
 use Rattle.message.specs.Layout.{Head, headOf, headerOf, contentOf, vectorsOf, size, front}
 use Rattle.message.specs.Check.{allKeepRule, bodyRows, contentRows, frontRows}
 use Rattle.message.proofs.Tables.{given}
@@ -80,9 +81,6 @@ turn rest w place n more n-is = go (w .ms) (w .joins) (w .numbered) where
         listed : (m : List ℕ) (ms : List (List ℕ)) → allLines (placedFrom place (m ∷ ms)) ≡ messageLines place m ++ allLines (placedFrom (place + length m) ms)
         listed m ms = unfold allLines in refl
 
-rest-of : (k : ℕ) (l : List ℕ) → drop k l ≡ take (length l - k) (drop k l)
-rest-of k l = sym (take-all (length l - k) (drop k l) (omega (arith, length-drop k l)))
-
 -- what is left, and the state that the lines left come to: x is what the walk began with
 pub record Going-on (x : State) (rest : List ℕ) (place : ℕ) (t : State) : Type 0 where
   pub left : Left rest
@@ -124,15 +122,15 @@ module _ (x : State) (rest : List ℕ) (place : ℕ) (t : State) (on : Going-on 
       walk-fit = here .fit
 
       pub walk-less : length (take (length rest - n) (drop n rest)) < length rest
-      walk-less = omega (arith, ap length (rest-of n rest), length-drop n rest, here .some, here .fits)
+      walk-less = omega (arith, ap length (tail-all rest n), length-drop n rest, here .some, here .fits)
 
       pub walk-place : (next L : ℕ) → next ≡ place + n → place + length rest ≡ L → next + length (take (length rest - n) (drop n rest)) ≡ L
-      walk-place next L e h = omega (arith, ap length (rest-of n rest), length-drop n rest, here .fits)
+      walk-place next L e h = omega (arith, ap length (tail-all rest n), length-drop n rest, here .fits)
 
       pub walk-on : (next : ℕ) → next ≡ place + n → (u : State) → u ≡ steps (texts (messageLines place (take n rest))) t → Going-on x (take (length rest - n) (drop n rest)) next u
       walk-on next next-is u u-is =
           subst (λ (k : ℕ). Going-on x (take (length rest - n) (drop n rest)) k u) (sym next-is)
-          (subst (λ (l : List ℕ). Going-on x l (place + n) u) (rest-of n rest)
+          (subst (λ (l : List ℕ). Going-on x l (place + n) u) (sym (tail-all rest n))
           (record {
             left = here .left;
             come =

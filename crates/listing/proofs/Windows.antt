@@ -11,13 +11,13 @@ use lib.ListN.{length, take, drop, length-append}
 use lib.Seq.{take-nil, drop-nil}
 use lib.Dec.{leb}
 use borrow.Author.Tests.{le-leb, lt-leb, ne-eqb, leb-true, leb-false}
+use Rattle.octets.proofs.Bools.{which}
 use Rattle.vector.specs.declared.TokenPlace.{TokenPlace}
 use Rattle.token.specs.declared.Answer.{Answer}
 use Rattle.token.specs.declared.Answer.the-variants as answer
 use Rattle.token.specs.Token.{Reading, Accepted, Refused, tokenOf, messages, refusal, outcomeOf, told}
 use Rattle.put.specs.Put.{joined, put}
 use Rattle.put.proofs.Laws.{length-put, put-more, put-none}
-use Rattle.text.proofs.Pieces.{which}
 use Rattle.listing.specs.declared.Progress.{Progress}
 use Rattle.listing.specs.declared.Shown.{Shown}
 use Rattle.lines.specs.Lines.{endLine, refusedLine}

@@ -7,13 +7,13 @@ use mathlib.Core.List.{List, [], _++_}
 use native.Mathlib.Omega.{arith}
 use lib.Dec.{eqb}
 use borrow.Author.Tests.{eq-eqb, ne-eqb}
+use Rattle.octets.proofs.Bools.{no-true, and-l}
 use Rattle.octets.specs.Octets.{octets}
 use Rattle.message.specs.Check.{firstFailing}
 use Rattle.message.proofs.Tables.{AllTrue}
 use Rattle.schemes.specs.Sets.{named, openPlaces, below, keptBelow}
 use Rattle.schemes.specs.Answers.{leftOf}
 use Rattle.schemes.specs.declared.Left.{Left}
-use Rattle.schemes.proofs.Choice.{no-true, and-l}
 use Rattle.conversation.specs.declared.Record.{Record}
 use Rattle.conversation.specs.declared.Answer.{Answer}
 use Rattle.conversation.specs.State.{ownOf, limitRows}

@@ -8,12 +8,12 @@ use mathlib.Core.List.{List, []}
 use native.Mathlib.Omega.{arith}
 use lib.ListN.{length, take, drop}
 use borrow.Author.Tests.{le-leb, lt-leb}
+use Rattle.octets.proofs.Bools.{which}
 use Rattle.vector.specs.declared.Vector.{Vector}
 use Rattle.vector.specs.Vector.{extent, keepsRule, shown}
 use Rattle.vector.proofs.Rule.{rule-inside, shown-empty, shown-none}
 use Rattle.message.specs.Layout.{octetVector}
 use Rattle.message.specs.Show.{idAt, nestedOf}
-use Rattle.message.proofs.Tables.{which}
 
 -- a slice that has no room for the header shows nothing
 pub shown-short : (header : ℕ) (m : List ℕ) (v : Vector) → length m < header → [] ≡ shown header m v

@@ -6,20 +6,22 @@ use mathlib.Core.Bool.{true, false}
 use mathlib.Core.Logic.{_⊎_, inl, inr}
 use mathlib.Core.List.{List, [], _∷_}
 use native.Mathlib.Omega.{arith}
-use lib.ListN.{length, take, drop, length-drop}
+use lib.ListN.{length, take, drop}
 use lib.Seq.{length-take-le}
 use lib.Dec.{eqb}
-use borrow.Author.Tests.{eq-eqb, ne-eqb, eqb-false, lt-leb}
+use borrow.Author.Tests.{eq-eqb, ne-eqb, eqb-false}
+use Rattle.octets.proofs.Bools.{which}
+use Rattle.octets.proofs.Slices.{tail-all}
 use Rattle.octets.specs.Octets.{octets}
 use Rattle.message.specs.declared.Header.{Header}
 use Rattle.message.specs.declared.Read.{Read}
 use Rattle.message.specs.declared.Read.the-variants as answer
-use Rattle.message.specs.Layout.{headOf, size}
-use Rattle.message.specs.Check.{commonRows, firstFailing, said, fieldsOf}
-use Rattle.message.proofs.Tables.{which, verdict-read, verdict-refused}
+use Rattle.message.specs.Layout.{headOf}
+use Rattle.message.specs.Check.{firstFailing, said, fieldsOf}
+use Rattle.message.proofs.Tables.{verdict-refused}
 use Rattle.token.specs.Token.{nextRows, passes, nextVerdict, Chain, chainOf}
-use Rattle.token.proofs.Cuts.{passes-sized, turn-pass, turn-fail}
-use Rattle.schemes.proofs.Ids.{tail-all}
+use Rattle.token.proofs.Cuts.{turn-pass, turn-fail}
+use Rattle.token.proofs.Messages.{passed, size-is, sized, ends-within, left-less, left-count, left-place, short}
 use Rattle.conversation.specs.declared.Record.{Record}
 use Rattle.conversation.specs.declared.Scan.{Scan}
 use Rattle.conversation.specs.Turns.{reads}
@@ -56,46 +58,24 @@ module _ (r : Record) (c : Scan) (c-is : c ≡ startOf r) where
 
 -- a message that is read, and what is left after it
 module _ (rest : List ℕ) (q : ℕ) (v : List ℕ) (m : Read) (m-is : said m ≡ nextVerdict rest q v) (h : Header) (m-reads : m ≡ answer.Message h) where
-  read-as : (passes rest q v ≡ true) × (fieldsOf (headOf rest) ≡ h)
-  unfolding nextVerdict
-  read-as = verdict-read (nextRows rest q v) (fieldsOf (headOf rest)) h (sym m-is ∙ ap said m-reads)
-
-  size-is : size rest ≡ h .length
-  size-is = ap (λ (f : Header). f .length) (read-as .1)
-
-  sized : (64 ≤ h .length) × (h .length ≤ length rest)
-  sized = let z = passes-sized rest q v (read-as .0) in let e = size-is in (omega (arith, z), omega (arith, z))
-
-  left-length : length (take (length rest - h .length) (drop (h .length) rest)) ≡ length rest - h .length
-  left-length = ap (λ (l : List ℕ). length l) (tail-all rest (h .length)) ∙ length-drop (h .length) rest
-
-  pub ends-within : h .length ≤ length rest
-  ends-within = sized .1
+  here : (64 ≤ h .length) × (h .length ≤ length rest)
+  here = sized rest q v m m-is h m-reads
 
   pub whole-length : h .length ≡ length (take (h .length) rest)
-  whole-length = sym (length-take-le (h .length) rest (sized .1))
+  whole-length = sym (length-take-le (h .length) rest (here .1))
 
   pub scheme-there : 56 ≤ length (take (h .length) rest)
-  scheme-there = omega (arith, whole-length, sized)
+  scheme-there = omega (arith, whole-length, here)
 
   pub place-fits : (at L : ℕ) → at + length rest ≡ L → L ≤ 65535 → at + h .length < 18446744073709551616
-  place-fits at L e w = omega (arith, sized)
-
-  pub left-less : length (take (length rest - h .length) (drop (h .length) rest)) < length rest
-  left-less = omega (arith, left-length, sized)
-
-  pub left-count : (n L : ℕ) → n + length rest ≤ L → n + 1 + length (take (length rest - h .length) (drop (h .length) rest)) ≤ L
-  left-count n L e = omega (arith, left-length, sized)
-
-  pub left-place : (at L next : ℕ) → at + length rest ≡ L → next ≡ at + h .length → next + length (take (length rest - h .length) (drop (h .length) rest)) ≡ L
-  left-place at L next e e' = omega (arith, left-length, sized)
+  place-fits at L e w = omega (arith, here)
 
   module _ (r : Record) (t : List ℕ) (c : Scan) (a : Admission) (a-is : admitted a ≡ admit r t c (take (h .length) rest)) where
     judged-here : (at n : ℕ) → judge r t n c (chainOf rest 0 at q v) ≡ thenJudge (admitted a) at (λ d. judge r t (n + 1) d (chainOf (drop (h .length) rest) 0 (at + h .length) (q + 1) v))
     unfolding judge
     judged-here at n =
-        ap (judge r t n c) (turn-pass at q v rest (read-as .0))
-        ∙ ap (λ (k : ℕ). thenJudge (admit r t c (take k rest)) at (λ d. judge r t (n + 1) d (chainOf (drop k rest) 0 (at + k) (q + 1) v))) size-is
+        ap (judge r t n c) (turn-pass at q v rest (passed rest q v m m-is h m-reads .0))
+        ∙ ap (λ (k : ℕ). thenJudge (admit r t c (take k rest)) at (λ d. judge r t (n + 1) d (chainOf (drop k rest) 0 (at + k) (q + 1) v))) (size-is rest q v m m-is h m-reads)
         ∙ ap (λ (z : Admitted). thenJudge z at (λ d. judge r t (n + 1) d (chainOf (drop (h .length) rest) 0 (at + h .length) (q + 1) v))) (sym a-is)
 
     pub judge-stopped : (at n : ℕ) (x : Judged) → x ≡ judge r t n c (chainOf rest 0 at q v) → (k : ℕ) → a ≡ admission.Stop k → (y : Judgement) → judgedAs y ≡ haltedBy (admitted a) at → judgedAs y ≡ x
@@ -138,10 +118,6 @@ pub ruleset refusals = (cut-here, cut-not, halted-here, halted-not)
 pub ruleset judgings = (start-named, start-judged, ends-within, scheme-there, left-less, left-count, left-place, judge-stopped, judge-named, judge-on, judge-end, judge-cut)
 
 -- the whole token
-short : (s : List ℕ) (q : ℕ) (v : List ℕ) → length s < 40 → (passes s q v ≡ false) × (firstFailing (nextRows s q v) ≡ 2)
-unfolding nextRows commonRows
-short s q v w = (simp (lt-leb _ _ w), simp (lt-leb _ _ w))
-
 module _ (r : Record) (t : List ℕ) where
   pub conversation-first : (token : ℕ) → token ≡ reads r → token ≡ 0 → (x : List ℕ) → x ≡ octets 16 t 24 → x ≡ conversationOf r t
   unfolding conversationOf

@@ -9,7 +9,8 @@ use lib.ListN.{length, take, length-append}
 use lib.Seq.{take-at}
 use lib.Dec.{leb, eqb}
 use borrow.Author.Tests.{le-leb, eq-eqb, leb-true, eqb-true}
-use Rattle.octets.proofs.Same.{both, id-refl}
+use Rattle.octets.proofs.Bools.{both}
+use Rattle.octets.proofs.Same.{id-refl}
 use Rattle.message.specs.Layout.{Shape, nego, exchange, verify, alert, shapeOf, headerOf, padsOf, Head, headOf, front, Content, contentOf, vectorsOf}
 use Rattle.message.specs.Check.{allPass, SIGNATURE, commonRows, padsZero, allKeepRule, contentRows, bodyRows, frontRows, messageRows, padRows, versionOk, criticalOk, checksumOk, noneCritical, read, fieldsOf, messageVerdict}
 use Rattle.message.proofs.Tables.{giving, pass-append, verdict-is}

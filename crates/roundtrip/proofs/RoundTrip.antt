@@ -10,11 +10,10 @@ use lib.ListN.{length, take, drop, length-append}
 use lib.Seq.{take-at, drop-at, length-take-le}
 use lib.Dec.{leb, eqb}
 use borrow.Author.Tests.{leb-true, eqb-true}
-use Rattle.octets.proofs.Same.{both}
+use Rattle.octets.proofs.Bools.{which, both}
 use Rattle.message.specs.Layout.{headerOf, padsOf, Head, headOf, size, front, contentOf, vectorsOf}
 use Rattle.message.specs.Check.{padsZero, allKeepRule}
 use Rattle.message.specs.Show.{idsAt, idsOf, schemesIn}
-use Rattle.message.proofs.Tables.{which}
 use Rattle.token.specs.Token.{passes, Accepted, tokenOf}
 use Rattle.token.specs.Split.{Message, Numbered, join, placedFrom}
 use Rattle.token.proofs.Splits.{numbered-accepted}

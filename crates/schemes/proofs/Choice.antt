@@ -2,32 +2,18 @@
 -- Assumes nothing.
 use Prim.Native.Nat.{ℕ, suc, _≤_}
 use mathlib.Core.Path.{_≡_, refl, sym, ap, _∙_}
-use mathlib.Core.Bool.{Bool, true, false, not, _&&_, false≢true}
+use mathlib.Core.Bool.{Bool, true, false, not, _&&_}
 use mathlib.Core.Logic.{inl, inr}
 use mathlib.Core.List.{List, [], _∷_}
 use mathlib.Core.Option.{some}
 use native.Mathlib.Omega.{arith}
+use Rattle.octets.proofs.Bools.{which, no-true, and-l, and-r, and-i}
 use Rattle.octets.specs.Octets.{sameOctets}
 use Rattle.octets.proofs.Same.{same-refl, same-eq}
-use Rattle.message.proofs.Tables.{which}
 use Rattle.schemes.specs.Lists.{Id, mem, place, distinct, keep, first, marked, usable, leftOver, rule2}
 use Rattle.schemes.specs.Longer.{Within, none-left, kept, gained, Longer, SameMarks, NoLater}
 
 -- Booleans
-
-pub no-true : {A : Type 0} → false ≡ true → A
-no-true e = absurd (false≢true e)
-
-pub and-l : (a b : Bool) → a && b ≡ true → a ≡ true
-and-l true b e = refl
-and-l false b e = no-true e
-
-pub and-r : (a b : Bool) → a && b ≡ true → b ≡ true
-and-r true b e = e
-and-r false b e = no-true e
-
-pub and-i : (a b : Bool) → a ≡ true → b ≡ true → a && b ≡ true
-and-i a b p q = rw (p, q)
 
 -- keep
 

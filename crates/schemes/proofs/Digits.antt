@@ -9,8 +9,8 @@ use native.Mathlib.Numerals.{one-add}
 use native.Mathlib.Omega.{arith}
 use lib.Dec.{eqb, ltb, eqb·suc-suc, eqb·suc-zero, eqb·zero-suc}
 use lib.Pow.{pow-pos, pow-mono, pow-lt, shr-shr}
-use Rattle.message.proofs.Tables.{which}
 use borrow.Author.Tests.{ltb-true, ltb-false, eqb-true, eqb-false, eq-eqb, ne-eqb, lt-ltb}
+use Rattle.octets.proofs.Bools.{which}
 use Rattle.schemes.specs.Lists.{bit}
 use Rattle.schemes.specs.Sets.{ones, below}
 use Rattle.schemes.specs.Answers.{withBit}

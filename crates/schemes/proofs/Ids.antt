@@ -5,16 +5,17 @@ use mathlib.Core.Path.{_≡_, refl, sym, ap, _∙_}
 use mathlib.Core.Bool.{Bool, true, false, cond}
 use mathlib.Core.Logic.{_⊎_, inl, inr}
 use mathlib.Core.List.{List, [], _∷_}
-use native.Mathlib.Nat.{sub-zero, add-sub-cancel-left, le-of-eq}
+use native.Mathlib.Nat.{sub-zero, add-sub-cancel-left}
 use native.Mathlib.Omega.{arith}
 use lib.ListN.{length, getD, take, drop, length-take, length-drop}
-use lib.Seq.{drop-drop, take-all}
+use lib.Seq.{drop-drop}
 use lib.Dec.{eqb, ltb, leb·suc-suc}
 use borrow.Author.Tests.{eqb-true, eqb-false, eq-eqb, ne-eqb, le-leb, lt-leb, lt-ltb, le-ltb}
+use Rattle.octets.proofs.Bools.{which}
+use Rattle.octets.proofs.Slices.{tail-all}
 use Rattle.octets.specs.Octets.{octets, sameOctets, sameId}
 use Rattle.octets.proofs.Same.{same-eq, first-no-id, ids-start}
 use Rattle.message.specs.Show.{idsAt}
-use Rattle.message.proofs.Tables.{which}
 use Rattle.schemes.specs.Lists.{Id, mem, place, distinct, listOk}
 
 -- beside an id of 16 octets, being the same id is having the same octets
@@ -107,10 +108,6 @@ module _ (s id : List ℕ) (n : ℕ) where
       pub find-miss : b ≡ false → x ≡ k + 1 + place (rest n s (k + 1)) id
       unfolding place
       find-miss t = inv ∙ simp (rest-step n s k more, same, t) (omega arith)
-
--- `&s[a..]` is the list from index a on
-pub tail-all : (s : List ℕ) (a : ℕ) → take (length s - a) (drop a s) ≡ drop a s
-tail-all s a = take-all (length s - a) (drop a s) (le-of-eq (length-drop a s))
 
 -- ---- one turn of the test for repeats
 module _ (s : List ℕ) (n : ℕ) where

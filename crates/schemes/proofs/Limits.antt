@@ -11,7 +11,7 @@ use lib.ListN.{length, getD, drop, drop-of-length-le}
 use lib.Seq.{drop-cons}
 use lib.Dec.{ltb}
 use borrow.Author.Tests.{eq-eqb, ne-eqb, lt-ltb, ltb-true}
-use Rattle.octets.proofs.Same.{both}
+use Rattle.octets.proofs.Bools.{both}
 use Rattle.schemes.specs.Lists.{Id, place, bit}
 use Rattle.schemes.specs.Sets.{has, noted, mentions, keptPlaces, openPlaces, keptBelow, padTo}
 use Rattle.schemes.specs.Answers.{placesFrom, leftPlaces, leftOf}

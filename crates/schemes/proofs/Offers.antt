@@ -85,7 +85,7 @@ join-length (suc n) s c m h =
     go true l e i = simp length-append (omega arith)
     go false l e i = i
 
-bit-zero : (k : ℕ) → bit 0 k ≡ false
+pub bit-zero : (k : ℕ) → bit 0 k ≡ false
 bit-zero zero = refl
 bit-zero (suc k) = bit-zero k
 

@@ -9,12 +9,12 @@ use native.Mathlib.Omega.{arith}
 use lib.ListN.{length, getD, replicate}
 use lib.Dec.{eqb}
 use borrow.Author.Tests.{eq-eqb, ne-eqb, lt-ltb}
+use Rattle.octets.proofs.Bools.{which, no-true, and-l, and-r}
 use Rattle.octets.specs.Octets.{sameOctets}
 use Rattle.octets.proofs.Same.{same-refl, same-eq}
-use Rattle.message.proofs.Tables.{which}
 use Rattle.schemes.specs.Lists.{Id, mem, place, distinct, keep, bit, marked, leftOver}
 use Rattle.schemes.specs.Sets.{setOf, commonSet, left, has, noted, mentions, keptPlaces, ones, openPlaces, named, padTo}
-use Rattle.schemes.proofs.Choice.{no-true, and-l, and-r, mem-head, mem-tail, keep-ext, keep-keep, keep-distinct, mem-keep, not-mem-same, place-inj}
+use Rattle.schemes.proofs.Choice.{mem-head, mem-tail, keep-ext, keep-keep, keep-distinct, mem-keep, not-mem-same, place-inj}
 
 even-bit : (n : ℕ) → (bit (0 + 2 * n) 0 ≡ false) × ((0 + 2 * n) / 2 ≡ n)
 even-bit n = (ne-eqb ((0 + 2 * n) % 2) 1 (λ e. omega arith), omega arith)

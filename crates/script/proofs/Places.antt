@@ -10,10 +10,10 @@ use lib.ListN.{length, take, drop, length-drop, drop-of-length-le}
 use lib.Seq.{take-nil, take-length, drop-drop}
 use lib.Dec.{eqb, ltb, leb·suc-suc}
 use borrow.Author.Tests.{ltb-true, ltb-false, lt-ltb, le-ltb}
+use Rattle.octets.proofs.Bools.{which}
 use Rattle.bytes.specs.Bytes.{indexOf, indexAfter, slice}
 use Rattle.octets.specs.Octets.{sameOctets}
 use Rattle.fields.specs.Fields.{part}
-use Rattle.fields.proofs.Parts.{which}
 use Rattle.script.specs.Grammar.{longer, fieldsOf, first, others, only, placeFrom, placeOf}
 use Rattle.script.specs.Steps.{endOf, fieldsFrom}
 

@@ -1,6 +1,6 @@
 -- An exchange, VERIFY or ALERT of the rule's scheme, in the words of the code.
 -- Assumes nothing.
-use Prim.Native.Nat.{ℕ, _+_, _≤_, _<_}
+use Prim.Native.Nat.{ℕ, _≤_, _<_}
 use mathlib.Core.Path.{_≡_, refl, ap, _∙_}
 use mathlib.Core.Bool.{Bool, true, false}
 use mathlib.Core.List.{List}
@@ -13,11 +13,12 @@ use Rattle.conversation.specs.State.{schemeAt}
 use Rattle.conversation.specs.Turns.{placeAfter}
 use Rattle.conversation.specs.Outcomes.{Outcome, WrittenAs, answered, unchanged, wrote, appended}
 use Rattle.conversation.specs.Writing.{messageOf, schemeNow, schemeAllowed, namedRows}
+use Rattle.conversation.proofs.Inside.{now-below}
 use Rattle.calls.specs.Calls.{roomFor, stageRefusal, writeRefusal, Inside, Appended}
 use Rattle.calls.proofs.Refusals.{write-stage, write-on, passed-inside, passed-own}
 use Rattle.calls.proofs.Sizes.{Sized}
 use Rattle.calls.proofs.Writes.{changed, called, write-refused, write-written}
-use Rattle.sending.proofs.Schemes.{own-id, allowed-inside}
+use Rattle.sending.proofs.Schemes.{own-id}
 
 module _ (r : Record) (kind size len n : ℕ) (n-is : n ≡ stageRefusal r kind) (z : n ≡ 0) (b : Bool) (b-is : b ≡ schemeAllowed r) where
   pub named-scheme : b ≡ false → 15 ≡ writeRefusal r kind (namedRows r) size len
@@ -35,7 +36,7 @@ pub ruleset named-refusals = (write-stage, named-scheme, named-crowded, named-fi
 -- ---- the call, by its refusal, for any contents of a scheme
 pub named-inside : (r : Record) (kind size len n : ℕ) → n ≡ writeRefusal r kind (namedRows r) size len → n ≡ 0 → (r .count ≤ 16) × (schemeNow r < r .count)
 named-inside r kind size len n n-is z =
-    (passed-inside r kind (namedRows r) size len n n-is z refl .few, allowed-inside r (passed-own r kind (namedRows r) size len n n-is z refl .0))
+    (passed-inside r kind (namedRows r) size len n n-is z refl .few, now-below r (passed-own r kind (namedRows r) size len n n-is z refl .0))
 
 module _ (r : Record) (arrays : Sized r) (d : List ℕ) (kind : ℕ) (of : List ℕ → Contents) (whole-of : (s : List ℕ) → length s ≡ 16 → Whole (of s)) (n : ℕ)
     (n-is : n ≡ writeRefusal r kind (namedRows r) (sizeOf (of (schemeAt r (schemeNow r)))) (length d)) where
@@ -43,7 +44,7 @@ module _ (r : Record) (arrays : Sized r) (d : List ℕ) (kind : ℕ) (of : List 
   contents = of (schemeAt r (schemeNow r))
 
   whole : Inside r → AllTrue (namedRows r) → Whole contents × (sizeOf contents ≡ sizeOf contents)
-  whole i t = (whole-of _ (own-id r arrays (i .few) (schemeNow r) (allowed-inside r (t .0))), refl)
+  whole i t = (whole-of _ (own-id r arrays (i .few) (schemeNow r) (now-below r (t .0))), refl)
 
   pub named-refused : (n ≡ 0 → ⊥) → (a : Answer) → a ≡ answered n 0 r → (action : Outcome) → _≡_ {A = Outcome} (record { answer = a; transcript = d }) (called r d kind (namedRows r) contents action)
   named-refused = write-refused r arrays d kind (namedRows r) contents (sizeOf contents) whole n n-is

@@ -9,17 +9,16 @@ use native.Mathlib.Omega.{arith}
 use lib.ListN.{length, getD}
 use lib.Dec.{eqb, ltb}
 use borrow.Author.Tests.{eq-eqb, ne-eqb, lt-ltb, ltb-true, eqb-true, eqb-false, not-true}
+use Rattle.octets.proofs.Bools.{which, no-true, and-l, and-r}
 use Rattle.octets.specs.Octets.{octets, sameOctets}
 use Rattle.octets.proofs.Same.{same-eq, same-refl}
-use Rattle.message.proofs.Tables.{which}
 use Rattle.schemes.specs.Lists.{Id, mem, place, distinct}
 use Rattle.schemes.specs.Answers.{leftPlaces, leftOf}
 use Rattle.schemes.specs.declared.Left.{Left}
-use Rattle.schemes.proofs.Choice.{no-true, and-l, and-r}
 use Rattle.schemes.proofs.Ids.{length-ids, id-at, mem-place}
 use Rattle.conversation.specs.declared.Record.{Record}
 use Rattle.conversation.specs.State.{ownOf, schemeAt, replied}
-use Rattle.conversation.specs.Turns.{writing, writes}
+use Rattle.conversation.specs.Turns.{writing}
 use Rattle.conversation.specs.Writing.{someLeft, startsWith, schemeNow, firstOfReply, schemeAllowed}
 use Rattle.calls.specs.Calls.{Inside}
 use Rattle.calls.proofs.Sizes.{Sized, own-sized}
@@ -108,19 +107,3 @@ module _ (r : Record) (b : Inside r) (z : Left) (z-is : z ≡ leftOf (leftPlaces
           absurd (eqb-false _ _ e (sym (place-at (z .place) inside) ∙ ap (place (ownOf r)) (sym (same-eq _ _ s)) ∙ place-at (r .asked) (ltb-true _ _ l)))
 
 pub ruleset firsts = (first-empty, first-same)
-
--- ---- a scheme that is allowed stands in the own list
-unmet : (b x y : Bool) → b ≡ false → cond b x y ≡ true → y ≡ true
-unmet true x y e h = no-true (sym e)
-unmet false x y e h = h
-
-pub allowed-inside : (r : Record) → schemeAllowed r ≡ true → schemeNow r < r .count
-unfolding schemeNow
-allowed-inside r h = go (which (eqb (writes r) 1)) where
-  go : (eqb (writes r) 1 ≡ true) ⊎ (eqb (writes r) 1 ≡ false) → schemeNow r < r .count
-  go (inl e) =
-      let w : writes r ≡ 1 = eqb-true (writes r) 1 e in
-      let f : firstOfReply r ≡ true = rw e at h in
-      let i : ltb (r .asked) (r .count) ≡ true = and-l (ltb (r .asked) (r .count)) (startsWith (replied r) (schemeAt r (r .asked))) f in
-      rw w (ltb-true (r .asked) (r .count) i)
-  go (inr e) = ltb-true (schemeNow r) (r .count) (unmet (eqb (writes r) 1) (firstOfReply r) (ltb (schemeNow r) (r .count)) e h)

@@ -2,32 +2,30 @@
 -- Assumes nothing.
 use Prim.Native.Nat.{ℕ, suc, _+_, _^_, _≤_, _<_}
 use mathlib.Core.Path.{_≡_, refl, sym, ap, _∙_}
-use mathlib.Core.Bool.{Bool, true, false, cond, not, _&&_}
+use mathlib.Core.Bool.{Bool, true, false, cond, _&&_}
 use mathlib.Core.List.{List, [], _∷_, _++_}
 use native.Mathlib.Omega.{arith}
 use lib.ListN.{length}
 use lib.Dec.{ltb}
-use borrow.Author.Tests.{le-leb, lt-leb, not-true}
+use borrow.Author.Tests.{le-leb, lt-leb}
 use Rattle.octets.specs.Octets.{sameOctets}
 use Rattle.message.specs.Check.{firstFailing}
 use Rattle.message.proofs.Tables.{AllTrue}
 use Rattle.encode.specs.Encode.{Whole, Contents, ofExchange, sizeOf}
 use Rattle.schemes.specs.Lists.{Id, mem, place, bit}
 use Rattle.schemes.specs.Answers.{withBit}
-use Rattle.schemes.proofs.Choice.{and-l, and-r}
 use Rattle.schemes.proofs.Ids.{length-ids, mem-place}
-use Rattle.schemes.proofs.Replies.{place-below}
 use Rattle.conversation.specs.declared.Record.{Record}
 use Rattle.conversation.specs.declared.Answer.{Answer}
 use Rattle.conversation.specs.State.{ownOf, replied}
 use Rattle.conversation.specs.Turns.{typeOf}
 use Rattle.conversation.specs.Outcomes.{Outcome, answered, row}
 use Rattle.conversation.specs.Writing.{metadataAllowed, metadataRows, writingMetadata}
+use Rattle.conversation.proofs.Inside.{place-own, allowed-own, allowed-untold}
 use Rattle.calls.specs.Calls.{roomFor, stageRefusal, writeRefusal, Inside, Ready, Appended}
 use Rattle.calls.proofs.Refusals.{write-stage, write-on, passed-inside, passed-own}
 use Rattle.calls.proofs.Sizes.{Sized}
 use Rattle.calls.proofs.Writes.{changed, write-refused, write-ready, write-written}
-use Rattle.calls.proofs.Replies.{left-mem}
 
 -- ---- where a scheme stands
 pub place-most : (l : List Id) (s : Id) → place l s ≤ length l
@@ -103,21 +101,12 @@ module _ (r : Record) (id : Id) (v len n : ℕ) (n-is : n ≡ writeRefusal r 2 (
   allowed : metadataAllowed r id ≡ true
   allowed = passed-own r 2 (metadataRows r id v) (64 + v) len n n-is z refl .1 .0
 
-  untold : bit (r .told) (place (ownOf r) id) ≡ false
-  untold = not-true _ (and-r (mem id (cond (r .acceptor) (replied r) (ownOf r))) (not (bit (r .told) (place (ownOf r) id))) allowed)
-
-  own : mem id (ownOf r) ≡ true
-  own = go (r .acceptor) (and-l (mem id (cond (r .acceptor) (replied r) (ownOf r))) (not (bit (r .told) (place (ownOf r) id))) allowed) where
-    go : (a : Bool) → mem id (cond a (replied r) (ownOf r)) ≡ true → mem id (ownOf r) ≡ true
-    go true h = left-mem (ownOf r) (r .common) (r .marks) id (metadata-inside .different) h
-    go false h = h
-
   pub metadata-place : (p : ℕ) → p ≡ place (ownOf r) id → p < 16
-  metadata-place p p-is = omega (arith, p-is, place-below (ownOf r) id own, length-ids (r .count) (r .list), metadata-inside .few)
+  metadata-place p p-is = omega (arith, p-is, place-own r id (allowed-own r id allowed), length-ids (r .count) (r .list), metadata-inside .few)
 
   metadata-told : (p : ℕ) → p ≡ place (ownOf r) id → withBit (r .told) p ≡ r .told + 2 ^ place (ownOf r) id
   unfolding withBit
-  metadata-told p p-is = ap (withBit (r .told)) p-is ∙ rw untold
+  metadata-told p p-is = ap (withBit (r .told)) p-is ∙ rw (allowed-untold r id allowed)
 
 module _ (r : Record) (arrays : Sized r) (d : List ℕ) (id : Id) (full : length id ≡ 16) (value : List ℕ) (n : ℕ) (n-is : n ≡ writeRefusal r 2 (metadataRows r id (length value)) (64 + length value) (length d)) where
   abbrev contents : Contents

@@ -10,11 +10,11 @@ use lib.Dec.{ltb}
 use lib.IntN.{ℤ, pos, negsuc}
 use lib.ListN.{length, take, length-append}
 use borrow.Author.Tests.{lt-ltb, le-ltb, ltb-true, ltb-false}
+use Rattle.octets.proofs.Bools.{which}
 use Rattle.io.specs.Digits.{digits, Fewest}
 use Rattle.octets.specs.Octets.{signed32}
 use Rattle.text.specs.Text.{quoted, decimalTo, decimal, decimal64, signed, Text, written}
 use Rattle.put.specs.Put.{joined}
-use Rattle.text.proofs.Pieces.{which}
 
 -- k + 1 digits, none of them needless
 decimal-digits : (f k n : ℕ) → k < f → n < 10 ^ suc k → (0 < k → 10 ^ k ≤ n) → digits 10 (suc k) n ≡ decimalTo f n

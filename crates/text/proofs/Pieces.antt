@@ -3,7 +3,7 @@
 use Prim.Native.Nat.{ℕ, _+_, _-_, _/_, _%_, _<_, _≤_}
 use mathlib.Core.Path.{_≡_, refl, sym, ap, _∙_}
 use mathlib.Core.Bool.{Bool, true, false, cond}
-use mathlib.Core.Logic.{_⊎_, inl, inr}
+use mathlib.Core.Logic.{inl, inr}
 use mathlib.Core.List.{List, [], _∷_, _++_}
 use native.Mathlib.Nat.{add-zero}
 use native.Mathlib.Numerals.{add-one}
@@ -12,13 +12,10 @@ use lib.ListN.{length, drop, take, getD, length-append, List·getD-eq-default}
 use lib.Seq.{take-suc, take-length, take-at, length-take-le}
 use lib.Dec.{leb, eqb}
 use borrow.Author.Tests.{le-leb, eq-eqb, ne-eqb, leb-true}
+use Rattle.octets.proofs.Bools.{which}
 use Rattle.text.specs.Text.{quoted, hexDigit, hexOf, glyphOf, glyphs, Text, text, appended, written}
 use Rattle.put.specs.Put.{put, joined, Written}
 use Rattle.put.proofs.Laws.{put-none, length-put, put-more, joined-append}
-
-pub which : (b : Bool) → (b ≡ true) ⊎ (b ≡ false)
-which true = inl refl
-which false = inr refl
 
 -- what stands in front of a place, once v is put there
 pub take-put : (d : List ℕ) (at : ℕ) (v : List ℕ) → at + length v ≤ length d → take (at + length v) (put d at v) ≡ take at d ++ v

@@ -6,7 +6,8 @@ use Prim.Native.Nat.{_-_, _≤_}
 use mathlib.Core.Path.{_≡_}
 use Rattle.message.specs.Show.{idsAt}
 use Rattle.schemes.specs.Lists.{distinct}
-use Rattle.schemes.proofs.Ids.{rest, tail-all, repeats}
+use Rattle.octets.proofs.Slices.{tail-all}
+use Rattle.schemes.proofs.Ids.{rest, repeats}
 use Rattle.schemes.proofs.list.distinct_ids.Statement.{statement}
 use Rattle.schemes.proofs.list.distinct_ids.Tie as tie
 
