@@ -9,8 +9,9 @@ use lib.ListN.{length}
 use borrow.Author.Tests.{eq-eqb, ne-eqb, lt-ltb, le-ltb}
 use Rattle.octets.specs.Octets.{octets, sameOctets, sameId}
 use Rattle.message.specs.Show.{idsOf}
+use Rattle.message.proofs.Ids.{id-at}
 use Rattle.schemes.specs.Lists.{Id, mem}
-use Rattle.schemes.proofs.Ids.{same-as, id-at}
+use Rattle.schemes.proofs.Ids.{same-as}
 use Rattle.conversation.specs.declared.Record.{Record}
 use Rattle.conversation.specs.declared.Scan.{Scan}
 use Rattle.conversation.specs.State.{replied}

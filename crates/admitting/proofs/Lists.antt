@@ -12,18 +12,15 @@ use Rattle.octets.proofs.Slices.{tail-all}
 use Rattle.octets.specs.Octets.{le, octets, sameOctets, sameId}
 use Rattle.octets.proofs.Same.{same-sizes}
 use Rattle.vector.specs.Vector.{shown}
-use Rattle.message.specs.Layout.{headOf, size, front, schemeVector}
+use Rattle.message.specs.Layout.{size, front, schemeVector}
 use Rattle.message.specs.Show.{idsAt, idsOf, schemesIn}
+use Rattle.message.proofs.Ids.{size-is}
 use Rattle.parts.proofs.Shows.{shown-short}
 use Rattle.schemes.specs.Lists.{Id, mem}
 use Rattle.schemes.proofs.Ids.{same-as}
 use Rattle.conversation.specs.Writing.{startsWith}
 use Rattle.conversation.specs.Admitting.{schemeIn, listedBy, messagesAt, metadataFits}
 use Rattle.admitting.specs.Admissions.{listedIn}
-
-size-is : (s : List ℕ) → le 4 s 20 ≡ size s
-unfolding headOf
-size-is s = refl
 
 -- the list of the token's NEGO
 module _ (t : List ℕ) where

@@ -12,11 +12,11 @@ use borrow.Author.Tests.{ltb-true}
 use Rattle.octets.proofs.Bools.{no-true, and-l, and-r}
 use Rattle.octets.specs.Octets.{octets, sameOctets}
 use Rattle.message.specs.Show.{idsAt}
+use Rattle.message.proofs.Ids.{length-ids, id-at}
 use Rattle.schemes.specs.Lists.{Id, bit}
 use Rattle.schemes.specs.Sets.{left, openPlaces, named, keptBelow}
 use Rattle.schemes.specs.Answers.{placesFrom, leftPlaces, leftOf}
 use Rattle.schemes.specs.declared.Left.{Left}
-use Rattle.schemes.proofs.Ids.{length-ids, id-at}
 use Rattle.schemes.proofs.Places.{lowest, less, less-step, left-below, named-left}
 use Rattle.conversation.specs.Writing.{someLeft, firstOr, startsWith}
 use Rattle.conversation.specs.Choosing.{firstPlace}

@@ -12,9 +12,10 @@ use Rattle.octets.proofs.Bools.{both}
 use Rattle.octets.specs.Octets.{sameOctets}
 use Rattle.octets.proofs.Same.{same-eq}
 use Rattle.message.specs.Show.{idsAt}
+use Rattle.message.proofs.Ids.{length-ids}
 use Rattle.schemes.specs.Lists.{Id, mem, place, distinct, bit}
 use Rattle.schemes.specs.Sets.{left}
-use Rattle.schemes.proofs.Ids.{length-ids, mem-place}
+use Rattle.schemes.proofs.Ids.{mem-place}
 use Rattle.conversation.specs.declared.Record.{Record}
 use Rattle.conversation.specs.State.{ownOf, replied}
 use Rattle.calls.specs.Calls.{Inside}

@@ -14,12 +14,12 @@ use Rattle.octets.proofs.Bools.{which, no-true, and-l, and-r}
 use Rattle.octets.specs.Octets.{sameOctets}
 use Rattle.message.specs.Layout.{headOf}
 use Rattle.message.proofs.Tables.{AllTrue}
+use Rattle.message.proofs.Ids.{length-ids}
 use Rattle.schemes.specs.Lists.{Id, mem, place, bit}
 use Rattle.schemes.specs.Answers.{leftOf}
 use Rattle.schemes.specs.Sets.{commonSet, left, keptPlaces, ones, below, keptBelow, padTo}
 use Rattle.schemes.proofs.Choice.{mem-tail}
 use Rattle.schemes.proofs.Digits.{ones-pow, bit-room}
-use Rattle.schemes.proofs.Ids.{length-ids}
 use Rattle.schemes.proofs.Places.{set-bound}
 use Rattle.schemes.proofs.Limits.{kept-below, open-below}
 use Rattle.schemes.proofs.Mentions.{kept-few}

@@ -18,10 +18,11 @@ use Rattle.message.specs.Layout.{Shape, nego, exchange, verify, alert, headOf, 
 use Rattle.message.specs.Check.{allKeepRule}
 use Rattle.message.specs.Show.{idAt, idsOf}
 use Rattle.message.proofs.Shapes.{shape-nego, shape-exchange, shape-verify, shape-alert, header-least}
+use Rattle.message.proofs.Ids.{length-ids, id-at}
 use Rattle.text.specs.Text.{Text, written}
 use Rattle.lines.specs.Lines.{messageLine, schemeLine, extensionLine, exchangeLine, checksumLine, errorLine, alertLine, numbered, messageLines}
 use Rattle.lines.specs.Fit.{Fit, shapeIn, linesIn}
-use Rattle.lines.proofs.Lists.{length-numbered, getD-numbered, length-ids, getD-ids, length-elements, getD-elements, in-first, in-second}
+use Rattle.lines.proofs.Lists.{length-numbered, getD-numbered, length-elements, getD-elements, in-first, in-second}
 
 -- a vector that keeps its rule is shown whole
 kept : (header : ℕ) (m : List ℕ) (v : Vector) (a : List ℕ) → keepsRule header (length m) v ≡ true → a ≡ shown header m v → a ≡ part m v
@@ -98,7 +99,7 @@ module _ (m : List ℕ) (fit : Fit nego m) where
           ∙ in-first schemes (others b) j (length a / 16) [] length-schemes h
           ∙ getD-numbered schemeLine 0 (idsOf a) j [] n
           ∙ ap (λ (i : ℕ). schemeLine i (getD (idsOf a) j [])) k
-          ∙ ap (schemeLine j) (getD-ids (length a / 16) a j h) in
+          ∙ ap (schemeLine j) (id-at (length a / 16) a j h) in
           same t x _ _ (ap (schemeLine j) c ∙ sym g) e
 
       module _ (past : length a / 16 ≤ j) (b : List ℕ) (b-is : b ≡ shown 96 m (extensionVector m)) where

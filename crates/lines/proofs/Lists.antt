@@ -4,10 +4,9 @@ use Prim.Native.Nat.{ℕ, zero, suc, _+_, _*_, _-_, _<_, _≤_}
 use mathlib.Core.Path.{_≡_, refl, ap, _∙_}
 use mathlib.Core.List.{List, [], _∷_, _++_}
 use native.Mathlib.Omega.{arith}
-use lib.ListN.{length, take, drop, getD, List·getD-append}
-use lib.Seq.{getD-append-add, drop-drop}
+use lib.ListN.{length, getD, List·getD-append}
+use lib.Seq.{getD-append-add}
 use Rattle.message.specs.Layout.{Element, elementAt, elementsAt}
-use Rattle.message.specs.Show.{idsAt}
 use Rattle.lines.specs.Lines.{numberedFrom}
 
 pub length-numbered : {A : Type 0} (f : ℕ → A → List (List ℕ)) (k : ℕ) (xs : List A) → length (numberedFrom f k xs) ≡ length xs
@@ -20,19 +19,6 @@ unfolding numberedFrom
 getD-numbered f k [] i z h = absurd (omega arith)
 getD-numbered f k (x ∷ xs) zero z h = let e : k ≡ k + 0 = omega arith in ap (λ (n : ℕ). f n x) e
 getD-numbered f k (x ∷ xs) (suc i) z h = let e : k + 1 + i ≡ k + suc i = omega arith in getD-numbered f (k + 1) xs i z (omega arith) ∙ ap (λ (n : ℕ). f n (getD xs i z)) e
-
-pub length-ids : (n : ℕ) (a : List ℕ) → length (idsAt n a) ≡ n
-unfolding idsAt
-length-ids zero a = refl
-length-ids (suc n) a = ap suc (length-ids n (drop 16 a))
-
-pub getD-ids : (n : ℕ) (a : List ℕ) (i : ℕ) → i < n → getD (idsAt n a) i [] ≡ take 16 (drop (16 * i) a)
-unfolding idsAt
-getD-ids zero a i h = absurd (omega arith)
-getD-ids (suc n) a zero h = refl
-getD-ids (suc n) a (suc i) h =
-    let e : 16 + 16 * i ≡ 16 * suc i = omega arith in
-    getD-ids n (drop 16 a) i (omega arith) ∙ ap (take 16) (drop-drop (16 * i) 16 a ∙ ap (λ (k : ℕ). drop k a) e)
 
 pub length-elements : (n : ℕ) (a : List ℕ) (at : ℕ) → length (elementsAt n a at) ≡ n
 unfolding elementsAt

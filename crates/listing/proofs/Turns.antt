@@ -12,6 +12,7 @@ use Rattle.octets.proofs.Slices.{tail-all}
 use Rattle.message.specs.Layout.{Head, headOf, headerOf, contentOf, vectorsOf, size, front}
 use Rattle.message.specs.Check.{allKeepRule, bodyRows, contentRows, frontRows}
 use Rattle.message.proofs.Tables.{given}
+use Rattle.message.proofs.Ids.{size-is}
 use Rattle.token.specs.Token.{Placed, tokenOf}
 use Rattle.token.specs.Split.{Message, Numbered, join, placedFrom}
 use Rattle.token.proofs.Cuts.{passes-parts, passes-sized}
@@ -64,7 +65,7 @@ turn rest w place n more n-is = go (w .ms) (w .joins) (w .numbered) where
   go [] j e = absurd (omega (arith, ap length j))
   go (m ∷ ms) j e =
       let h : headOf (m ++ join ms) ≡ headOf m = message-head (w .q) (w .v) m (join ms) (e .0) in
-      let own : n ≡ length m = n-is ∙ number rest ∙ ap (λ (l : List ℕ). size l) (sym j) ∙ ap (λ (g : Head). g .length) h ∙ e .0 .exact in
+      let own : n ≡ length m = n-is ∙ size-is rest ∙ ap (λ (l : List ℕ). size l) (sym j) ∙ ap (λ (g : Head). g .length) h ∙ e .0 .exact in
       let front-is : m ≡ take n rest = sym (ap (take n) (sym j) ∙ take-at m (join ms) n (sym own)) in
       let rest-is : join ms ≡ drop n rest = sym (ap (drop n) (sym j) ∙ drop-at m (join ms) n (sym own)) in
       record {
@@ -75,9 +76,6 @@ turn rest w place n more n-is = go (w .ms) (w .joins) (w .numbered) where
         lines = listed m ms ∙ ap (λ (l : List ℕ). messageLines place l ++ allLines (placedFrom (place + length m) ms)) front-is
             ∙ ap (λ (k : ℕ). messageLines place (take n rest) ++ allLines (placedFrom (place + k) ms)) (sym own);
       } where
-        number : (l : List ℕ) → le 4 l 20 ≡ size l
-        number l = unfold headOf in refl
-
         listed : (m : List ℕ) (ms : List (List ℕ)) → allLines (placedFrom place (m ∷ ms)) ≡ messageLines place m ++ allLines (placedFrom (place + length m) ms)
         listed m ms = unfold allLines in refl
 

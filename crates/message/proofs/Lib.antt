@@ -1,5 +1,6 @@
 pub mod Tables
 pub mod Shapes
+pub mod Ids
 pub mod Headers
 pub mod Elements
 pub mod Bodies

@@ -12,10 +12,10 @@ use lib.Seq.{take-length}
 use borrow.Author.Tests.{eqb-true, leb-true}
 use Rattle.octets.proofs.Bools.{and-l, and-r}
 use Rattle.message.specs.Show.{idsOf}
+use Rattle.message.proofs.Ids.{length-ids}
 use Rattle.put.specs.Put.{put, Written}
 use Rattle.schemes.specs.Lists.{distinct, oneTo16, listOk}
 use Rattle.schemes.specs.Sets.{padTo}
-use Rattle.schemes.proofs.Ids.{length-ids}
 use Rattle.schemes.proofs.Offers.{paste-pad}
 use Rattle.conversation.specs.declared.Record.{Record}
 use Rattle.conversation.specs.declared.Answer.{Answer}

@@ -8,11 +8,11 @@ use native.Mathlib.Omega.{arith}
 use lib.Dec.{eqb}
 use borrow.Author.Tests.{eq-eqb, ne-eqb}
 use Rattle.message.specs.Show.{idsAt, idsOf}
+use Rattle.message.proofs.Ids.{length-ids}
 use Rattle.schemes.specs.declared.Kept.{Kept}
 use Rattle.schemes.specs.Lists.{Id}
 use Rattle.schemes.specs.Sets.{commonSet, keptPlaces, ones}
 use Rattle.schemes.specs.Answers.{keptOf}
-use Rattle.schemes.proofs.Ids.{length-ids}
 use Rattle.schemes.proofs.Mentions.{kept-few}
 use Rattle.conversation.specs.declared.Record.{Record}
 use Rattle.conversation.specs.declared.Scan.{Scan}

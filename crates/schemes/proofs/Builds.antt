@@ -11,10 +11,11 @@ use lib.Seq.{drop-cons}
 use lib.Pow.{pow-mono}
 use Rattle.octets.specs.Octets.{octets}
 use Rattle.message.specs.Show.{idsAt, idsOf}
+use Rattle.message.proofs.Ids.{length-ids}
 use Rattle.schemes.specs.Lists.{Id, mem, bit}
 use Rattle.schemes.specs.Sets.{setOf, commonSet}
 use Rattle.schemes.specs.Answers.{markedAt}
-use Rattle.schemes.proofs.Ids.{rest, rest-start, rest-step, length-ids}
+use Rattle.schemes.proofs.Ids.{rest, rest-start, rest-step}
 use Rattle.schemes.proofs.Places.{set-bound}
 
 -- One more place in front, in the words of the code: the list l′ is x and then l, and b says whether x has p.

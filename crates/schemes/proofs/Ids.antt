@@ -1,13 +1,13 @@
 -- Lists of ids in octets: what is left of a list from a place on, and one turn of each loop over places, in the words of the code.
 -- Assumes nothing.
-use Prim.Native.Nat.{ℕ, zero, suc, _+_, _*_, _-_, _/_, _%_, _≤_, _<_}
+use Prim.Native.Nat.{ℕ, suc, _+_, _*_, _-_, _/_, _%_, _≤_, _<_}
 use mathlib.Core.Path.{_≡_, refl, sym, ap, _∙_}
 use mathlib.Core.Bool.{Bool, true, false, cond}
 use mathlib.Core.Logic.{_⊎_, inl, inr}
 use mathlib.Core.List.{List, [], _∷_}
 use native.Mathlib.Nat.{sub-zero, add-sub-cancel-left}
 use native.Mathlib.Omega.{arith}
-use lib.ListN.{length, getD, take, drop, length-take, length-drop}
+use lib.ListN.{length, take, drop, length-take, length-drop}
 use lib.Seq.{drop-drop}
 use lib.Dec.{eqb, ltb, leb·suc-suc}
 use borrow.Author.Tests.{eqb-true, eqb-false, eq-eqb, ne-eqb, le-leb, lt-leb, lt-ltb, le-ltb}
@@ -16,6 +16,7 @@ use Rattle.octets.proofs.Slices.{tail-all}
 use Rattle.octets.specs.Octets.{octets, sameOctets, sameId}
 use Rattle.octets.proofs.Same.{same-eq, first-no-id, ids-start}
 use Rattle.message.specs.Show.{idsAt}
+use Rattle.message.proofs.Ids.{length-ids}
 use Rattle.schemes.specs.Lists.{Id, mem, place, distinct, listOk}
 
 -- beside an id of 16 octets, being the same id is having the same octets
@@ -30,20 +31,6 @@ same-as a b h = go (which (eqb (length a) 16)) where
   go (inr e) =
       let u : length a ≡ 16 → ⊥ = eqb-false _ _ e in
       sym (first-no-id a b u) ∙ other u (which (sameOctets a b))
-
-pub length-ids : (n : ℕ) (s : List ℕ) → length (idsAt n s) ≡ n
-unfolding idsAt
-length-ids zero s = refl
-length-ids (suc n) s = ap suc (length-ids n (drop 16 s))
-
--- the id at a place of a list, where its octets stand
-pub id-at : (n : ℕ) (s : List ℕ) (k : ℕ) → k < n → getD (idsAt n s) k [] ≡ octets 16 s (16 * k)
-unfolding idsAt
-id-at zero s k h = absurd (omega arith)
-id-at (suc n) s zero h = refl
-id-at (suc n) s (suc k) h =
-    let e : 16 + 16 * k ≡ 16 * suc k = omega arith in
-    id-at n (drop 16 s) k (omega arith) ∙ simp (drop-drop, e)
 
 -- ---- what is left of the n ids of s from place k on
 abbrev pub rest : ℕ → List ℕ → ℕ → List Id

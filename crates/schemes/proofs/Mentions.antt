@@ -14,11 +14,11 @@ use lib.Dec.{eqb, ltb}
 use borrow.Author.Tests.{eq-eqb, ne-eqb, lt-ltb, le-ltb, eqb-true, eqb-false, ltb-true}
 use Rattle.octets.specs.Octets.{octets}
 use Rattle.message.specs.Show.{idsAt, idsOf}
+use Rattle.message.proofs.Ids.{length-ids}
 use Rattle.schemes.specs.declared.Kept.{Kept}
 use Rattle.schemes.specs.Lists.{Id, place}
 use Rattle.schemes.specs.Sets.{has, noted, mentions, keptPlaces, padTo}
 use Rattle.schemes.specs.Answers.{keptOf, placesIn, Noting}
-use Rattle.schemes.proofs.Ids.{length-ids}
 use Rattle.schemes.proofs.Pads.{pad-more}
 use Rattle.schemes.proofs.Replies.{has-append}
 

@@ -11,11 +11,11 @@ use lib.ListN.{length, getD, set, take, drop, replicate, length-append, length-t
 use lib.Seq.{paste, paste-zero, paste-suc, take-all, take-at, drop-at, drop-append-add}
 use Rattle.octets.specs.Octets.{octets}
 use Rattle.message.specs.Show.{idsAt}
+use Rattle.message.proofs.Ids.{length-ids}
 use Rattle.schemes.specs.declared.Schemes.{Schemes}
 use Rattle.schemes.specs.Lists.{Id, bit, joinIds}
 use Rattle.schemes.specs.Sets.{left, padTo}
 use Rattle.schemes.specs.Answers.{schemesOf}
-use Rattle.schemes.proofs.Ids.{length-ids}
 use Rattle.schemes.proofs.Mentions.{ids-snoc}
 
 -- ---- an id copied behind others

@@ -9,13 +9,14 @@ use native.Mathlib.Omega.{arith}
 use lib.ListN.{length, getD}
 use lib.Dec.{eqb, ltb}
 use borrow.Author.Tests.{eq-eqb, ne-eqb, lt-ltb, ltb-true, eqb-true, eqb-false, not-true}
+use Rattle.message.proofs.Ids.{length-ids, id-at}
 use Rattle.octets.proofs.Bools.{which, no-true, and-l, and-r}
 use Rattle.octets.specs.Octets.{octets, sameOctets}
 use Rattle.octets.proofs.Same.{same-eq, same-refl}
 use Rattle.schemes.specs.Lists.{Id, mem, place, distinct}
 use Rattle.schemes.specs.Answers.{leftPlaces, leftOf}
 use Rattle.schemes.specs.declared.Left.{Left}
-use Rattle.schemes.proofs.Ids.{length-ids, id-at, mem-place}
+use Rattle.schemes.proofs.Ids.{mem-place}
 use Rattle.conversation.specs.declared.Record.{Record}
 use Rattle.conversation.specs.State.{ownOf, schemeAt, replied}
 use Rattle.conversation.specs.Turns.{writing}

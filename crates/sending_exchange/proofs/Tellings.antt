@@ -11,10 +11,11 @@ use borrow.Author.Tests.{le-leb, lt-leb}
 use Rattle.octets.specs.Octets.{sameOctets}
 use Rattle.message.specs.Check.{firstFailing}
 use Rattle.message.proofs.Tables.{AllTrue}
+use Rattle.message.proofs.Ids.{length-ids}
 use Rattle.encode.specs.Encode.{Whole, Contents, ofExchange, sizeOf}
 use Rattle.schemes.specs.Lists.{Id, mem, place, bit}
 use Rattle.schemes.specs.Answers.{withBit}
-use Rattle.schemes.proofs.Ids.{length-ids, mem-place}
+use Rattle.schemes.proofs.Ids.{mem-place}
 use Rattle.conversation.specs.declared.Record.{Record}
 use Rattle.conversation.specs.declared.Answer.{Answer}
 use Rattle.conversation.specs.State.{ownOf, replied}

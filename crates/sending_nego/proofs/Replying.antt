@@ -11,13 +11,13 @@ use lib.Bits.{bitAnd}
 use Rattle.octets.specs.Octets.{octets}
 use Rattle.message.specs.Check.{firstFailing}
 use Rattle.message.proofs.Tables.{AllTrue}
+use Rattle.message.proofs.Ids.{length-ids}
 use Rattle.encode.specs.Encode.{Contents, Whole, ofNego, sizeOf}
 use Rattle.schemes.specs.Lists.{Id, joinIds}
 use Rattle.schemes.specs.Sets.{left, below, padTo}
 use Rattle.schemes.specs.Answers.{leftPlaces, leftOf, schemesOf}
 use Rattle.schemes.specs.declared.Left.{Left}
 use Rattle.schemes.specs.declared.Schemes.{Schemes}
-use Rattle.schemes.proofs.Ids.{length-ids}
 use Rattle.schemes.proofs.Offers.{join-length, gathered-octets}
 use Rattle.conversation.specs.declared.Record.{Record}
 use Rattle.conversation.specs.declared.Answer.{Answer}
