@@ -1,6 +1,6 @@
 #!/bin/sh
-# Every name in the tables of docs/MAP.md, behind their first column, is declared in a file of the crates, or is that of a file that the programs are run
-# on, of a must-fail edit or of a crate; every path in it is there; and every must-fail edit is named. In the other pages every name stands in some file.
+# Every name in docs/MAP.md, but for what stands in a quotation, is declared in a file of the crates, or is that of a file that the programs are run on, of
+# a must-fail edit or of a crate; every path in it is there; and every must-fail edit is named. In the other pages every name stands in some file.
 set -eu
 cd "$(dirname "$0")/.."
 work=$(mktemp -d)
@@ -18,8 +18,8 @@ declared() {
         grep -qxF -- "$1" "$work/files" "$work/edits" || [ -e "$1" ]
 }
 
-grep '^|' docs/MAP.md | sed 's/^|[^|]*|//' >"$work/cells"
-grep -o '`[^`]*`' "$work/cells" | tr -d '`' | LC_ALL=C sort -u >"$work/names"
+sed 's/"[^"]*"//g' docs/MAP.md >"$work/unquoted"
+grep -o '`[^`]*`' "$work/unquoted" | tr -d '`' | LC_ALL=C sort -u >"$work/names"
 while IFS= read -r name; do
     declared "$name" || complain "docs/MAP.md names '$name', which is declared in no file"
 done <"$work/names"

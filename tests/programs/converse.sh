@@ -38,6 +38,15 @@ expect '262,143 octets' "$(of "$work/262143")" 'used i=0 a=0'
 expect '262,144 octets' "$(of "$work/262144")" 'refused 1 at=0'
 expect '1,000,000 octets' "$(of "$work/1000000")" 'refused 1 at=0'
 expect 'a name with spaces' "$(of "$work/name with  spaces")" "$expected"
+
+# 18 goes before 1: the initiator has written nothing, and the token is longer than 65,535.
+{
+    echo 'open i 65535 C0FFEE00-0001-0002-0003-000405060708 00112233-4455-6677-8899-AABBCCDDEEFF'
+    printf 'i read %0131072d\n' 0
+} >"$work/early"
+expect 'a token too long, out of stage' "$(of "$work/early")" 'opened
+refused 18 at=0
+used i=0 a=0'
 expect 'no line end behind the name' "$(printf '%s' "$example" | "$converse")" "$expected"
 expect 'only the first line is the name' "$(printf '%s\n%s\n' "$example" "$work/missing" | "$converse")" "$expected"
 expect 'an empty standard input' "$("$converse" </dev/null)" 'no file'

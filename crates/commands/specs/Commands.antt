@@ -1,4 +1,4 @@
--- The calls of the library that a script's commands stand for.
+-- The calls of the library that a script's commands stand for. Quotations are README.md's, "What a conversation looks like".
 --
 -- Glossary
 --   randomIn o       RANDOM, which is 32 octets; zeros for any other number
@@ -32,7 +32,7 @@ negoOf c r d o =
     cond (eqb (c .verb) OFFER) (offering r d (randomIn o))
     (cond (eqb (c .verb) REPLY) (replying r d (c .number % 65536) (randomIn o)) (kept d (answered 18 0 r)))
 
--- "E metadata ID OCTETS", "E exchange OCTETS", "E verify TYPE OCTETS", "E alert CODE"; "TYPE and CODE read as two's complement"
+-- "E metadata ID OCTETS", "E exchange OCTETS", "E verify TYPE OCTETS", "E alert CODE"; "TYPE and CODE are read as two's complement"
 unfoldable pub writerOf : Command → Record → List ℕ → List ℕ → Outcome
 writerOf c r d o =
     cond (eqb (c .verb) METADATA) (writingMetadata r d (c .id) o)

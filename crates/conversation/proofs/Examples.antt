@@ -149,7 +149,7 @@ pub longer-run : (y : Entry) → List·Memᴰ y (run (world longerLists) (negoti
 longer-run y h =
     demand3 opened (negotiation 0 0) longerLists (negotiation 0 0) chosen 0 (at-fifth (run (world opened) (negotiation 0 0)) none-such refl) refl accepted offered (unmarked opened (negotiation 0 0) longerLists (negotiation 0 0) refl refl) y h
 
--- both choices, computed: scheme 2 of two, then scheme 5 of three, which the first acceptor did not list
+-- the second run, computed: both ends name scheme 5 of three, which the first acceptor did not list (in the first run it is scheme 2 of two: P11)
 pub choices : T (sameOctets (allShown (run (world longerLists) (negotiation 0 0))) (0 ∷ 0 ∷ 0 ∷ 0 ∷ 0 ∷ 0 ∷ 0 ∷ 5 ∷ 3 ∷ 0 ∷ 0 ∷ 0 ∷ 0 ∷ 5 ∷ 3 ∷ []))
 unfolding longerLists le signed32 sameOctets sameId keepsRule shown shapeOf headOf elementsAt contentOf vectorsOf commonRows zeros padsZero allKeepRule noneCritical contentRows bodyRows frontRows idsAt schemesIn orderRows nextRows chainOf put encoded mem place distinct setOf left has mentions ones openPlaces keptBelow turns.writing turns.reading turns.kindOf turns.typeOf turns.afterOpening turns.afterFurther turns.after offering replying writingMetadata writingExchange writingVerify writingAlert schemeNow messagesAt schemeFits passed admit conversationOf judge judged commonAfter keptAfter finish readingToken choosing act
 choices = tt

@@ -133,7 +133,7 @@ module _ (r : Record) where
             rw f (low-chosen _ (place-own (schemeIn m) (further-mem (c .chosen) (schemeIn m) g)))
       ])
 
--- 4. the initiator's choice: the first open place, or none
+-- 5. the initiator's choice: the first open place, or none
 
 pub first-below : (r : Record) (m : ℕ) → keptBelow (r .count) (r .kept) (r .common) ≡ true → ChosenBelow r (firstPlace (openTo r m))
 first-below r m h = go (openTo r m) (open-below (r .count) (r .kept) (r .common) m h) where
@@ -141,7 +141,7 @@ first-below r m h = go (openTo r m) (open-below (r .count) (r .kept) (r .common)
   go [] f = refl
   go (k ∷ ks) f = unfold leftOf in low-chosen r k (f (λ z. omega arith))
 
--- 5. the common set and the kept places that a reading leaves
+-- 6. the common set and the kept places that a reading leaves
 
 first-acceptor : (a : Bool) (stage : ℕ) → eqb (reading a stage) FIRST ≡ true → a ≡ true
 unfolding reading
@@ -176,7 +176,7 @@ module _ (r : Record) (t : List ℕ) where
     ]
   ]
 
--- 6. the limits behind each kind of call
+-- 7. the limits behind each kind of call
 
 module _ (r : Record) (limits : AllTrue (limitRows r)) where
   pub limits-wrote : (position size : ℕ) (w : WrittenAs) → below (r .count) (w .marks) ≡ true → below (r .count) (w .told) ≡ true → 64 ≤ size → r .used + size ≤ 65535 → AllTrue (limitRows (wrote r position size w))

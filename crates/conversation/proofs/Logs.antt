@@ -67,7 +67,6 @@ unfolding typeOf
 type-known true kind = small (eqb kind 1) (omega arith) (small (eqb kind 2) (omega arith) (small (eqb kind 3) (omega arith) (small (eqb kind 4) (omega arith) (omega arith))))
 type-known false kind = small (eqb kind 1) (omega arith) (small (eqb kind 2) (omega arith) (small (eqb kind 3) (omega arith) (small (eqb kind 4) (omega arith) (omega arith))))
 
--- the rule's scheme is one of the own list
 -- 2. a call at the end e, beside the end f
 
 module _ (e f : End) (le lf : List (List ℕ)) (ok : Sound (e .record-of) (e .transcript) le) (ok′ : Sound (f .record-of) (f .transcript) lf) (here : InStep (e .turn) le lf) (there : InStep (f .turn) lf le) where

@@ -4,7 +4,7 @@
 --   Outcome          an answer, and the lent transcript afterwards
 --   zeroId           sixteen zeros: no choice
 --   answered n p r   the answer with the number n, the place p and the record r, and nothing else to say
---   refused r d n p  "Each returns its number and the token place of the message at fault. Record and lent octets are unchanged."
+--   refused r d n p  "Each returns its number and the token place of the message at fault .. Record and lent octets are unchanged."
 --   decide           the first row that fails refuses; where all hold, the action; row makes a row
 --   room d           "Its room is the smaller of the buffer's length and 65,535."
 --   fits             16: used plus the length to add is within the room

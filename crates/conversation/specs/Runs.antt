@@ -140,7 +140,7 @@ marksIn (choose m) = some m
 abbrev pub isAccepted : Answer → Bool
 isAccepted a = eqb (a .refusal) 0
 
--- "A call is lawful if none of 15, 16, 18, 19 applies."
+-- "A call is lawful if none of 15, 16, 18, 19 applies." By the number that is given: demand 3 asks it of choosing calls, where the two agree.
 abbrev pub isLawful : Answer → Bool
 isLawful a = not (eqb (a .refusal) 15 || (eqb (a .refusal) 16 || (eqb (a .refusal) 18 || eqb (a .refusal) 19)))
 

@@ -68,11 +68,12 @@ abbrev pub firstOr : List Id → Id
 firstOr [] = zeroId
 firstOr (x ∷ l) = x
 
--- "At either end the choice names the lowest one left and how many were left; the acceptor's, by its own marks alone, is answered when its NEGO is
--- written"
+-- "the acceptor into its own the common schemes less its marks, in its own order"
 abbrev pub replyMessage : Record → ℕ → List ℕ → List ℕ
 replyMessage r m random = messageOf r NEGO (ofNego (record { random = random; schemes = joinIds (left (ownOf r) (r .common) m) }))
 
+-- "At either end the choice names the lowest one left and how many were left; the acceptor's, by its own marks alone, is answered when its NEGO is
+-- written"
 abbrev pub chosenBy : Answer → List Id → Answer
 chosenBy a l = record { refusal = a .refusal; place = a .place; messages = a .messages; choice = firstOr l; left = length l; next = a .next }
 

@@ -72,7 +72,7 @@ sizeOf (ofAlert p) = 92
 abbrev pub signature : List ℕ
 signature = 0x4E ∷ 0x45 ∷ 0x47 ∷ 0x4F ∷ 0x45 ∷ 0x58 ∷ 0x54 ∷ 0x53 ∷ []
 
--- "Common header, 40 octets: signature 0, type 8, sequence 12, header length 16, message length 20, conversation 24."
+-- "Common header, 40 octets: signature 0 .., type 8, sequence 12, header length 16, message length 20, conversation 24."
 abbrev pub headFields : Heading → ℕ → List (List ℕ)
 headFields h size =
     signature

@@ -1,4 +1,4 @@
--- What a field of a script's line says: numbers, octets and ids.
+-- What a field of a script's line says: numbers, octets and ids. Quotations are README.md's, "What a conversation looks like".
 --
 -- Glossary
 --   part s from end  the octets of s from `from` on, up to `end`
@@ -68,7 +68,7 @@ numberOf answer.Bad = nothing
 unfoldable pub hexadecimalOf : ℕ → ℕ → List ℕ → Numeral
 hexadecimalOf digits most s = cond (eqb (length s) digits) (numeral 16 most s) nothing
 
--- "ROOM is one to five decimal digits, at most 65536."
+-- "ROOM is one to five decimal digits, at most 65536"
 unfoldable pub roomOf : List ℕ → Numeral
 roomOf s = cond (ltb (length s) 1) nothing (cond (ltb 5 (length s)) nothing (numeral 10 65536 s))
 

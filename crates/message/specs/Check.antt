@@ -5,7 +5,7 @@
 --   allPass              every test of a table holds; firstFailing: the number of the first that fails, 0 where none does
 --   FirstFails n rs      the first test of a table that fails has the number n
 --   commonRows n h       2 to 6, of a head with n octets left from the message's first on; SIGNATURE: the one that 3 asks for
---   padRows              9; the one place that speaks of pads; zeros: octets are zero; padsZero: all pads are
+--   padRows              9, over the pads of a layout; zeros: octets are zero; padsZero: all pads are
 --   versionOk            10; allKeepRule: 11; noneCritical, criticalOk: 12; checksumOk: 13
 --   contentRows          10 to 13, of a message of `len` octets
 --   bodyRows, refusalOf  9 to 13 of a message of a given layout, and the first of them that refuses it; frontRows s: of the message at the front of s

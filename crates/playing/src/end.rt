@@ -74,7 +74,7 @@ pub(crate) fn held(both: &[u8], e: End, start: usize, end: usize) -> &[u8] {
     part(part(both, e.from, e.to), start, end)
 }
 
-// Where the acceptor's transcript starts among the octets for both: each has at most 65,536.
+// Where an end's transcript starts among the octets for both: each has at most 65,536.
 fn place_of(acceptor: bool) -> usize
     ensures { λ r. ⌜ r ≤ 65536 ⌝ }
 {

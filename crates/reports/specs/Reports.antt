@@ -1,4 +1,5 @@
--- What a script's calls answer, a line each: "It prints one line for each". A line is the list of its pieces of text, in order.
+-- What a script's calls answer: it "prints one line for each". A line is the list of its pieces of text, in order. Quotations are README.md's, "What a
+-- conversation looks like".
 --
 -- Glossary
 --   digitsOf v         octets as digits; wroteText v: a written message
@@ -32,11 +33,11 @@ choiceText word id left = word ∷ (idText id ++ (quoted " left=" ∷ decimal le
 abbrev pub numbersLine : List ℕ → ℕ → List ℕ → ℕ → List (List ℕ)
 numbersLine words n further k = words ∷ decimal n ∷ further ∷ decimal64 k ∷ quoted "\n" ∷ []
 
--- "and last `used i=N a=M`"
+-- "last: what each end has read and written"
 unfoldable pub usedLine : ℕ → ℕ → List (List ℕ)
 usedLine i a = quoted "used i=" ∷ decimal64 i ∷ quoted " a=" ∷ decimal64 a ∷ quoted "\n" ∷ []
 
--- "read messages=N length=L"; "wrote LENGTH OCTETS choice=ID left=N for an accepted reply"; "refused N at=P"
+-- "read messages=N length=L"; "behind an accepted reply `choice=ID left=N`"; "refused N at=P"
 unfoldable pub reportOf : Command → Answer → List ℕ → List (List ℕ)
 reportOf c a message =
     cond (eqb (a .refusal) 0)

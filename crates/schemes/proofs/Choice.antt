@@ -13,8 +13,6 @@ use Rattle.octets.proofs.Same.{same-refl, same-eq}
 use Rattle.schemes.specs.Lists.{Id, mem, place, distinct, keep, first, marked, usable, leftOver, rule2}
 use Rattle.schemes.specs.Longer.{Within, none-left, kept, gained, Longer, SameMarks, NoLater}
 
--- Booleans
-
 -- keep
 
 pub mem-head : (x : Id) (l : List Id) → mem x (x ∷ l) ≡ true

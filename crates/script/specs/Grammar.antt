@@ -1,4 +1,5 @@
--- A line of a script as one value: "Each line of the script is one call, fields separated by one space".
+-- A line of a script as one value: "Each line of the script is one call, fields separated by one space". Quotations are README.md's, "What a
+-- conversation looks like".
 --
 -- Glossary
 --   fieldsOf s        the fields of a line; longer c fs: with the octet c in front of the first of them
@@ -156,7 +157,7 @@ ends = fieldsOf (quoted "i a")
 abbrev pub verbs : List (List ℕ)
 verbs = fieldsOf (quoted "offer reply metadata exchange verify alert read choose")
 
--- "E read: a copy of the other end's turn so far"
+-- "reads a copy of the other end's turn so far"
 unfoldable pub verbOf : ℕ → List (List ℕ) → ℕ
 verbOf verb [] = cond (eqb verb READ) TURN verb
 verbOf verb (f ∷ fs) = verb
