@@ -98,7 +98,7 @@ pairsOf (a ∷ b ∷ s) = cond (ltb 255 (pairOf a b)) none (behindAll (pairOf a 
 unfoldable pub octetsOf : List ℕ → Octets
 octetsOf s = cond (eqb (length s) 0) none (cond (sameOctets s (quoted "-")) (of []) (pairsOf s))
 
--- "64 digits"
+-- "RANDOM is 64 hexadecimal digits"
 unfoldable pub randomOf : List ℕ → Octets
 randomOf s = cond (eqb (length s) 64) (pairsOf s) none
 
