@@ -6,3 +6,4 @@ pub mod Elements
 pub mod Bodies
 pub mod Readings
 pub mod Local
+pub mod Walks

@@ -13,6 +13,7 @@ pub mod exchange;
 pub mod field;
 pub mod nego;
 pub mod verify;
+pub mod walk;
 
 // A message's kind, by its type number.
 pub struct Kind(pub u32);
