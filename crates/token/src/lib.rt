@@ -1,13 +1,16 @@
 // The structural reading of a token.
 ghost use mathlib.Core.Path.{_≡_};
 ghost use Prim.Native.Nat.{_≤_, _<_};
+ghost use mathlib.Core.Bool.{true};
 ghost use lib.ListN.{length};
 ghost use Rattle.message.specs.Check.{said, Passed};
 ghost use Rattle.token.specs.Token.{orderVerdict, nextVerdict, refusedAt, chainOf, readingOf, tokenOf, told, outcomeOf};
+ghost use Rattle.token.specs.Walk.{hasMessage, messageAt};
 use message::Header;
 use message::Read;
 use message::read_body;
 use message::read_header;
+use message::walk::first;
 use octets::le_u32;
 use octets::same_id;
 use vector::MessageOffset;
@@ -89,4 +92,54 @@ pub fn read_token(token: &[u8]) -> Answer
         return Answer::Refused(2, TokenPlace(0));
     }
     read_messages(token, le_u32(token, 12) as u64, &token[24..40])
+}
+
+// Whether the token is accepted and has a message with the index k.
+pub fn has_message(token: &[u8], k: usize) -> bool
+    ensures { λ r. ⌜ r ≡ hasMessage (now (token .entry)) k ⌝ }
+{
+    let r = read_token(token);
+    let Answer::Messages(n) = r else {
+        return false;
+    };
+    k < n as usize
+}
+
+// The place of message k of a token that has it.
+fn walk_to(token: &[u8], k: usize) -> TokenPlace
+    requires { ⌜ hasMessage (now token) k ≡ true ⌝ }
+    ensures { λ r. ⌜ r .0 ≡ messageAt (now (token .entry)) k .place ⌝ }
+{
+    let mut rest = token;
+    let mut place = TokenPlace(0);
+    let mut left = k;
+    while 0 < left {
+        let length = first(rest).len();
+        let end = length as u32;
+        rest = &rest[length..];
+        place = in_token(place, MessageOffset(end));
+        left -= 1;
+    }
+    place
+}
+
+// The place of message k; 0 where there is no such message.
+pub fn place_at(token: &[u8], k: usize) -> TokenPlace
+    ensures { λ r. ⌜ r .0 ≡ messageAt (now (token .entry)) k .place ⌝ }
+{
+    if has_message(token, k) {} else {
+        return TokenPlace(0);
+    }
+    walk_to(token, k)
+}
+
+// Message k, as a part of the token; nothing where there is no such message.
+pub fn message_at(token: &[u8], k: usize) -> &[u8]
+    ensures { λ r. ⌜ now r ≡ messageAt (now (token .entry)) k .octets ⌝ }
+{
+    if has_message(token, k) {} else {
+        return &token[..0];
+    }
+    let at = walk_to(token, k).0;
+    first(&token[at..])
 }
