@@ -6,15 +6,17 @@ use mathlib.Core.Bool.{true, false}
 use mathlib.Core.Logic.{_⊎_, inl, inr}
 use mathlib.Core.List.{List, _++_}
 use native.Mathlib.Omega.{arith}
-use lib.ListN.{length, take, drop, length-append, length-take, length-drop}
+use lib.ListN.{length, take, length-append}
 use lib.Seq.{length-take-le}
 use lib.Dec.{leb}
 use borrow.Author.Tests.{leb-true, leb-false}
 use Rattle.octets.proofs.Bools.{which}
 use Rattle.io.specs.Counts.{Counts}
-use Rattle.listing.specs.declared.Shown.{Shown}
-use Rattle.listing.specs.Listing.{linesOf, range, Outcome, outcome, windowOf}
-use Rattle.listing.proofs.Covers.{gets-on, window-octets, window-lines}
+use Rattle.windows.specs.declared.Shown.{Shown}
+use Rattle.windows.specs.Windows.{Window, asWindow, windowOf}
+use Rattle.windows.proofs.Covers.{gets-on, window-octets, window-lines}
+use Rattle.listing.specs.Listing.{linesOf}
+use Rattle.listing.proofs.Covers.{short}
 use Rattle.listing.proofs.Bounds.{few-lines}
 use Rattle.console.specs.declared.Loaded.{Loaded}
 use Rattle.console.specs.declared.Loaded.the-variants as answer
@@ -24,23 +26,21 @@ use Rattle.console.specs.Console.{holds}
 abbrev END : ℕ
 END = 18446744073709551615
 
-module _ (s : List ℕ) (small : length s < END) (first : ℕ) (inside : first ≤ length (linesOf s)) (d d' : List ℕ) (size : length d ≡ 65536) (r : Shown) (is : outcome r d' ≡ windowOf s first END d) where
+module _ (s : List ℕ) (small : length s < END) (first : ℕ) (inside : first ≤ length (linesOf s)) (d d' : List ℕ) (size : length d ≡ 65536) (r : Shown) (is : asWindow r d' ≡ windowOf (linesOf s) first END d) where
   -- it lies in the buffer and in the listing
   pub within-buffer : r .octets ≤ 65536
-  within-buffer = omega (arith, window-octets s first END d d' r is)
+  within-buffer = omega (arith, window-octets (linesOf s) first END d d' r is)
 
   pub behind-inside : (first + r .lines ≤ length (linesOf s)) × (length (linesOf s) ≤ length s + 1)
-  behind-inside = (omega (arith, window-lines s first END d d' r is), few-lines s)
+  behind-inside = (omega (arith, window-lines (linesOf s) first END d d' r is), few-lines s)
 
   pub all-shown : r .lines ≡ 0 → first ≡ length (linesOf s)
-  all-shown z = go (which (leb 1 (length (range first END (linesOf s))))) where
-    go : (leb 1 (length (range first END (linesOf s))) ≡ true) ⊎ (leb 1 (length (range first END (linesOf s))) ≡ false) → first ≡ length (linesOf s)
-    go (inl e) =
-        let some : 0 < length (range first END (linesOf s)) = leb-true _ _ e in
-        absurd (omega (arith, gets-on s first END d (omega arith) some, ap (λ (o : Outcome). o .lines) is))
+  all-shown z = go (which (leb (length (linesOf s)) first)) where
+    go : (leb (length (linesOf s)) first ≡ true) ⊎ (leb (length (linesOf s)) first ≡ false) → first ≡ length (linesOf s)
+    go (inl e) = let done : length (linesOf s) ≤ first = leb-true _ _ e in omega arith
     go (inr e) =
-        let none : length (range first END (linesOf s)) < 1 = leb-false _ _ e in
-        omega (arith, length-take (END - first) (drop first (linesOf s)), length-drop first (linesOf s), few-lines s)
+        let more : first < length (linesOf s) = leb-false _ _ e in
+        absurd (omega (arith, gets-on (linesOf s) first END d (omega (arith, few-lines s)) more (omega (arith, short s first)), ap (λ (w : Window). w .lines) is))
 
 -- a count of octets at the front of a list
 pub counted : (n : ℕ) (d : List ℕ) → n ≤ length d → Counts n d

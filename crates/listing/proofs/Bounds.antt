@@ -13,10 +13,10 @@ use Rattle.token.specs.Token.{Placed, Reading, Accepted, Refused, tokenOf}
 use Rattle.token.specs.Split.{Message, Numbered, join, placedFrom}
 use Rattle.token.proofs.Splits.{accepted-splits}
 use Rattle.lines.specs.Lines.{messageLines, endLine}
-use Rattle.listing.specs.Listing.{allLines, readingLines, tokenLines, linesOf}
+use Rattle.listing.specs.Listing.{allLines, readingLines, tokenLines, linesOf, FewLines}
 use Rattle.lines.specs.Fit.{Fit, shapeIn, linesIn}
 use Rattle.lines.proofs.Contents.{nego-count, alert-count}
-use Rattle.listing.proofs.Stepping.{length-texts}
+use Rattle.windows.proofs.Stepping.{length-texts}
 use Rattle.listing.proofs.Turns.{message-fit}
 
 length-shown : (header : ℕ) (m : List ℕ) (v : Vector) → length (shown header m v) ≤ length m
@@ -54,6 +54,6 @@ reading-few s (Accepted ps) e =
     omega (arith, length-append (allLines ps) (endLine (length ps) (length s) ∷ []), n, all-few ms 0 (headOf s .sequence) (headOf s .conversation) (split .numbered), ap length (split .joins))
 reading-few s (Refused n p) e = omega arith
 
-pub few-lines : (s : List ℕ) → length (linesOf s) ≤ length s + 1
+pub few-lines : FewLines
 unfolding linesOf
 few-lines s = omega (arith, length-texts (tokenLines s), reading-few s (tokenOf s) refl)

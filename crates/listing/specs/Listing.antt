@@ -1,22 +1,19 @@
--- The listing of a token, and windows of its lines. Document 01, "The listing".
+-- The listing of a token. Document 01, "The listing".
 --
 -- Glossary
---   allLines ms       the lines of messages
---   readingLines      the lines of a reading; tokenLines s: those of the token s; linesOf s: their texts; texts: those of any lines
---   fitting r ls      as many whole lines from the front of ls as fit into r octets
---   range a b ls      the lines of ls with the places from a up to, not including, b
---   Outcome           what a window answers, with the buffer as it leaves it; outcome gives it for the answer of src/
---   shownIn d ls      the outcome of a window that shows ls in the buffer d
---   windowOf s a b d  the outcome of the window from line a up to line b of s, in the buffer d
-use Prim.Native.Nat.{ℕ, _-_}
-use mathlib.Core.Bool.{cond}
-use mathlib.Core.List.{List, [], _∷_, _++_}
-use lib.ListN.{length, take, drop}
-use lib.Dec.{leb}
+--   allLines ms    the lines of messages
+--   readingLines   the lines of a reading; tokenLines s: those of the token s; linesOf s: their texts
+--   ShortLines     every line of a token has fewer than 128 octets
+--   ListingWindows windows of a listing, in buffers of at least 128 octets, one after the other, hold all of it
+--   FewLines       a listing has at most one line more than its token has octets
+use Prim.Native.Nat.{ℕ, _+_, _<_, _≤_}
+use mathlib.Core.Path.{_≡_}
+use mathlib.Core.List.{List, [], _∷_, _++_, List·Memᴰ}
+use lib.ListN.{length, getD}
 use Rattle.token.specs.Token.{Placed, Reading, Accepted, Refused, tokenOf}
-use Rattle.put.specs.Put.{joined, put}
+use Rattle.put.specs.Put.{joined}
 use Rattle.lines.specs.Lines.{messageLines, endLine, refusedLine}
-use Rattle.listing.specs.declared.Shown.{Shown}
+use Rattle.windows.specs.Windows.{texts, Request, following}
 
 unfoldable pub allLines : List Placed → List (List (List ℕ))
 allLines [] = []
@@ -30,31 +27,18 @@ readingLines (Refused n place) octets = refusedLine n place ∷ []
 abbrev pub tokenLines : List ℕ → List (List (List ℕ))
 tokenLines s = readingLines (tokenOf s) (length s)
 
-unfoldable pub texts : List (List (List ℕ)) → List (List ℕ)
-texts [] = []
-texts (l ∷ ls) = joined l ∷ texts ls
-
 unfoldable pub linesOf : List ℕ → List (List ℕ)
 linesOf s = texts (tokenLines s)
 
-unfoldable pub fitting : ℕ → List (List ℕ) → List (List ℕ)
-fitting room [] = []
-fitting room (l ∷ ls) = cond (leb (length l) room) (l ∷ fitting (room - length l) ls) []
+abbrev pub ShortLines : Type 0
+ShortLines = (s : List ℕ) (k : ℕ) → length (getD (linesOf s) k []) < 128
 
-abbrev pub range : ℕ → ℕ → List (List ℕ) → List (List ℕ)
-range first end ls = take (end - first) (drop first ls)
+abbrev pub FewLines : Type 0
+FewLines = (s : List ℕ) → length (linesOf s) ≤ length s + 1
 
-pub record Outcome : Type 0 where
-  pub lines : ℕ
-  pub octets : ℕ
-  pub buffer : List ℕ
-
-abbrev pub outcome : Shown → List ℕ → Outcome
-outcome r d = record { lines = r .lines; octets = r .octets; buffer = d }
-
--- lines at the buffer's front
-abbrev pub shownIn : List ℕ → List (List ℕ) → Outcome
-shownIn d ls = record { lines = length ls; octets = length (joined ls); buffer = put d 0 (joined ls) }
-
-unfoldable pub windowOf : List ℕ → ℕ → ℕ → List ℕ → Outcome
-windowOf s first end d = shownIn d (fitting (length d) (range first end (linesOf s)))
+-- the requests may end anywhere behind their first line; here they end behind the last
+abbrev pub ListingWindows : Type 0
+ListingWindows =
+    (s : List ℕ) (qs : List Request)
+    → ((q : Request) → List·Memᴰ q qs → (128 ≤ length (q .buffer)) × (length (linesOf s) ≤ q .end))
+    → length (linesOf s) ≤ length qs → following (linesOf s) 0 qs ≡ joined (linesOf s)

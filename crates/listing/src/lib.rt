@@ -4,69 +4,28 @@ ghost use Prim.Native.Nat.{_+_, _-_};
 ghost use mathlib.Core.List.{[]};
 ghost use lib.ListN.{length, drop, getD};
 ghost use Rattle.token.specs.Token.{tokenOf};
+ghost use Rattle.token.specs.Walk.{messagesOf, Accepts};
 ghost use Rattle.put.specs.Put.{joined};
 ghost use Rattle.lines.specs.Lines.{messageLines, endLine, refusedLine};
-ghost use Rattle.listing.specs.Listing.{allLines, texts, outcome, windowOf};
 ghost use Rattle.lines.specs.Fit.{Fit, shapeIn};
-ghost use Rattle.listing.specs.Steps.{messagesOf, Accepts, within, startOf, step, steps, Going};
+ghost use Rattle.windows.specs.Windows.{texts, asWindow, windowOf};
+ghost use Rattle.windows.specs.Steps.{within, step, steps, Going};
+ghost use Rattle.listing.specs.Listing.{allLines, linesOf};
 use lines::count;
 use lines::end_text;
 use lines::message_text;
 use lines::refused_text;
-use octets::le_u32;
-use text::append;
+use message::walk::first;
 use token::Answer;
 use token::read_token;
 use vector::MessageOffset;
 use vector::TokenPlace;
 use vector::in_token;
-
-// How many lines a window shows, and in how many octets.
-pub struct Shown {
-    pub lines: usize,
-    pub octets: usize,
-}
-
-// How far a window is: lines to pass over, lines still asked for, and what is shown.
-pub(crate) struct Progress {
-    pub(crate) skip: usize,
-    pub(crate) left: usize,
-    pub(crate) lines: usize,
-    pub(crate) octets: usize,
-}
-
-// One more line of the listing: passed over, shown, or the end of the window where it has no room.
-fn put_line(p: Progress, d: &mut [u8], text: &[u8]) -> Progress
-    requires { ⌜ Going p (length (now d)) ⌝ }
-    ensures { λ r. ⌜ within r (now (d .exit)) ≡ step (within p (now (d .entry))) (now (text .entry)) ⌝ }
-{
-    if p.left == 0 {
-        return p;
-    }
-    if p.skip != 0 {
-        return Progress {
-            skip: p.skip - 1,
-            left: p.left,
-            lines: p.lines,
-            octets: p.octets,
-        };
-    }
-    if d.len() - p.octets < text.len() {
-        return Progress {
-            skip: 0,
-            left: 0,
-            lines: p.lines,
-            octets: p.octets,
-        };
-    }
-    let next = append(d, p.octets, text);
-    Progress {
-        skip: 0,
-        left: p.left - 1,
-        lines: p.lines + 1,
-        octets: next,
-    }
-}
+use windows::Progress;
+use windows::Shown;
+use windows::finish;
+use windows::put_line;
+use windows::start;
 
 // The line of the message m with an index.
 fn show_line(p: Progress, d: &mut [u8], place: TokenPlace, m: &[u8], index: usize) -> Progress
@@ -155,55 +114,27 @@ fn show_messages(p: Progress, d: &mut [u8], token: &[u8]) -> Progress
     let mut rest = token;
     let mut place = TokenPlace(0);
     while 0 < rest.len() {
-        let size = le_u32(rest, 20);
-        let length = size as usize;
-        q = show_message(q, d, place, &rest[..length]);
-        place = in_token(place, MessageOffset(size));
+        let m = first(rest);
+        let length = m.len();
+        let end = length as u32;
+        q = show_message(q, d, place, m);
+        place = in_token(place, MessageOffset(end));
         rest = &rest[length..];
     }
     q
 }
 
-// Nothing shown yet of the lines from `first` up to, not including, `end`.
-fn start(first: usize, end: usize) -> Progress
-    ensures { λ r. ⌜ r ≡ startOf first end ⌝ }
+// A window of the listing: as many whole lines from `from` up to, not including, `end` as fit stand at the buffer's front.
+pub fn window(token: &[u8], from: usize, end: usize, d: &mut [u8]) -> Shown
+    ensures { λ r. ⌜ asWindow r (now (d .exit)) ≡ windowOf (linesOf (now (token .entry))) from end (now (d .entry)) ⌝ }
 {
-    if end <= first {
-        return Progress {
-            skip: first,
-            left: 0,
-            lines: 0,
-            octets: 0,
-        };
-    }
-    Progress {
-        skip: first,
-        left: end - first,
-        lines: 0,
-        octets: 0,
-    }
-}
-
-fn counts(p: Progress) -> Shown
-    ensures { λ r. ⌜ (r .lines ≡ p .lines) × (r .octets ≡ p .octets) ⌝ }
-{
-    Shown {
-        lines: p.lines,
-        octets: p.octets,
-    }
-}
-
-// A window of the listing: as many whole lines from `first` up to, not including, `end` as fit stand at the buffer's front.
-pub fn window(token: &[u8], first: usize, end: usize, d: &mut [u8]) -> Shown
-    ensures { λ r. ⌜ outcome r (now (d .exit)) ≡ windowOf (now (token .entry)) first end (now (d .entry)) ⌝ }
-{
-    let p = start(first, end);
+    let p = start(from, end);
     let r = read_token(token);
     match r {
         Answer::Messages(n) => {
             let q = show_messages(p, d, token);
-            counts(show_end(q, d, n, token.len()))
+            finish(show_end(q, d, n, token.len()))
         }
-        Answer::Refused(n, place) => counts(show_refusal(p, d, n, place)),
+        Answer::Refused(n, place) => finish(show_refusal(p, d, n, place)),
     }
 }

@@ -4,9 +4,10 @@ use Prim.Native.Nat.{_-_}
 use mathlib.Core.Path.{_≡_, refl}
 use lib.ListN.{length, drop}
 use Rattle.lines.specs.Lines.{messageLines}
-use Rattle.listing.specs.Listing.{texts}
-use Rattle.listing.specs.Steps.{within, steps, Going}
-use Rattle.listing.proofs.Stepping.{lines, stepped-going}
+use Rattle.windows.specs.Windows.{texts}
+use Rattle.windows.specs.Steps.{within, steps, Going}
+use Rattle.windows.proofs.Stepping.{stepped-going}
+use Rattle.listing.proofs.Stepping.{lines}
 use Rattle.listing.proofs.show_lines.Statement.{statement}
 use Rattle.listing.proofs.show_lines.Tie as tie
 

@@ -4,9 +4,11 @@ use Prim.Native.Nat.{_+_, _≤_}
 use mathlib.Core.Path.{_≡_, refl}
 use lib.ListN.{length}
 use Rattle.token.specs.Token.{tokenOf}
-use Rattle.listing.specs.Listing.{allLines, texts}
-use Rattle.listing.specs.Steps.{messagesOf, within, steps, Going}
-use Rattle.listing.proofs.Stepping.{steps-going-on}
+use Rattle.token.specs.Walk.{messagesOf}
+use Rattle.windows.specs.Windows.{texts}
+use Rattle.windows.specs.Steps.{within, steps, Going}
+use Rattle.windows.proofs.Stepping.{steps-going-on}
+use Rattle.listing.specs.Listing.{allLines}
 use Rattle.listing.proofs.Turns.{Going-on, turns}
 use Rattle.listing.proofs.show_messages.Statement.{statement}
 use Rattle.listing.proofs.show_messages.Tie as tie
@@ -20,20 +22,17 @@ abbrev μ-loop : tie.MeasureT-loop
 loop-holds : tie.Need-loop-holds Inv-loop μ-loop
 loop-holds c = (search turns, refl, search needs, search needs, search turns)
 
-le-u32-requires : tie.Need-le-u32-requires Inv-loop μ-loop
-le-u32-requires c κs = search turns
+first-requires : tie.Need-first-requires Inv-loop μ-loop
+first-requires c κs = search needs
 
-cast-length : tie.Need-cast-length Inv-loop μ-loop
-cast-length c = search needs
-
-slice-aggregate-show-message : tie.Need-slice-aggregate-show-message Inv-loop μ-loop
-slice-aggregate-show-message c = search turns
+cast-end : tie.Need-cast-end Inv-loop μ-loop
+cast-end c = record { fits = search turns }
 
 show-message-requires : tie.Need-show-message-requires Inv-loop μ-loop
 show-message-requires c κs = (search turns, search needs)
 
 in-token-requires : tie.Need-in-token-requires Inv-loop μ-loop
-in-token-requires c κs = search needs
+in-token-requires c κs = search (needs, turns)
 
 sub-rest : tie.Need-sub-rest Inv-loop μ-loop
 sub-rest c = search turns
@@ -63,9 +62,8 @@ show-messages-spec =
     Inv-loop
     μ-loop
     loop-holds
-    le-u32-requires
-    cast-length
-    slice-aggregate-show-message
+    first-requires
+    cast-end
     show-message-requires
     in-token-requires
     sub-rest

@@ -1,6 +1,7 @@
 -- Assumes nothing.
-use Rattle.listing.proofs.Stepping.{went}
-use Rattle.listing.proofs.Windows.{windows, start-going}
+use Rattle.windows.proofs.Stepping.{went}
+use Rattle.windows.proofs.Windows.{start-going}
+use Rattle.listing.proofs.Windows.{windows}
 use borrow.Author.Needs.{needs}
 use Rattle.listing.proofs.window.Statement.{statement}
 use Rattle.listing.proofs.window.Tie as tie
@@ -21,8 +22,8 @@ show-end-requires : tie.Need-show-end-requires
 show-end-requires c κs =
     went _ _ _ _ _ (c .before .before .before .show-messages .ensures) (start-going _ (c .before .before .before .before .before .before .before .before .before .before .before .before .args .end) _ _ (c .before .before .before .before .before .before .before .before .before .start .ensures) (search needs))
 
-counts-requires : tie.Need-counts-requires
-counts-requires c κs = search needs
+finish-requires : tie.Need-finish-requires
+finish-requires c κs = search needs
 
 enum-known-r-2 : tie.Need-enum-known-r-2
 enum-known-r-2 c = search needs
@@ -30,8 +31,8 @@ enum-known-r-2 c = search needs
 show-refusal-requires : tie.Need-show-refusal-requires
 show-refusal-requires c κs = start-going _ (c .before .before .before .before .before .before .before .before .args .end) _ _ (c .before .before .before .before .before .start .ensures) (search needs)
 
-counts-requires-2 : tie.Need-counts-requires-2
-counts-requires-2 c κs = search needs
+finish-requires-2 : tie.Need-finish-requires-2
+finish-requires-2 c κs = search needs
 
 same-length : tie.Need-same-length
 same-length c = search needs
@@ -54,10 +55,10 @@ window-spec =
     enum-known-r
     show-messages-requires
     show-end-requires
-    counts-requires
+    finish-requires
     enum-known-r-2
     show-refusal-requires
-    counts-requires-2
+    finish-requires-2
     same-length
     returns
     same-length-2

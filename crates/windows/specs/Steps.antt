@@ -1,12 +1,11 @@
--- What the private functions promise. No contract of a public function speaks of these.
+-- A window at work, line by line: what the functions of src/ promise.
 --
 -- Glossary
---   messagesOf r  the messages of a reading that accepts, none of one that refuses
---   Accepts s     the structural reading accepts s
 --   State         a window at work: its progress and its buffer; within and state build one
 --   startOf a b   the progress of a window that is to show the lines from a up to b
 --   placed        the state after a line that is asked for: behind those before it, or the end where it does not fit
---   step t l      the state after one more line l of the listing; stepFrom: the same, by its fields; steps ls t: after the lines ls
+--   step t l      the state after one more line l; stepFrom: the same, by its fields; steps ls t: after the lines ls
+--   shownSoFar p  what a window shows at the progress p
 --   Going p n     the progress p stays inside a buffer of n octets and the numbers of 64 bits
 use Prim.Native.Nat.{ℕ, _+_, _-_, _<_, _≤_}
 use mathlib.Core.Path.{_≡_}
@@ -14,17 +13,9 @@ use mathlib.Core.Bool.{cond}
 use mathlib.Core.List.{List, [], _∷_}
 use lib.ListN.{length}
 use lib.Dec.{leb, eqb}
-use Rattle.token.specs.Token.{Placed, Reading, Accepted, Refused, tokenOf}
 use Rattle.put.specs.Put.{put}
-use Rattle.listing.specs.declared.Progress.{Progress}
-
-abbrev pub messagesOf : Reading → List Placed
-messagesOf (Accepted ms) = ms
-messagesOf (Refused n place) = []
-
--- the structural reading accepts s
-abbrev pub Accepts : List ℕ → Type 0
-Accepts s = tokenOf s ≡ Accepted (messagesOf (tokenOf s))
+use Rattle.windows.specs.declared.Progress.{Progress}
+use Rattle.windows.specs.declared.Shown.{Shown}
 
 pub record State : Type 0 where
   pub progress : Progress
@@ -56,6 +47,9 @@ step t l = stepFrom (t .progress .skip) (t .progress .left) (t .progress .lines)
 unfoldable pub steps : List (List ℕ) → State → State
 steps [] t = t
 steps (l ∷ ls) t = steps ls (step t l)
+
+abbrev pub shownSoFar : Progress → Shown
+shownSoFar p = record { lines = p .lines; octets = p .octets }
 
 pub record Going (p : Progress) (room : ℕ) : Type 0 where
   pub within : p .octets ≤ room

@@ -1,8 +1,8 @@
 -- Assumes nothing.
-use Rattle.listing.proofs.Stepping.{puts}
+use Rattle.windows.proofs.Stepping.{puts}
 use borrow.Author.Needs.{needs}
-use Rattle.listing.proofs.put_line.Statement.{statement}
-use Rattle.listing.proofs.put_line.Tie as tie
+use Rattle.windows.proofs.put_line.Statement.{statement}
+use Rattle.windows.proofs.put_line.Tie as tie
 
 returns : tie.Need-returns
 returns c = search puts

@@ -1,8 +1,8 @@
 -- Assumes nothing.
-use Rattle.listing.proofs.Windows.{start-empty}
+use Rattle.windows.proofs.Windows.{start-empty}
 use borrow.Author.Needs.{needs}
-use Rattle.listing.proofs.start.Statement.{statement}
-use Rattle.listing.proofs.start.Tie as tie
+use Rattle.windows.proofs.start.Statement.{statement}
+use Rattle.windows.proofs.start.Tie as tie
 
 returns : tie.Need-returns
 returns c = search start-empty
