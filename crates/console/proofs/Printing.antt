@@ -16,7 +16,7 @@ use Rattle.windows.specs.declared.Shown.{Shown}
 use Rattle.windows.specs.Windows.{Window, asWindow, windowOf}
 use Rattle.windows.proofs.Covers.{gets-on, window-octets, window-lines}
 use Rattle.listing.specs.Listing.{linesOf}
-use Rattle.listing.proofs.Covers.{short}
+use Rattle.listing.proofs.Covers.{short-lines}
 use Rattle.listing.proofs.Bounds.{few-lines}
 use Rattle.console.specs.declared.Loaded.{Loaded}
 use Rattle.console.specs.declared.Loaded.the-variants as answer
@@ -40,7 +40,7 @@ module _ (s : List ℕ) (small : length s < END) (first : ℕ) (inside : first �
     go (inl e) = let done : length (linesOf s) ≤ first = leb-true _ _ e in omega arith
     go (inr e) =
         let more : first < length (linesOf s) = leb-false _ _ e in
-        absurd (omega (arith, gets-on (linesOf s) first END d (omega (arith, few-lines s)) more (omega (arith, short s first)), ap (λ (w : Window). w .lines) is))
+        absurd (omega (arith, gets-on (linesOf s) first END d (omega (arith, few-lines s)) more (omega (arith, short-lines s first)), ap (λ (w : Window). w .lines) is))
 
 -- a count of octets at the front of a list
 pub counted : (n : ℕ) (d : List ℕ) → n ≤ length d → Counts n d

@@ -12,16 +12,16 @@ use Rattle.listing.specs.Listing.{tokenLines, linesOf, ShortLines, Listi
 use Rattle.lines.proofs.Shorts.{short-at}
 use Rattle.listing.proofs.Shorts.{shorts-token}
 
-pub short : ShortLines
+pub short-lines : ShortLines
 unfolding linesOf
-short s k = rw (getD-texts (tokenLines s) k) (short-at (tokenLines s) k (shorts-token s))
+short-lines s k = rw (getD-texts (tokenLines s) k) (short-at (tokenLines s) k (shorts-token s))
 
 each-shows : (s : List ℕ) (qs : List Request) (first : ℕ) → ((q : Request) → List·Memᴰ q qs → (128 ≤ length (q .buffer)) × (length (linesOf s) ≤ q .end)) → EachShows (linesOf s) first qs
 unfolding EachShows
 each-shows s [] first h = tt
 each-shows s (q ∷ qs) first h =
     let a = h q (List·Memᴰ·head refl) in (
-      λ inside. gets-on (linesOf s) first (q .end) (q .buffer) (omega (arith, a)) inside (omega (arith, a, short s first)),
+      λ inside. gets-on (linesOf s) first (q .end) (q .buffer) (omega (arith, a)) inside (omega (arith, a, short-lines s first)),
       each-shows s qs (first + windowOf (linesOf s) first (q .end) (q .buffer) .lines) (λ p i. h p (List·Memᴰ·tail i)),
     )
 

@@ -11,7 +11,7 @@ use borrow.Author.Tests.{le-leb, lt-leb, eq-eqb, ne-eqb, leb-true, eqb-true}
 use Rattle.octets.specs.Octets.{le}
 use Rattle.message.specs.declared.Header.{Header}
 use Rattle.message.specs.Layout.{Head, shapeOf, headerOf, headOf}
-use Rattle.message.specs.Check.{SIGNATURE, read, refused, commonRows, allPass, headerVerdict, fieldsOf, Passed}
+use Rattle.message.specs.Check.{SIGNATURE, read, refused, commonRows, allPass, headerVerdict, fieldsOf, Passed, HeaderPassed}
 use Rattle.message.proofs.Shapes.{header-least}
 use Rattle.message.proofs.Tables.{given, verdict-read}
 
@@ -74,7 +74,7 @@ module _ (s : List ℕ) where
 
 pub ruleset headers = (header-2, header-3, header-4, header-5, header-6, header-6-past, header-read)
 
-pub header-passed : (s : List ℕ) (h : Header) → headerVerdict s ≡ read h → Passed s h
+pub header-passed : HeaderPassed
 unfolding headerVerdict
 header-passed s h e =
     let p = verdict-read (commonRows (length s) (headOf s)) (fieldsOf (headOf s)) h e in

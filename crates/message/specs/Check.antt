@@ -4,6 +4,7 @@
 --   Row                  a test, with the number that refuses where it fails
 --   allPass              every test of a table holds; firstFailing: the number of the first that fails, 0 where none does
 --   FirstFails n rs      the first test of a table that fails has the number n
+--   RefusesFirst         a table that does not pass refuses with the first that fails; FirstRefuses: and the first that fails is what it refuses with
 --   commonRows n h       2 to 6, of a head with n octets left from the message's first on; SIGNATURE: the one that 3 asks for
 --   padRows              9, over the pads of a layout; zeros: octets are zero; padsZero: all pads are
 --   versionOk            10; allKeepRule: 11; noneCritical, criticalOk: 12; checksumOk: 13
@@ -14,7 +15,7 @@
 --   verdict rs v         the verdict v, where every row of rs passes
 --   fieldsOf h           the header's fields that later checks and the listing go by
 --   headerVerdict        the verdict by 2 to 6; bodyVerdict: by 9 to 13; messageVerdict: by both
---   Passed s h           the header of the message at the front of s passed 2 to 6 as h
+--   Passed s h           the header of the message at the front of s passed 2 to 6 as h; HeaderPassed: as each that reading answers did
 use Prim.Native.Nat.{ℕ, zero, suc, _+_, _≤_}
 use mathlib.Core.Path.{_≡_}
 use mathlib.Core.Bool.{Bool, true, false, cond, not, _&&_}
@@ -46,6 +47,12 @@ firstFailing (r ∷ rs) = cond (r .test) (firstFailing rs) (r .number)
 abbrev pub FirstFails : ℕ → List Row → Type 0
 FirstFails n [] = ⊥
 FirstFails n (r ∷ rs) = ((r .test ≡ false) × (r .number ≡ n)) ⊎ ((r .test ≡ true) × FirstFails n rs)
+
+abbrev pub RefusesFirst : Type 0
+RefusesFirst = (rs : List Row) → allPass rs ≡ false → FirstFails (firstFailing rs) rs
+
+abbrev pub FirstRefuses : Type 0
+FirstRefuses = (n : ℕ) (rs : List Row) → FirstFails n rs → (allPass rs ≡ false) × (firstFailing rs ≡ n)
 
 -- "NEGOEXTS", as a little-endian number
 abbrev pub SIGNATURE : ℕ
@@ -157,3 +164,6 @@ pub record Passed (s : List ℕ) (h : Header) : Type 0 where
   pub forty : 40 ≤ length s
   pub header : headerOf (shapeOf (h .kind .0)) ≤ h .length
   pub within : h .length ≤ length s
+
+abbrev pub HeaderPassed : Type 0
+HeaderPassed = (s : List ℕ) (h : Header) → headerVerdict s ≡ read h → Passed s h

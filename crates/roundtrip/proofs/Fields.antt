@@ -18,6 +18,7 @@ use Rattle.vector.specs.Vector.{extent, keepsRule, shown}
 use Rattle.vector.proofs.Rule.{inside-rule}
 use Rattle.put.specs.Put.{octetsOf, unsigned32, joined}
 use Rattle.put.proofs.Laws.{joined-append}
+use Rattle.roundtrip.specs.ReadBack.{LeOctets, SignedBack}
 
 le-drop : (k : ℕ) (s : List ℕ) (at : ℕ) → le k s at ≡ le k (drop at s) 0
 unfolding le
@@ -30,7 +31,7 @@ le-first k y s = le-add 1 k (y ∷ s) 0 ∙ ap (λ (n : ℕ). le 1 (y ∷ s) 0 +
   one = unfold le in omega arith
 
 -- what is written as a number is read as that number
-pub le-octets : (k x : ℕ) (t : List ℕ) → x < 256 ^ k → le k (octetsOf k x ++ t) 0 ≡ x
+pub le-octets : LeOctets
 unfolding le
 le-octets zero x t h = omega arith
 le-octets (suc k) x t h =
@@ -76,7 +77,7 @@ module _ (size header count : ℕ) (f : List ℕ) (whole : count * size ≡ leng
   payload-shown m n e = shown-field header m f (behindHeader size header count) (rw n payload-rule) (rw whole e)
 
 -- two's complement, there and back
-pub signed-back : (z : ℤ) → mag z < 2147483648 → signed32 (unsigned32 z) ≡ z
+pub signed-back : SignedBack
 unfolding signed32
 signed-back (pos n) f = simp (lt-ltb _ _ f)
 signed-back (negsuc n) f =

@@ -20,7 +20,7 @@ use Rattle.token.proofs.Splits.{numbered-accepted}
 use Rattle.put.specs.Put.{put, joined}
 use Rattle.encode.specs.declared.Heading.{Heading}
 use Rattle.encode.specs.Encode.{Whole, Offer, Contents, ofNego, ofExchange, ofVerify, ofAlert, sizeOf, hasKind, fitsFields, encodable, encoded, written, unwritten, storing}
-use Rattle.roundtrip.specs.ReadBack.{InRange, Sent, shapeFor, contentRead, Shows, ReadsBack, Stands, Outgoing, octetsOfAll, InSequence}
+use Rattle.roundtrip.specs.ReadBack.{InRange, Sent, shapeFor, contentRead, Shows, ReadsBack, Stands, Outgoing, octetsOfAll, InSequence, ReadEncode, NegoBegins, WrittenAccepted, StoredStands}
 use Rattle.roundtrip.proofs.Heads.{size-encoded, head-encoded, front-encoded, verdict-encoded, passes-encoded}
 use Rattle.roundtrip.proofs.Layouts.{nego-content, nego-pads, nego-rules, nego-shows, exchange-content, exchange-pads, exchange-rules, exchange-shows, verify-content, verify-pads, verify-rules, verify-shows, alert-content, alert-pads, alert-rules, alert-shows}
 
@@ -68,7 +68,7 @@ laid h (ofAlert p) s = record {
 }
 
 -- the round trip, every kind
-pub read-encode : (h : Heading) (c : Contents) → Sent h c → (r : List ℕ) → ReadsBack h c r
+pub read-encode : ReadEncode
 read-encode h c s r =
     let l = laid h c s in
     record {
@@ -81,7 +81,7 @@ read-encode h c s r =
     }
 
 -- What begins with a written NEGO reads as that NEGO: its type and its schemes, whatever follows.
-pub nego-begins : (h : Heading) (o : Offer) → Sent h (ofNego o) → (r : List ℕ) → (headOf (encoded h (ofNego o) ++ r) .kind ≡ h .kind .0) × (schemesIn (front (encoded h (ofNego o) ++ r)) ≡ idsOf (o .schemes))
+pub nego-begins : NegoBegins
 nego-begins h o s r =
     let b = read-encode h (ofNego o) s r in
     (ap (λ (g : Head). g .kind) (b .head), ap schemesIn (b .front) ∙ b .shows .1)
@@ -126,13 +126,12 @@ all-numbered q v (m ∷ ms) e =
     )
 
 -- A token of written messages, numbered in sequence and of one conversation, is accepted, and its list is those messages.
-pub written-accepted : (q : ℕ) (v : List ℕ) (m : Outgoing) (ms : List Outgoing) → InSequence q v (m ∷ ms) → length (join (octetsOfAll (m ∷ ms))) ≤ 65535
-    → tokenOf (join (octetsOfAll (m ∷ ms))) ≡ Accepted (placedFrom 0 (octetsOfAll (m ∷ ms)))
+pub written-accepted : WrittenAccepted
 written-accepted q v m ms e w =
     numbered-accepted q v (encoded (m .heading) (m .contents)) (octetsOfAll ms) (all-numbered q v (m ∷ ms) e) w
 
 -- Where a writer answers a next place, the message stands at its place and every other octet is as it was.
-pub stored-stands : (d : List ℕ) (at : ℕ) (h : Heading) (c : Contents) (next : ℕ) (d' : List ℕ) → storing d at h c ≡ written next d' → Stands d at h c next d'
+pub stored-stands : StoredStands
 unfolding storing
 stored-stands d at h c next d' e = go (which (encodable h c && leb (at + length (encoded h c)) (length d))) where
   m : List ℕ

@@ -10,13 +10,19 @@
 --   Stands d at h c next d'   the written message stands at `at` in d', which else is d; `next` is the place behind it
 --   Outgoing             a message to write; octetsOfAll gives the written messages of a list
 --   InSequence q v ms    messages to write that are numbered on from q, of the conversation v
-use Prim.Native.Nat.{ℕ, _+_, _/_, _<_, _≤_}
+--   LeOctets             a number's octets read as that number; SignedBack: two's complement, there and back
+--   ReadEncode           demand 2's round trip: every message that can be written reads back, whatever follows it
+--   NegoBegins           what begins with a written NEGO reads as that NEGO: its type and its schemes
+--   WrittenAccepted      a token of written messages is accepted, and its list is those messages
+--   StoredStands         where a writer answers a next place, its message stands there, and no other octet has changed
+use Prim.Native.Nat.{ℕ, _+_, _/_, _<_, _≤_, _^_}
 use mathlib.Core.Path.{_≡_}
 use mathlib.Core.Bool.{true}
 use mathlib.Core.List.{List, [], _∷_, _++_}
 use lib.ListN.{length, take, drop}
+use lib.IntN.{ℤ}
 use lib.Signed.{mag}
-use Rattle.octets.specs.Octets.{signed32}
+use Rattle.octets.specs.Octets.{le, signed32}
 use Rattle.vector.specs.declared.Vector.{Vector}
 use Rattle.vector.specs.Vector.{shown}
 use Rattle.message.specs.Layout.{Shape, nego, exchange, verify, alert, headerOf, Head, headOf, front, Content, Nego, Exchange, Verify, Alert, contentOf, schemeVector, exchangeVector, checksumVector, alertVector}
@@ -24,7 +30,9 @@ use Rattle.message.specs.Check.{SIGNATURE, read, fieldsOf, messageVerdict}
 use Rattle.message.specs.Show.{idsOf, schemesIn, nestedOf}
 use Rattle.put.specs.Put.{octetsOf, unsigned32, joined}
 use Rattle.encode.specs.declared.Heading.{Heading}
-use Rattle.encode.specs.Encode.{Contents, Whole, ofNego, ofExchange, ofVerify, ofAlert, sizeOf, octetVectorFields, encoded, encodable}
+use Rattle.token.specs.Token.{Accepted, tokenOf}
+use Rattle.token.specs.Split.{join, placedFrom}
+use Rattle.encode.specs.Encode.{Contents, Offer, Whole, ofNego, ofExchange, ofVerify, ofAlert, sizeOf, octetVectorFields, encoded, encodable, written, storing}
 
 abbrev pub InRange : Contents → Type 0
 InRange (ofNego o) = Unit {0}
@@ -103,3 +111,27 @@ InSequence q v [] = Unit {0}
 InSequence q v (m ∷ ms) =
     Sent (m .heading) (m .contents)
     × ((m .heading .sequence ≡ q) × ((m .heading .conversation ≡ v) × InSequence (q + 1) v ms))
+
+abbrev pub LeOctets : Type 0
+LeOctets = (k x : ℕ) (t : List ℕ) → x < 256 ^ k → le k (octetsOf k x ++ t) 0 ≡ x
+
+abbrev pub SignedBack : Type 0
+SignedBack = (z : ℤ) → mag z < 2147483648 → signed32 (unsigned32 z) ≡ z
+
+-- demand 2: "a written message reads back as the same fields"
+abbrev pub ReadEncode : Type 0
+ReadEncode = (h : Heading) (c : Contents) → Sent h c → (r : List ℕ) → ReadsBack h c r
+
+abbrev pub NegoBegins : Type 0
+NegoBegins =
+    (h : Heading) (o : Offer) → Sent h (ofNego o) → (r : List ℕ)
+    → (headOf (encoded h (ofNego o) ++ r) .kind ≡ h .kind .0) × (schemesIn (front (encoded h (ofNego o) ++ r)) ≡ idsOf (o .schemes))
+
+abbrev pub WrittenAccepted : Type 0
+WrittenAccepted =
+    (q : ℕ) (v : List ℕ) (m : Outgoing) (ms : List Outgoing) → InSequence q v (m ∷ ms) → length (join (octetsOfAll (m ∷ ms))) ≤ 65535
+    → tokenOf (join (octetsOfAll (m ∷ ms))) ≡ Accepted (placedFrom 0 (octetsOfAll (m ∷ ms)))
+
+abbrev pub StoredStands : Type 0
+StoredStands =
+    (d : List ℕ) (at : ℕ) (h : Heading) (c : Contents) (next : ℕ) (d' : List ℕ) → storing d at h c ≡ written next d' → Stands d at h c next d'
