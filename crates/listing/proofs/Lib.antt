@@ -4,3 +4,4 @@ pub mod Turns
 pub mod Windows
 pub mod Covers
 pub mod Bounds
+pub mod Joins
