@@ -16,19 +16,27 @@
 --   withMarks          the sort of calls with marks; isVerify: those that write a VERIFY
 --   MarksOnce          in a run an end has at most one accepted call with marks
 --   VerifyOnce         in a run an end writes at most one VERIFY
-use Prim.Native.Nat.{ℕ, _≤_}
+--   Arrays r           the lengths of a record's arrays, as the struct gives them
+--   sentBy r k         the message that a writing call sends: the record's number and conversation, and the call's arguments
+--   ReadsAsSent        a message stands at the transcript's end and reads as it was sent, whatever follows
+--   WrittenReads       demand 2's round trip: what an accepted writing call appended does, on every record
+use Prim.Native.Nat.{ℕ, _*_, _≤_}
 use mathlib.Core.Path.{_≡_}
 use mathlib.Core.Bool.{Bool, true, false, cond, not, _&&_}
 use mathlib.Core.Logic.{_⊎_}
 use mathlib.Core.List.{List, [], _∷_, List·Memᴰ}
-use mathlib.Core.Option.{some}
-use lib.ListN.{length}
+use mathlib.Core.Option.{Option, none, some}
+use lib.ListN.{length, take}
+use Rattle.encode.specs.Encode.{ofNego, ofExchange, ofVerify, ofAlert}
+use Rattle.roundtrip.specs.ReadBack.{InRange, ReadsBack, Stands, Outgoing}
 use Rattle.schemes.specs.Lists.{Id, keep, first, leftOver, rule2, replyOf, oneTo16, wholeIds, joinIds}
+use Rattle.schemes.specs.Sets.{left}
 use Rattle.conversation.specs.declared.Record.{Record}
 use Rattle.conversation.specs.declared.Answer.{Answer}
-use Rattle.conversation.specs.State.{fresh}
+use Rattle.conversation.specs.State.{ownOf, schemeAt, fresh}
+use Rattle.conversation.specs.Turns.{NEGO, METADATA, EXCHANGE, VERIFY, ALERT}
 use Rattle.conversation.specs.Outcomes.{Outcome, zeroId, answered}
-use Rattle.conversation.specs.Writing.{opening}
+use Rattle.conversation.specs.Writing.{heading, schemeNow, opening}
 use Rattle.conversation.specs.Runs.{Sized, Call, offer, reply, metadata, exchange, verify, alert, read, choose, End, act, Opening, World, world, outcomeAt, next, ends, Entry, run, isAccepted, isLawful, Replied}
 
 -- "Record and lent octets are unchanged."
@@ -120,3 +128,27 @@ MarksOnce = (o : Opening) (cs : List (Bool × Call)) (x : Bool) → length (keep
 -- "Each end sends at most one VERIFY in a conversation."
 abbrev pub VerifyOnce : Type 0
 VerifyOnce = (o : Opening) (cs : List (Bool × Call)) (x : Bool) → length (keep (acceptedAt x isVerify) (run (world o) cs)) ≤ 1
+
+pub record Arrays (r : Record) : Type 0 where
+  pub list : length (r .list) ≡ 256
+  pub conversation : length (r .conversation) ≡ 16
+
+abbrev pub sentBy : Record → Call → Option Outgoing
+sentBy r (offer random) = some (record { heading = heading r NEGO; contents = ofNego (record { random = random .0; schemes = take (16 * r .count) (r .list) }) })
+sentBy r (reply m random) = some (record { heading = heading r NEGO; contents = ofNego (record { random = random .0; schemes = joinIds (left (ownOf r) (r .common) m) }) })
+sentBy r (metadata id value) = some (record { heading = heading r METADATA; contents = ofExchange (record { scheme = id .0; value = value }) })
+sentBy r (exchange value) = some (record { heading = heading r EXCHANGE; contents = ofExchange (record { scheme = schemeAt r (schemeNow r); value = value }) })
+sentBy r (verify type value) = some (record { heading = heading r VERIFY; contents = ofVerify (record { scheme = schemeAt r (schemeNow r); type = type; value = value }) })
+sentBy r (alert code) = some (record { heading = heading r ALERT; contents = ofAlert (record { scheme = schemeAt r (schemeNow r); code = code }) })
+sentBy r read = none
+sentBy r (choose m) = none
+
+pub record ReadsAsSent (r : Record) (d : List ℕ) (m : Outgoing) (o : Outcome) : Type 0 where
+  pub stands : Stands d (r .used) (m .heading) (m .contents) (o .answer .next .used) (o .transcript)
+  pub reads : (rest : List ℕ) → ReadsBack (m .heading) (m .contents) rest
+
+-- a checksum type and an error code are numbers of 32 bits (`InRange`), as the calls take them
+abbrev pub WrittenReads : Type 0
+WrittenReads =
+    (e : End) (peer : List ℕ) (k : Call) (m : Outgoing) → Arrays (e .record-of) → sentBy (e .record-of) k ≡ some m → InRange (m .contents)
+    → isAccepted (act e peer k .answer) ≡ true → ReadsAsSent (e .record-of) (e .transcript) m (act e peer k)
