@@ -22,6 +22,7 @@ use Rattle.conversation.specs.Turns.{typeOf, placeAfter, mayWrite}
 use Rattle.conversation.specs.Outcomes.{Outcome, WrittenAs, answered, decide, row, fits, wrote, unchanged, appended}
 use Rattle.conversation.specs.Writing.{heading, messageOf, stageRows, thenFits}
 use Rattle.conversation.proofs.Rows.{without}
+use Rattle.conversation.proofs.Sends.{WholeIds, fields-fit}
 use Rattle.calls.specs.Calls.{writeRefusal, Inside, Ready, Appended}
 use Rattle.calls.proofs.Refusals.{call-refused, call-passed, passed-inside, passed-room, measured}
 use Rattle.calls.proofs.Sizes.{Sized}
@@ -46,19 +47,6 @@ changed n w = record {
   sequence = n .sequence;
   used = n .used;
 }
-
--- a scheme list is one of whole ids
-abbrev pub WholeIds : Contents → Type 0
-WholeIds (ofNego o) = length (o .schemes) % 16 ≡ 0
-WholeIds (ofExchange p) = Unit {0}
-WholeIds (ofVerify k) = Unit {0}
-WholeIds (ofAlert p) = Unit {0}
-
-fields-fit : (c : Contents) → WholeIds c → sizeOf c ≤ 65535 → fitsFields c ≡ true
-fields-fit (ofNego o) w h = simp (eq-eqb _ _ w, le-leb (length (o .schemes)) 1048560 (omega arith))
-fields-fit (ofExchange p) w h = le-leb (length (p .value)) 4294967231 (omega arith)
-fields-fit (ofVerify k) w h = le-leb (length (k .value)) 4294967215 (omega arith)
-fields-fit (ofAlert p) w h = refl
 
 -- a message of a kind that both ends write, and of the size that has passed 16
 pub write-ready : (r : Record) (d : List ℕ) (kind : ℕ) (rows : List Row) (size n : ℕ) → n ≡ writeRefusal r kind rows size (length d) → n ≡ 0 → without 0 (rows ++ (fits r d size ∷ [])) ≡ true

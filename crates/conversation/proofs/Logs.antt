@@ -33,7 +33,7 @@ use Rattle.conversation.specs.Logs.{messagesIn, added, logged, Logs, nex
 use Rattle.conversation.proofs.Decides.{all-first}
 use Rattle.conversation.proofs.Rows.{decide-out, without, fails-other, true-behind}
 use Rattle.conversation.proofs.Tokens.{judged-first, judged-number}
-use Rattle.conversation.proofs.Ends.{ok-distinct, own-opened, count-joined}
+use Rattle.conversation.proofs.Ends.{ok-distinct, each-whole, sized-at, own-opened, count-joined}
 use Rattle.conversation.proofs.Inside.{told-below, ChosenBelow, admit-chosen, limits-wrote, limits-taken, limits-chose, limits-counts, now-below}
 use Rattle.conversation.proofs.Messages.{FramedFrom, Framed, framed-more, framed-behind, framed-long, framed-order, join-append, join-one, same-messages, same-start, written-framed, judge-keeps, Taken, token-taken}
 
@@ -352,11 +352,6 @@ both-behind : (w : World) (l : Logs) → Both w l → (cs : List (Bool × Call))
 both-behind w l b [] = b
 both-behind w l b (c ∷ cs) = both-behind (next w (c .0) (c .1)) (nextLogs w (c .0) (c .1) l) (both-next w l b (c .0) (c .1)) cs
 
-sized-at : (l : List Id) → ((s : Id) → List·Memᴰ s l → length s ≡ 16) → (k : ℕ) → k < length l → length (getD l k []) ≡ 16
-sized-at [] h k low = absurd (omega arith)
-sized-at (x ∷ l) h zero low = h x (List·Memᴰ·head refl)
-sized-at (x ∷ l) h (suc k) low = sized-at l (λ s m. h s (List·Memᴰ·tail m)) k (omega arith)
-
 -- a fresh record
 sound-fresh : (a : Bool) (l : List Id) (v d : List ℕ) → ((s : Id) → List·Memᴰ s l → length s ≡ 16) → oneTo16 l ≡ true → length v ≡ 16 → Sound (fresh a (joinIds l) v) d []
 unfolding keptBelow
@@ -403,8 +398,8 @@ pub every-run : EveryRun
 every-run o cs =
     let b = both-behind (world o) (record { i = []; a = [] })
     (record {
-      i = sound-fresh false (o .initiator) (o .conversation .0) (o .initiator-buffer) (o .initiator-sized) (o .initiator-ok) (o .conversation .1);
-      a = sound-fresh true (o .acceptor) zeroId (o .acceptor-buffer) (o .acceptor-sized) (o .acceptor-ok) refl;
+      i = sound-fresh false (o .initiator) (o .conversation .0) (o .initiator-buffer) (each-whole (o .initiator) (o .initiator-whole)) (o .initiator-ok) (o .conversation .1);
+      a = sound-fresh true (o .acceptor) zeroId (o .acceptor-buffer) (each-whole (o .acceptor) (o .acceptor-whole)) (o .acceptor-ok) refl;
       i-steps = record { shared = []; own = []; beyond = []; parts = refl; written = refl; begins = refl };
       a-steps = record { shared = []; own = []; beyond = []; parts = refl; written = refl; begins = refl };
     }) cs in
