@@ -27,7 +27,7 @@ use Rattle.conversation.specs.State.{ownOf, limitRows}
 use Rattle.conversation.specs.Turns.{NEGO, typeOf}
 use Rattle.conversation.specs.Outcomes.{zeroId}
 use Rattle.conversation.specs.Writing.{heading, messageOf, offered, replyMessage}
-use Rattle.conversation.specs.Runs.{Sized, Call, offer, reply, metadata, exchange, verify, alert, read, choose, Opening, World, world, next, Entry, run, isAccepted, isLawful, Replied, ChoseWith, MarksKept, Choice, NotLost, Demand3}
+use Rattle.conversation.specs.Runs.{Sized, Call, offer, reply, metadata, speak, read, choose, Opening, World, world, next, Entry, run, isAccepted, isLawful, Replied, ChoseWith, MarksKept, Choice, NotLost, Demand3}
 use Rattle.conversation.specs.Claims.{RuleTwoAnswer, ByRule2, NoneRefused, ReplyAnswer, ReplyByMarks, acceptedAt, withMarks}
 use Rattle.conversation.proofs.Tokens.{Heads}
 use Rattle.conversation.proofs.Once.{marks-once, same-kept}
@@ -108,9 +108,7 @@ asks o cs false k a m = tt
 asks o cs true (offer random) a m = tt
 asks o cs true (reply x random) a m = λ h. record { random = random; answered = a; accepted = h; entry = m }
 asks o cs true (metadata id value) a m = tt
-asks o cs true (exchange value) a m = tt
-asks o cs true (verify type value) a m = tt
-asks o cs true (alert code) a m = tt
+asks o cs true (speak s) a m = tt
 asks o cs true read a m = tt
 asks o cs true (choose x) a m = tt
 
@@ -192,18 +190,14 @@ module _ (o : Opening) (cs : List (Bool × Call)) (o′ : Opening) (cs′ : List
   no-17 false (offer random) b h f = f
   no-17 false (reply y random) b h f = λ e. omega arith
   no-17 false (metadata id value) b h f = f
-  no-17 false (exchange value) b h f = f
-  no-17 false (verify type value) b h f = f
-  no-17 false (alert code) b h f = f
+  no-17 false (speak s) b h f = f
   no-17 false read b h f = f
   no-17 false (choose m′) b h f = λ e. let g = f .0 e in some-left m′ (g .0) h (g .1 .0) (g .1 .1)
   no-17 true (offer random) b h f = f
   no-17 true (reply m′ random) b h f =
       λ e. no-mem-nil (a .choice) _ (f .refuses e) (still-common (o .acceptor) (o .initiator) (o′ .acceptor) (o′ .initiator) up dist ma m (a .choice) before m′ (acc-marks m′ random h))
   no-17 true (metadata id value) b h f = f
-  no-17 true (exchange value) b h f = f
-  no-17 true (verify type value) b h f = f
-  no-17 true (alert code) b h f = f
+  no-17 true (speak s) b h f = f
   no-17 true read b h f = f
   no-17 true (choose m′) b h f = λ e. omega arith
 

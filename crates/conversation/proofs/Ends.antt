@@ -29,11 +29,11 @@ use Rattle.conversation.specs.Writing.{stageRows, thenFits, offered, off
 use Rattle.conversation.specs.Admitting.{listedBy}
 use Rattle.conversation.specs.Reading.{conversationOf, whole, judged, commonAfter, keptAfter, taken}
 use Rattle.conversation.specs.Choosing.{openTo, mayChoose, chose, choosing}
-use Rattle.conversation.specs.Runs.{Sized, Call, offer, reply, metadata, exchange, verify, alert, read, choose, End, act, Opening, World, world, outcomeAt, next, Entry, run, isAccepted, isLawful}
+use Rattle.conversation.specs.Runs.{Sized, Call, offer, reply, metadata, speak, read, choose, End, act, Opening, World, world, outcomeAt, next, Entry, run, isAccepted, isLawful}
 use Rattle.conversation.specs.Claims.{ReplyAnswer, OpeningFresh}
 use Rattle.conversation.proofs.Rows.{decide-out, without, fails-other, fails-one, fails-parts, fails-each, fails-until, true-behind, front-true}
 use Rattle.conversation.proofs.Tokens.{Heads, heads-more, heads-here, empty-judged, judged-first}
-use Rattle.conversation.proofs.Goals.{positive, none-written, no-after, NotFirst, nego-start, no17, not-some, Goal, refusal, stopped, metadata-goal, exchange-goal, verify-goal, alert-goal, read-goal}
+use Rattle.conversation.proofs.Goals.{positive, none-written, no-after, NotFirst, nego-start, no17, not-some, Goal, refusal, stopped, metadata-goal, speak-goal, read-goal}
 
 -- 1. the invariant
 
@@ -105,9 +105,7 @@ module _ (o : Opening) (Q : ℕ → Type 0)
     IniSays (offer random) a = no17 a
     IniSays (reply m random) a = Barred a
     IniSays (metadata id value) a = no17 a
-    IniSays (exchange value) a = no17 a
-    IniSays (verify type value) a = no17 a
-    IniSays (alert code) a = no17 a
+    IniSays (speak s) a = no17 a
     IniSays read a = no17 a
     IniSays (choose m) a = ChooseSays m a
 
@@ -115,9 +113,7 @@ module _ (o : Opening) (Q : ℕ → Type 0)
     AccSays (offer random) a = no17 a
     AccSays (reply m random) a = ReplyAnswer o m a
     AccSays (metadata id value) a = no17 a
-    AccSays (exchange value) a = no17 a
-    AccSays (verify type value) a = no17 a
-    AccSays (alert code) a = no17 a
+    AccSays (speak s) a = no17 a
     AccSays read a = no17 a
     AccSays (choose m) a = Barred a
 
@@ -130,9 +126,7 @@ module _ (o : Opening) (Q : ℕ → Type 0)
     AskAcc (offer random) a = Unit {0}
     AskAcc (reply m random) a = isAccepted a ≡ true → Q m
     AskAcc (metadata id value) a = Unit {0}
-    AskAcc (exchange value) a = Unit {0}
-    AskAcc (verify type value) a = Unit {0}
-    AskAcc (alert code) a = Unit {0}
+    AskAcc (speak s) a = Unit {0}
     AskAcc read a = Unit {0}
     AskAcc (choose m) a = Unit {0}
 
@@ -280,9 +274,7 @@ module _ (o : Opening) (Q : ℕ → Type 0)
       ini-step (offer random) = ini-offer random
       ini-step (reply m random) = ini-reply m random
       ini-step (metadata id value) = metadata-goal e IniOk beside ok tg ini-on id value
-      ini-step (exchange value) = exchange-goal e IniOk beside ok tg ini-on value
-      ini-step (verify type value) = verify-goal e IniOk beside ok tg ini-on type value
-      ini-step (alert code) = alert-goal e IniOk beside ok tg ini-on code
+      ini-step (speak s) = speak-goal e IniOk beside ok tg ini-on s
       ini-step read = read-goal e IniOk beside ok tg (f .turn) ini-reads-on
       ini-step (choose m) = ini-choose m
 
@@ -449,9 +441,7 @@ module _ (o : Opening) (Q : ℕ → Type 0)
       acc-step (offer random) q = acc-offer random
       acc-step (reply m random) q = acc-reply m random q
       acc-step (metadata id value) q = metadata-goal e AccOk along ok tg acc-on id value
-      acc-step (exchange value) q = exchange-goal e AccOk along ok tg acc-on value
-      acc-step (verify type value) q = verify-goal e AccOk along ok tg acc-on type value
-      acc-step (alert code) q = alert-goal e AccOk along ok tg acc-on code
+      acc-step (speak s) q = speak-goal e AccOk along ok tg acc-on s
       acc-step read q = read-goal e AccOk along ok tg (f .turn) acc-reads-on
       acc-step (choose m) q = acc-choose m
 

@@ -26,21 +26,21 @@ use Rattle.schemes.proofs.Offers.{bit-zero}
 use Rattle.conversation.specs.State.{fresh}
 use Rattle.conversation.specs.Outcomes.{answered}
 use Rattle.conversation.specs.Turns as turns
-use Rattle.conversation.specs.Writing.{offering, replying, writingMetadata, writingExchange, writingVerify, writingAlert, schemeNow}
+use Rattle.conversation.specs.Writing.{offering, replying, writingMetadata, schemeNow, speaking}
 use Rattle.conversation.specs.Admitting.{messagesAt, schemeFits, passed, admit}
 use Rattle.conversation.specs.Reading.{conversationOf, judge, judged, commonAfter, keptAfter, finish, readingToken}
 use Rattle.conversation.specs.Choosing.{choosing}
-use Rattle.conversation.specs.Runs.{Call, offer, reply, metadata, exchange, verify, alert, read, choose, Opening, world, Entry, run, MarksKept, NotLost, act}
+use Rattle.conversation.specs.Runs.{Call, offer, reply, metadata, speak, read, choose, Opening, world, Entry, run, MarksKept, NotLost, act}
 use Rattle.conversation.specs.Logs.{messagesIn}
 use Rattle.conversation.specs.Worked.{scheme, opened, negotiation, Says, saysOf, names, longerLists, LongerRun, LongerChoice, WholeConversation, WholeLogs}
 use Rattle.conversation.proofs.Demand.{demand3, run-calls}
 
 pub whole-conversation : WholeConversation
-unfolding opened le signed32 sameOctets sameId keepsRule shown shapeOf headOf elementsAt contentOf vectorsOf commonRows zeros padsZero allKeepRule noneCritical contentRows bodyRows frontRows idsAt schemesIn orderRows nextRows chainOf put encoded mem place distinct setOf left has mentions ones openPlaces keptBelow turns.writing turns.reading turns.kindOf turns.typeOf turns.afterOpening turns.afterFurther turns.after offering replying writingMetadata writingExchange writingVerify writingAlert schemeNow messagesAt schemeFits passed admit conversationOf judge judged commonAfter keptAfter finish readingToken choosing act
+unfolding opened le signed32 sameOctets sameId keepsRule shown shapeOf headOf elementsAt contentOf vectorsOf commonRows zeros padsZero allKeepRule noneCritical contentRows bodyRows frontRows idsAt schemesIn orderRows nextRows chainOf put encoded mem place distinct setOf left has mentions ones openPlaces keptBelow turns.writing turns.reading turns.kindOf turns.typeOf turns.afterOpening turns.afterFurther turns.after offering replying writingMetadata speaking schemeNow messagesAt schemeFits passed admit conversationOf judge judged commonAfter keptAfter finish readingToken choosing act
 whole-conversation = refl
 
 pub whole-logs : WholeLogs
-unfolding opened le signed32 sameOctets sameId keepsRule shown shapeOf headOf elementsAt contentOf vectorsOf commonRows zeros padsZero allKeepRule noneCritical contentRows bodyRows frontRows idsAt schemesIn orderRows nextRows chainOf put encoded mem place distinct setOf left has mentions ones openPlaces keptBelow turns.writing turns.reading turns.kindOf turns.typeOf turns.afterOpening turns.afterFurther turns.after offering replying writingMetadata writingExchange writingVerify writingAlert schemeNow messagesAt schemeFits passed admit conversationOf judge judged commonAfter keptAfter finish readingToken choosing act messagesIn
+unfolding opened le signed32 sameOctets sameId keepsRule shown shapeOf headOf elementsAt contentOf vectorsOf commonRows zeros padsZero allKeepRule noneCritical contentRows bodyRows frontRows idsAt schemesIn orderRows nextRows chainOf put encoded mem place distinct setOf left has mentions ones openPlaces keptBelow turns.writing turns.reading turns.kindOf turns.typeOf turns.afterOpening turns.afterFurther turns.after offering replying writingMetadata speaking schemeNow messagesAt schemeFits passed admit conversationOf judge judged commonAfter keptAfter finish readingToken choosing act messagesIn
 whole-logs = (refl, refl)
 
 -- two runs without marks, the second with longer lists
@@ -49,9 +49,7 @@ abbrev unmarked : Call → Bool
 unmarked (offer random) = true
 unmarked (reply m random) = eqb m 0
 unmarked (metadata id value) = true
-unmarked (exchange value) = true
-unmarked (verify type value) = true
-unmarked (alert code) = true
+unmarked (speak s) = true
 unmarked read = true
 unmarked (choose m) = eqb m 0
 
@@ -102,7 +100,7 @@ abbrev chosen : Entry
 chosen = fifth (run (world opened) (negotiation 0 0)) none-such
 
 first-choice : saysOf chosen ≡ names (scheme 2) 2
-unfolding opened le signed32 sameOctets sameId keepsRule shown shapeOf headOf elementsAt contentOf vectorsOf commonRows zeros padsZero allKeepRule noneCritical contentRows bodyRows frontRows idsAt schemesIn orderRows nextRows chainOf put encoded mem place distinct setOf left has mentions ones openPlaces keptBelow turns.writing turns.reading turns.kindOf turns.typeOf turns.afterOpening turns.afterFurther turns.after offering replying writingMetadata writingExchange writingVerify writingAlert schemeNow messagesAt schemeFits passed admit conversationOf judge judged commonAfter keptAfter finish readingToken choosing act
+unfolding opened le signed32 sameOctets sameId keepsRule shown shapeOf headOf elementsAt contentOf vectorsOf commonRows zeros padsZero allKeepRule noneCritical contentRows bodyRows frontRows idsAt schemesIn orderRows nextRows chainOf put encoded mem place distinct setOf left has mentions ones openPlaces keptBelow turns.writing turns.reading turns.kindOf turns.typeOf turns.afterOpening turns.afterFurther turns.after offering replying writingMetadata speaking schemeNow messagesAt schemeFits passed admit conversationOf judge judged commonAfter keptAfter finish readingToken choosing act
 first-choice = refl
 
 -- so no call of the second run is refused with 17, and its choice, by rule 2, stands no later
@@ -114,5 +112,5 @@ longer-run y h =
 
 -- the second run, computed
 pub choices : LongerChoice
-unfolding longerLists le signed32 sameOctets sameId keepsRule shown shapeOf headOf elementsAt contentOf vectorsOf commonRows zeros padsZero allKeepRule noneCritical contentRows bodyRows frontRows idsAt schemesIn orderRows nextRows chainOf put encoded mem place distinct setOf left has mentions ones openPlaces keptBelow turns.writing turns.reading turns.kindOf turns.typeOf turns.afterOpening turns.afterFurther turns.after offering replying writingMetadata writingExchange writingVerify writingAlert schemeNow messagesAt schemeFits passed admit conversationOf judge judged commonAfter keptAfter finish readingToken choosing act
+unfolding longerLists le signed32 sameOctets sameId keepsRule shown shapeOf headOf elementsAt contentOf vectorsOf commonRows zeros padsZero allKeepRule noneCritical contentRows bodyRows frontRows idsAt schemesIn orderRows nextRows chainOf put encoded mem place distinct setOf left has mentions ones openPlaces keptBelow turns.writing turns.reading turns.kindOf turns.typeOf turns.afterOpening turns.afterFurther turns.after offering replying writingMetadata speaking schemeNow messagesAt schemeFits passed admit conversationOf judge judged commonAfter keptAfter finish readingToken choosing act
 choices = refl

@@ -19,10 +19,10 @@ use Rattle.conversation.specs.declared.Scan.{Scan}
 use Rattle.conversation.specs.State.{ownOf, limitRows}
 use Rattle.conversation.specs.Turns.{NEGO, METADATA, EXCHANGE, VERIFY, ALERT, writing, reading, after, writes, placeAfter, mayWrite}
 use Rattle.conversation.specs.Outcomes.{Outcome, answered, refused, decide, row, room, fits, WrittenAs, appended, wrote}
-use Rattle.conversation.specs.Writing.{stageRows, thenFits, offered, offerRows, offering, someLeft, replyMessage, replyRows, naming, replying, metadataMessage, metadataRows, writingMetadata, namedRows, exchangeMessage, writingExchange, verifyMessage, writingVerify, alertMessage, writingAlert}
+use Rattle.conversation.specs.Writing.{stageRows, thenFits, offered, offerRows, offering, someLeft, replyMessage, replyRows, naming, replying, metadataMessage, metadataRows, writingMetadata, namedRows, speaking, spoken, Speech, request, checksum, alarm, kindIn, spokenAs}
 use Rattle.conversation.specs.Reading.{Judged, whole, halted, judged, taken, finish, tokenRows, readingToken}
 use Rattle.conversation.specs.Choosing.{openTo, mayChoose, choiceRows, chose, choosing}
-use Rattle.conversation.specs.Runs.{Sized, Call, offer, reply, metadata, exchange, verify, alert, read, choose, End, act, Opening, World, world, outcomeAt, next, Entry, run, isAccepted}
+use Rattle.conversation.specs.Runs.{Sized, Call, offer, reply, metadata, speak, read, choose, End, act, Opening, World, world, outcomeAt, next, Entry, run, isAccepted}
 use Rattle.conversation.specs.Claims.{atEnd, acceptedAt, withMarks, isVerify, MarksOnce, VerifyOnce}
 use Rattle.conversation.proofs.Rows.{decide-out, without, fails-other, true-behind}
 use Rattle.conversation.proofs.Goals.{positive, nego-start}
@@ -136,7 +136,7 @@ module _ (x : Bool) (r : Record) (d : List ℕ) (role : r .acceptor ≡ x) where
         ]
 
 behind : (x : Bool) (e : End) (peer : List ℕ) (k : Call) → e .record-of .acceptor ≡ x → Behind x (e .record-of) k (act e peer k .answer)
-unfolding act offering writingMetadata writingExchange writingVerify writingAlert
+unfolding act offering writingMetadata speaking
 behind x e peer (offer random) h =
     write x (e .record-of) (e .transcript) h (offer random) NEGO
     (offerRows (e .record-of)) (offered (e .record-of) (random .0)) _ refl refl
@@ -144,15 +144,9 @@ behind x e peer (reply m random) h = write-reply x (e .record-of) (e .transcript
 behind x e peer (metadata id value) h =
     write x (e .record-of) (e .transcript) h (metadata id value) METADATA
     (metadataRows (e .record-of) (id .0) (length value)) (metadataMessage (e .record-of) (id .0) value) _ refl refl
-behind x e peer (exchange value) h =
-    write x (e .record-of) (e .transcript) h (exchange value) EXCHANGE
-    (namedRows (e .record-of)) (exchangeMessage (e .record-of) value) _ refl refl
-behind x e peer (verify type value) h =
-    write x (e .record-of) (e .transcript) h (verify type value) VERIFY
-    (namedRows (e .record-of)) (verifyMessage (e .record-of) type value) _ refl refl
-behind x e peer (alert code) h =
-    write x (e .record-of) (e .transcript) h (alert code) ALERT
-    (namedRows (e .record-of)) (alertMessage (e .record-of) code) _ refl refl
+behind x e peer (speak s) h =
+    write x (e .record-of) (e .transcript) h (speak s) (kindIn s)
+    (namedRows (e .record-of)) (spoken (e .record-of) s) (spokenAs (e .record-of) s) refl refl
 behind x e peer read h = read-goes x (e .record-of) (e .transcript) h peer
 behind x e peer (choose m) h = choose-goes x (e .record-of) (e .transcript) h m
 
@@ -259,31 +253,34 @@ module _ (e : End) (peer : List ℕ) where
   finish-verified (halted n p) h = h
   finish-verified (whole n c) h = elim (which (leb (r .used + length peer) (room d))) [ inl b ↦ rw b h | inr b ↦ rw b h ]
 
+  still-verified : (q : Record) (s : Speech) → q .verified ≡ true → spokenAs q s .verified ≡ true
+  still-verified q (request value) h = h
+  still-verified q (checksum type value) h = refl
+  still-verified q (alarm code) h = h
+
   verified-stays : (k : Call) → r .verified ≡ true → act e peer k .answer .next .verified ≡ true
-  unfolding act offering replying writingMetadata writingExchange writingVerify writingAlert readingToken choosing
+  unfolding act offering replying writingMetadata speaking readingToken choosing
   verified-stays (offer random) h = marked-behind (stageRows r NEGO ++ thenFits (offerRows r) r d (offered r (random .0))) _ h h
   verified-stays (reply m random) h = marked-behind (stageRows r NEGO ++ thenFits (replyRows r m) r d (replyMessage r m (random .0))) _ h h
   verified-stays (metadata id value) h = marked-behind (stageRows r METADATA ++ thenFits (metadataRows r (id .0) (length value)) r d (metadataMessage r (id .0) value)) _ h h
-  verified-stays (exchange value) h = marked-behind (stageRows r EXCHANGE ++ thenFits (namedRows r) r d (exchangeMessage r value)) _ h h
-  verified-stays (verify type value) h = marked-behind (stageRows r VERIFY ++ thenFits (namedRows r) r d (verifyMessage r type value)) _ h refl
-  verified-stays (alert code) h = marked-behind (stageRows r ALERT ++ thenFits (namedRows r) r d (alertMessage r code)) _ h h
+  verified-stays (speak s) h = marked-behind (stageRows r (kindIn s) ++ thenFits (namedRows r) r d (spoken r s)) _ h (still-verified r s h)
   verified-stays read h = marked-behind (limitRows r ++ tokenRows r (length peer)) _ h (finish-verified (judged r peer) h)
   verified-stays (choose m) h = marked-behind (limitRows r ++ choiceRows r m) _ h h
 
   -- a VERIFY is written where none was, and is then one
   verify-spends : (k : Call) → isVerify k ≡ true → isAccepted (act e peer k .answer) ≡ true → (r .verified ≡ true → ⊥) × (act e peer k .answer .next .verified ≡ true)
-  unfolding act writingVerify after
+  unfolding act speaking after
   verify-spends (offer random) s = no-true s
   verify-spends (reply m random) s = no-true s
   verify-spends (metadata id value) s = no-true s
-  verify-spends (exchange value) s = no-true s
-  verify-spends (alert code) s = no-true s
+  verify-spends (speak (request value)) s = no-true s
+  verify-spends (speak (alarm code)) s = no-true s
   verify-spends read s = no-true s
   verify-spends (choose m) s = no-true s
-  verify-spends (verify type value) s =
-      decide-out (λ out. isAccepted (out .answer) ≡ true → (r .verified ≡ true → ⊥) × (out .answer .next .verified ≡ true)) (stageRows r VERIFY ++ thenFits (namedRows r) r d (verifyMessage r type value)) r d _
-      (λ n f a. no-true (sym (ne-eqb n 0 (fails-other 0 (stageRows r VERIFY ++ thenFits (namedRows r) r d (verifyMessage r type value)) n refl f)) ∙ a))
-      (λ g a. ((λ v. no-true (rw v at (true-behind (limitRows r) (row 18 (mayWrite r VERIFY)) (thenFits (namedRows r) r d (verifyMessage r type value)) g))), refl))
+  verify-spends (speak (checksum type value)) s =
+      decide-out (λ out. isAccepted (out .answer) ≡ true → (r .verified ≡ true → ⊥) × (out .answer .next .verified ≡ true)) (stageRows r VERIFY ++ thenFits (namedRows r) r d (spoken r (checksum type value))) r d _
+      (λ n f a. no-true (sym (ne-eqb n 0 (fails-other 0 (stageRows r VERIFY ++ thenFits (namedRows r) r d (spoken r (checksum type value))) n refl f)) ∙ a))
+      (λ g a. ((λ v. no-true (rw v at (true-behind (limitRows r) (row 18 (mayWrite r VERIFY)) (thenFits (namedRows r) r d (spoken r (checksum type value))) g))), refl))
 
 pub verify-once : VerifyOnce
 verify-once o cs x =

@@ -27,8 +27,8 @@ use Rattle.conversation.specs.declared.Record.{Record}
 use Rattle.conversation.specs.State.{ownOf, schemeAt, limitRows}
 use Rattle.conversation.specs.Turns.{NEGO, METADATA, EXCHANGE, VERIFY, ALERT, typeOf, mayWrite}
 use Rattle.conversation.specs.Outcomes.{Outcome, decide, row, room, fits, unchanged, appended}
-use Rattle.conversation.specs.Writing.{heading, messageOf, stageRows, thenFits, offerRows, replyRows, metadataRows, namedRows, schemeNow, schemeAllowed, offering, replying, writingMetadata, writingExchange, writingVerify, writingAlert}
-use Rattle.conversation.specs.Runs.{Sized, Call, offer, reply, metadata, exchange, verify, alert, read, choose, End, act, isAccepted}
+use Rattle.conversation.specs.Writing.{heading, messageOf, stageRows, thenFits, offerRows, replyRows, metadataRows, namedRows, schemeNow, schemeAllowed, offering, replying, writingMetadata, speaking, Speech, request, checksum, alarm, kindIn, contentsIn}
+use Rattle.conversation.specs.Runs.{Sized, Call, offer, reply, metadata, speak, read, choose, End, act, isAccepted}
 use Rattle.conversation.specs.Claims.{Arrays, sentBy, ReadsAsSent, WrittenReads}
 use Rattle.conversation.proofs.Rows.{decide-out, without, fails-other, true-behind, front-true, back-true}
 use Rattle.conversation.proofs.Ends.{length-joined, left-sized, sized-at}
@@ -136,8 +136,14 @@ module _ (e : End) (peer : List ℕ) (arrays : Arrays (e .record-of)) where
   abbrev Reads : Call → Outgoing → Type 0
   Reads k m = InRange (m .contents) → isAccepted (act e peer k .answer) ≡ true → ReadsAsSent r d m (act e peer k)
 
+  said : (s : Speech) → Reads (speak s) (record { heading = heading r (kindIn s); contents = contentsIn (schemeAt r (schemeNow r)) s })
+  unfolding act speaking typeOf
+  said (request value) = λ range. sends r d arrays EXCHANGE (namedRows r) (contentsIn (schemeAt r (schemeNow r)) (request value)) _ refl refl refl range (λ l t. (now-sized r d arrays l (t .0), tt)) refl refl
+  said (checksum type value) = λ range. sends r d arrays VERIFY (namedRows r) (contentsIn (schemeAt r (schemeNow r)) (checksum type value)) _ refl refl refl range (λ l t. (now-sized r d arrays l (t .0), tt)) refl refl
+  said (alarm code) = λ range. sends r d arrays ALERT (namedRows r) (contentsIn (schemeAt r (schemeNow r)) (alarm code)) _ refl refl refl range (λ l t. (now-sized r d arrays l (t .0), tt)) refl refl
+
   sent : (k : Call) (m : Outgoing) → sentBy r k ≡ some m → Reads k m
-  unfolding act offering replying writingMetadata writingExchange writingVerify writingAlert typeOf
+  unfolding act offering replying writingMetadata typeOf
   sent (offer random) m is = subst (Reads (offer random)) (Option·some-injective _ _ is)
       (λ range. sends r d arrays NEGO (offerRows r) (ofNego (record { random = random .0; schemes = take (16 * r .count) (r .list) })) _ refl refl refl range
       (λ l t. (random .1, listed-whole r d arrays l)) refl refl)
@@ -147,15 +153,7 @@ module _ (e : End) (peer : List ℕ) (arrays : Arrays (e .record-of)) where
   sent (metadata id value) m is = subst (Reads (metadata id value)) (Option·some-injective _ _ is)
       (λ range. sends r d arrays METADATA (metadataRows r (id .0) (length value)) (ofExchange (record { scheme = id .0; value = value })) _ refl refl refl range
       (λ l t. (id .1, tt)) refl refl)
-  sent (exchange value) m is = subst (Reads (exchange value)) (Option·some-injective _ _ is)
-      (λ range. sends r d arrays EXCHANGE (namedRows r) (ofExchange (record { scheme = schemeAt r (schemeNow r); value = value })) _ refl refl refl range
-      (λ l t. (now-sized r d arrays l (t .0), tt)) refl refl)
-  sent (verify type value) m is = subst (Reads (verify type value)) (Option·some-injective _ _ is)
-      (λ range. sends r d arrays VERIFY (namedRows r) (ofVerify (record { scheme = schemeAt r (schemeNow r); type = type; value = value })) _ refl refl refl range
-      (λ l t. (now-sized r d arrays l (t .0), tt)) refl refl)
-  sent (alert code) m is = subst (Reads (alert code)) (Option·some-injective _ _ is)
-      (λ range. sends r d arrays ALERT (namedRows r) (ofAlert (record { scheme = schemeAt r (schemeNow r); code = code })) _ refl refl refl range
-      (λ l t. (now-sized r d arrays l (t .0), tt)) refl refl)
+  sent (speak s) m is = subst (Reads (speak s)) (Option·some-injective _ _ is) (said s)
   sent read m is = absurd (Option·some-ne-none m (sym is))
   sent (choose n) m is = absurd (Option·some-ne-none m (sym is))
 

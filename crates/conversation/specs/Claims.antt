@@ -27,17 +27,18 @@ use mathlib.Core.Logic.{_⊎_}
 use mathlib.Core.List.{List, [], _∷_, List·Memᴰ}
 use mathlib.Core.Option.{Option, none, some}
 use lib.ListN.{length, take}
-use Rattle.encode.specs.Encode.{ofNego, ofExchange, ofVerify, ofAlert}
+use lib.Dec.{eqb}
+use Rattle.encode.specs.Encode.{ofNego, ofExchange}
 use Rattle.roundtrip.specs.ReadBack.{InRange, ReadsBack, Stands, Outgoing}
 use Rattle.schemes.specs.Lists.{Id, keep, first, leftOver, rule2, replyOf, oneTo16, wholeIds, joinIds}
 use Rattle.schemes.specs.Sets.{left}
 use Rattle.conversation.specs.declared.Record.{Record}
 use Rattle.conversation.specs.declared.Answer.{Answer}
 use Rattle.conversation.specs.State.{ownOf, schemeAt, fresh}
-use Rattle.conversation.specs.Turns.{NEGO, METADATA, EXCHANGE, VERIFY, ALERT}
+use Rattle.conversation.specs.Turns.{NEGO, METADATA, VERIFY}
 use Rattle.conversation.specs.Outcomes.{Outcome, zeroId, answered}
-use Rattle.conversation.specs.Writing.{heading, schemeNow, opening}
-use Rattle.conversation.specs.Runs.{Sized, Call, offer, reply, metadata, exchange, verify, alert, read, choose, End, act, Opening, World, world, outcomeAt, next, ends, Entry, run, isAccepted, isLawful, Replied}
+use Rattle.conversation.specs.Writing.{heading, schemeNow, kindIn, contentsIn, opening}
+use Rattle.conversation.specs.Runs.{Sized, Call, offer, reply, metadata, speak, read, choose, End, act, Opening, World, world, outcomeAt, next, ends, Entry, run, isAccepted, isLawful, Replied}
 
 -- "Record and lent octets are unchanged."
 abbrev pub Unchanged : Record → List ℕ → Outcome → Type 0
@@ -105,9 +106,7 @@ abbrev pub withMarks : Call → Bool
 withMarks (offer random) = false
 withMarks (reply m random) = true
 withMarks (metadata id value) = false
-withMarks (exchange value) = false
-withMarks (verify type value) = false
-withMarks (alert code) = false
+withMarks (speak s) = false
 withMarks read = false
 withMarks (choose m) = true
 
@@ -115,9 +114,7 @@ abbrev pub isVerify : Call → Bool
 isVerify (offer random) = false
 isVerify (reply m random) = false
 isVerify (metadata id value) = false
-isVerify (exchange value) = false
-isVerify (verify type value) = true
-isVerify (alert code) = false
+isVerify (speak s) = eqb (kindIn s) VERIFY
 isVerify read = false
 isVerify (choose m) = false
 
@@ -137,9 +134,7 @@ abbrev pub sentBy : Record → Call → Option Outgoing
 sentBy r (offer random) = some (record { heading = heading r NEGO; contents = ofNego (record { random = random .0; schemes = take (16 * r .count) (r .list) }) })
 sentBy r (reply m random) = some (record { heading = heading r NEGO; contents = ofNego (record { random = random .0; schemes = joinIds (left (ownOf r) (r .common) m) }) })
 sentBy r (metadata id value) = some (record { heading = heading r METADATA; contents = ofExchange (record { scheme = id .0; value = value }) })
-sentBy r (exchange value) = some (record { heading = heading r EXCHANGE; contents = ofExchange (record { scheme = schemeAt r (schemeNow r); value = value }) })
-sentBy r (verify type value) = some (record { heading = heading r VERIFY; contents = ofVerify (record { scheme = schemeAt r (schemeNow r); type = type; value = value }) })
-sentBy r (alert code) = some (record { heading = heading r ALERT; contents = ofAlert (record { scheme = schemeAt r (schemeNow r); code = code }) })
+sentBy r (speak s) = some (record { heading = heading r (kindIn s); contents = contentsIn (schemeAt r (schemeNow r)) s })
 sentBy r read = none
 sentBy r (choose m) = none
 

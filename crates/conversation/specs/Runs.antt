@@ -24,14 +24,13 @@ use mathlib.Core.List.{List, [], _∷_, _++_, List·Memᴰ}
 use mathlib.Core.Option.{some}
 use lib.ListN.{length}
 use lib.Dec.{eqb}
-use lib.IntN.{ℤ}
 use Rattle.schemes.specs.Lists.{Id, oneTo16, wholeIds, joinIds, rule2}
 use Rattle.schemes.specs.Longer.{Longer, SameMarks, NoLater}
 use Rattle.conversation.specs.declared.Record.{Record}
 use Rattle.conversation.specs.declared.Answer.{Answer}
 use Rattle.conversation.specs.State.{fresh}
 use Rattle.conversation.specs.Outcomes.{Outcome, zeroId}
-use Rattle.conversation.specs.Writing.{offering, replying, writingMetadata, writingExchange, writingVerify, writingAlert, offered, replyMessage, metadataMessage, exchangeMessage, verifyMessage, alertMessage}
+use Rattle.conversation.specs.Writing.{offering, replying, writingMetadata, offered, replyMessage, metadataMessage, Speech, spoken, speaking}
 use Rattle.conversation.specs.Reading.{readingToken}
 use Rattle.conversation.specs.Choosing.{choosing}
 
@@ -42,9 +41,7 @@ pub data Call : Type 0 where
   offer : Sized 32 → Call
   reply : (marks : ℕ) → Sized 32 → Call
   metadata : Sized 16 → (value : List ℕ) → Call
-  exchange : (value : List ℕ) → Call
-  verify : (type : ℤ) (value : List ℕ) → Call
-  alert : (code : ℤ) → Call
+  speak : Speech → Call
   read : Call
   choose : (marks : ℕ) → Call
 
@@ -58,9 +55,7 @@ unfoldable pub act : End → List ℕ → Call → Outcome
 act e peer (offer random) = offering (e .record-of) (e .transcript) (random .0)
 act e peer (reply m random) = replying (e .record-of) (e .transcript) m (random .0)
 act e peer (metadata id value) = writingMetadata (e .record-of) (e .transcript) (id .0) value
-act e peer (exchange value) = writingExchange (e .record-of) (e .transcript) value
-act e peer (verify type value) = writingVerify (e .record-of) (e .transcript) type value
-act e peer (alert code) = writingAlert (e .record-of) (e .transcript) code
+act e peer (speak s) = speaking (e .record-of) (e .transcript) s
 act e peer read = readingToken (e .record-of) (e .transcript) peer
 act e peer (choose m) = choosing (e .record-of) (e .transcript) m
 
@@ -69,9 +64,7 @@ abbrev pub turnAfter : End → Call → List ℕ
 turnAfter e (offer random) = e .turn ++ offered (e .record-of) (random .0)
 turnAfter e (reply m random) = e .turn ++ replyMessage (e .record-of) m (random .0)
 turnAfter e (metadata id value) = e .turn ++ metadataMessage (e .record-of) (id .0) value
-turnAfter e (exchange value) = e .turn ++ exchangeMessage (e .record-of) value
-turnAfter e (verify type value) = e .turn ++ verifyMessage (e .record-of) type value
-turnAfter e (alert code) = e .turn ++ alertMessage (e .record-of) code
+turnAfter e (speak s) = e .turn ++ spoken (e .record-of) s
 turnAfter e read = []
 turnAfter e (choose m) = e .turn
 

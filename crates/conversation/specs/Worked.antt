@@ -29,7 +29,8 @@ use Rattle.put.specs.Put.{octetsOf, joined}
 use Rattle.token.specs.Token.{Reading, Accepted, Refused, tokenOf}
 use Rattle.schemes.specs.Lists.{Id, mem, distinct}
 use Rattle.conversation.specs.Outcomes.{zeroId}
-use Rattle.conversation.specs.Runs.{Sized, Call, offer, reply, metadata, exchange, verify, alert, read, choose, Opening, world, Entry, run, isAccepted, NotLost}
+use Rattle.conversation.specs.Writing.{request, checksum, alarm}
+use Rattle.conversation.specs.Runs.{Sized, Call, offer, reply, metadata, speak, read, choose, Opening, world, Entry, run, isAccepted, NotLost}
 use Rattle.conversation.specs.Logs.{logsOf}
 
 abbrev pub negoToken : ℕ → ℕ → ℕ → ℕ → ℕ → List ℕ → List ℕ
@@ -193,22 +194,22 @@ conversation =
     (false, offer random)
     ∷ (false, metadata (scheme 3, refl) (1 ∷ 2 ∷ []))
     ∷ (false, metadata (scheme 2, refl) (3 ∷ []))
-    ∷ (false, exchange (4 ∷ []))
+    ∷ (false, speak (request (4 ∷ [])))
     ∷ (true, read)
     ∷ (true, reply 2 random)
     ∷ (true, metadata (scheme 3, refl) (5 ∷ []))
-    ∷ (true, exchange (6 ∷ 7 ∷ []))
+    ∷ (true, speak (request (6 ∷ 7 ∷ [])))
     ∷ (false, read)
     ∷ (false, choose 0)
-    ∷ (false, exchange [])
+    ∷ (false, speak (request []))
     ∷ (true, read)
-    ∷ (true, exchange (8 ∷ []))
-    ∷ (true, verify (negsuc 137) (9 ∷ []))
+    ∷ (true, speak (request (8 ∷ [])))
+    ∷ (true, speak (checksum (negsuc 137) (9 ∷ [])))
     ∷ (false, read)
-    ∷ (false, verify (pos 16) [])
-    ∷ (false, alert (negsuc 0))
+    ∷ (false, speak (checksum (pos 16) []))
+    ∷ (false, speak (alarm (negsuc 0)))
     ∷ (true, read)
-    ∷ (true, alert (pos 1))
+    ∷ (true, speak (alarm (pos 1)))
     ∷ (false, read)
     ∷ []
 

@@ -3,7 +3,7 @@ ghost use mathlib.Core.Path.{_≡_};
 ghost use Rattle.encode.specs.Encode.{ofAlert};
 ghost use Rattle.conversation.specs.Turns.{ALERT};
 ghost use Rattle.conversation.specs.Outcomes.{Outcome};
-ghost use Rattle.conversation.specs.Writing.{writingAlert};
+ghost use Rattle.conversation.specs.Writing.{alarm, speaking};
 ghost use Rattle.calls.specs.Calls.{Ready, Appended};
 use calls::ALERT;
 use calls::answer;
@@ -38,7 +38,7 @@ fn append_alert(r: Record, transcript: &mut [u8], id: [u8; 16], code: i32) -> Re
 
 // Writes an ALERT of the chosen scheme: an error code, with a pulse.
 pub fn write_alert(r: Record, transcript: &mut [u8], code: i32) -> Answer
-    ensures { λ a. ⌜ _≡_ {A = Outcome} (record { answer = a; transcript = now (transcript .exit) }) (writingAlert r (now (transcript .entry)) code) ⌝ }
+    ensures { λ a. ⌜ _≡_ {A = Outcome} (record { answer = a; transcript = now (transcript .exit) }) (speaking r (now (transcript .entry)) (alarm code)) ⌝ }
 {
     let n = named_refusal(r, ALERT, LENGTH, 0, transcript.len());
     if n != 0 {

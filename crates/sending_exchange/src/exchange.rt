@@ -2,7 +2,7 @@
 ghost use mathlib.Core.Path.{_≡_};
 ghost use Rattle.encode.specs.Encode.{ofExchange};
 ghost use Rattle.conversation.specs.Outcomes.{Outcome};
-ghost use Rattle.conversation.specs.Writing.{askedBy, writingExchange};
+ghost use Rattle.conversation.specs.Writing.{request, askedBy, speaking};
 ghost use Rattle.calls.specs.Calls.{Ready, Appended};
 use calls::EXCHANGE;
 use calls::answer;
@@ -49,7 +49,7 @@ fn asked_by(r: Record) -> usize
 
 // Writes an exchange of the rule's scheme.
 pub fn write_exchange(r: Record, transcript: &mut [u8], value: &[u8]) -> Answer
-    ensures { λ a. ⌜ _≡_ {A = Outcome} (record { answer = a; transcript = now (transcript .exit) }) (writingExchange r (now (transcript .entry)) (now (value .entry))) ⌝ }
+    ensures { λ a. ⌜ _≡_ {A = Outcome} (record { answer = a; transcript = now (transcript .exit) }) (speaking r (now (transcript .entry)) (request (now (value .entry)))) ⌝ }
 {
     let n = named_refusal(r, EXCHANGE, HEADER, value.len(), transcript.len());
     if n != 0 {

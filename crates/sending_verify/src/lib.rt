@@ -3,7 +3,7 @@ ghost use mathlib.Core.Path.{_≡_};
 ghost use Rattle.encode.specs.Encode.{ofVerify};
 ghost use Rattle.conversation.specs.Turns.{VERIFY};
 ghost use Rattle.conversation.specs.Outcomes.{Outcome};
-ghost use Rattle.conversation.specs.Writing.{writingVerify};
+ghost use Rattle.conversation.specs.Writing.{checksum as Speech·checksum, speaking};
 ghost use Rattle.calls.specs.Calls.{Ready, Appended};
 use calls::VERIFY;
 use calls::answer;
@@ -39,7 +39,7 @@ fn append_verify(
 
 // Writes a VERIFY of the chosen scheme: the checksum's type and its value.
 pub fn write_verify(r: Record, transcript: &mut [u8], checksum: i32, value: &[u8]) -> Answer
-    ensures { λ a. ⌜ _≡_ {A = Outcome} (record { answer = a; transcript = now (transcript .exit) }) (writingVerify r (now (transcript .entry)) checksum (now (value .entry))) ⌝ }
+    ensures { λ a. ⌜ _≡_ {A = Outcome} (record { answer = a; transcript = now (transcript .exit) }) (speaking r (now (transcript .entry)) (Speech·checksum checksum (now (value .entry)))) ⌝ }
 {
     let n = named_refusal(r, VERIFY, HEADER, value.len(), transcript.len());
     if n != 0 {
