@@ -208,7 +208,7 @@ module _ (o : Opening) (cs : List (Bool × Call)) (o′ : Opening) (cs′ : List
       accepted = e;
       ma = g .0;
       replied = g .1 .0;
-      by-rule2 = g .1 .1 .0;
+      chosen = g .1 .1 .0;
       no-later = longer (o .acceptor) (o .initiator) (o′ .acceptor) (o′ .initiator) up dist ma m (a .choice) before (g .0) m′ (rep-marks (g .0) (g .1 .0)) (ini-marks m′ h) (b .choice) (g .1 .1 .0);
     }
   ]

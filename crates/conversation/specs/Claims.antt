@@ -7,6 +7,7 @@
 --   acceptedOf         the calls of a list that are accepted, in order
 --   AcceptedEnds       the two ends behind a list of calls are those of its accepted calls alone
 --   OpeningFresh       the records that a run starts with are those that opening answers
+--   leftWith o ma mi   what rule 2 leaves of the lists of an opening, with the marks of either end; replyWith o m: the reply's list with the acceptor's
 --   RuleTwoAnswer      what a choosing call of a run answers, by rule 2
 --   ByRule2            every choosing call of every run does
 --   NoneRefused        and it is refused with 17 wherever rule 2 leaves nothing
@@ -17,7 +18,7 @@
 --   MarksOnce          in a run an end has at most one accepted call with marks
 --   VerifyOnce         in a run an end writes at most one VERIFY
 --   Arrays r           the lengths of a record's arrays, as the struct gives them
---   sentBy r k         the message that a writing call sends: the record's number and conversation, and the call's arguments
+--   sentBy r k         the message that a writing call sends: the record's number and conversation, and the call's arguments; sent: one of a kind
 --   ReadsAsSent        a message stands at the transcript's end and reads as it was sent, whatever follows
 --   WrittenReads       demand 2's round trip: what an accepted writing call appended does, on every record
 use Prim.Native.Nat.{ℕ, _*_, _≤_}
@@ -28,7 +29,7 @@ use mathlib.Core.List.{List, [], _∷_, List·Memᴰ}
 use mathlib.Core.Option.{Option, none, some}
 use lib.ListN.{length, take}
 use lib.Dec.{eqb}
-use Rattle.encode.specs.Encode.{ofNego, ofExchange}
+use Rattle.encode.specs.Encode.{Contents, ofNego, ofExchange}
 use Rattle.roundtrip.specs.ReadBack.{InRange, ReadsBack, Stands, Outgoing}
 use Rattle.schemes.specs.Lists.{Id, keep, first, leftOver, rule2, replyOf, oneTo16, wholeIds, joinIds}
 use Rattle.schemes.specs.Sets.{left}
@@ -65,11 +66,18 @@ OpeningFresh =
     (acceptor : Bool) (l : List Id) (conversation : List ℕ) → wholeIds l ≡ true → oneTo16 l ≡ true
     → opening acceptor (joinIds l) conversation ≡ answered 0 0 (fresh acceptor (joinIds l) (cond acceptor zeroId conversation))
 
+abbrev pub leftWith : Opening → ℕ → ℕ → List Id
+leftWith o ma mi = leftOver (o .acceptor) (o .initiator) ma mi
+
+abbrev pub replyWith : Opening → ℕ → List Id
+replyWith o m = replyOf (o .acceptor) (o .initiator) m
+
 -- demand 2: "the first scheme in the acceptor's order that both ends list and neither has marked failed"; the number left is exact; 17 is given only
 -- where there is none; and a lawful call is answered in one of these two ways
 pub record RuleTwoAnswer (o : Opening) (cs : List (Bool × Call)) (m : ℕ) (a : Answer) : Type 0 where
-  pub refuses : a .refusal ≡ 17 → (ma : ℕ) × (Replied o cs ma × (leftOver (o .acceptor) (o .initiator) ma m ≡ []))
-  pub answers : isAccepted a ≡ true → (ma : ℕ) × (Replied o cs ma × ((rule2 (o .acceptor) (o .initiator) ma m ≡ some (a .choice)) × (a .left ≡ length (leftOver (o .acceptor) (o .initiator) ma m))))
+  pub refuses : a .refusal ≡ 17 → (ma : ℕ) × (Replied o cs ma × (leftWith o ma m ≡ []))
+  pub answers : isAccepted a ≡ true
+      → (ma : ℕ) × (Replied o cs ma × ((rule2 (o .acceptor) (o .initiator) ma m ≡ some (a .choice)) × (a .left ≡ length (leftWith o ma m))))
   pub lawful : isLawful a ≡ true → (a .refusal ≡ 17) ⊎ (isAccepted a ≡ true)
 
 abbrev pub ByRule2 : Type 0
@@ -81,14 +89,14 @@ ByRule2 =
 abbrev pub NoneRefused : Type 0
 NoneRefused =
     (o : Opening) (cs : List (Bool × Call)) (x : Entry) (m ma : ℕ) → List·Memᴰ x (run (world o) cs) → x .call ≡ choose m
-    → isLawful (x .said) ≡ true → Replied o cs ma → leftOver (o .acceptor) (o .initiator) ma m ≡ [] → x .said .refusal ≡ 17
+    → isLawful (x .said) ≡ true → Replied o cs ma → leftWith o ma m ≡ [] → x .said .refusal ≡ 17
 
 -- "the acceptor's, by its own marks alone, is answered when its NEGO is written": the first and the number of the common schemes less its marks; 17 is
 -- given only where there is none, and wherever there is none and neither 18 nor 19 goes before (15 is not asked of this call, and 16 comes behind 17)
 pub record ReplyAnswer (o : Opening) (m : ℕ) (a : Answer) : Type 0 where
-  pub refuses : a .refusal ≡ 17 → replyOf (o .acceptor) (o .initiator) m ≡ []
-  pub answers : isAccepted a ≡ true → (first (replyOf (o .acceptor) (o .initiator) m) ≡ some (a .choice)) × (a .left ≡ length (replyOf (o .acceptor) (o .initiator) m))
-  pub none-left : replyOf (o .acceptor) (o .initiator) m ≡ [] → (a .refusal ≡ 18 → ⊥) → (a .refusal ≡ 19 → ⊥) → a .refusal ≡ 17
+  pub refuses : a .refusal ≡ 17 → replyWith o m ≡ []
+  pub answers : isAccepted a ≡ true → (first (replyWith o m) ≡ some (a .choice)) × (a .left ≡ length (replyWith o m))
+  pub none-left : replyWith o m ≡ [] → (a .refusal ≡ 18 → ⊥) → (a .refusal ≡ 19 → ⊥) → a .refusal ≡ 17
 
 abbrev pub ReplyByMarks : Type 0
 ReplyByMarks =
@@ -130,11 +138,14 @@ pub record Arrays (r : Record) : Type 0 where
   pub list : length (r .list) ≡ 256
   pub conversation : length (r .conversation) ≡ 16
 
+abbrev pub sent : Record → ℕ → Contents → Option Outgoing
+sent r kind c = some (record { heading = heading r kind; contents = c })
+
 abbrev pub sentBy : Record → Call → Option Outgoing
-sentBy r (offer random) = some (record { heading = heading r NEGO; contents = ofNego (record { random = random .0; schemes = take (16 * r .count) (r .list) }) })
-sentBy r (reply m random) = some (record { heading = heading r NEGO; contents = ofNego (record { random = random .0; schemes = joinIds (left (ownOf r) (r .common) m) }) })
-sentBy r (metadata id value) = some (record { heading = heading r METADATA; contents = ofExchange (record { scheme = id .0; value = value }) })
-sentBy r (speak s) = some (record { heading = heading r (kindIn s); contents = contentsIn (schemeAt r (schemeNow r)) s })
+sentBy r (offer random) = sent r NEGO (ofNego (record { random = random .0; schemes = take (16 * r .count) (r .list) }))
+sentBy r (reply m random) = sent r NEGO (ofNego (record { random = random .0; schemes = joinIds (left (ownOf r) (r .common) m) }))
+sentBy r (metadata id value) = sent r METADATA (ofExchange (record { scheme = id .0; value = value }))
+sentBy r (speak s) = sent r (kindIn s) (contentsIn (schemeAt r (schemeNow r)) s)
 sentBy r read = none
 sentBy r (choose m) = none
 

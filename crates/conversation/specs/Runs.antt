@@ -140,14 +140,16 @@ pub record ChoseWith (o : Opening) (cs : List (Bool × Call)) (m : ℕ) : Type 0
 -- "In demand 3's second run a call with marks has, for the schemes that both ends listed in the first, exactly the marks that its end's accepted call
 -- had there": refused calls too. Asked of the acceptor's NEGO and of the initiator's choice; at the other end either call is 18, whatever its marks.
 pub record MarksKept (o : Opening) (cs : List (Bool × Call)) (o′ : Opening) (cs′ : List (Bool × Call)) : Type 0 where
-  pub acceptor-marks : (m m′ : ℕ) (random : Sized 32) → Replied o cs m → List·Memᴰ (true, reply m′ random) cs′ → SameMarks (o .acceptor) (o .initiator) (o .acceptor) m (o′ .acceptor) m′
-  pub initiator-marks : (m m′ : ℕ) → ChoseWith o cs m → List·Memᴰ (false, choose m′) cs′ → SameMarks (o .acceptor) (o .initiator) (o .initiator) m (o′ .initiator) m′
+  pub acceptor-marks : (m m′ : ℕ) (random : Sized 32) → Replied o cs m → List·Memᴰ (true, reply m′ random) cs′
+      → SameMarks (o .acceptor) (o .initiator) (o .acceptor) m (o′ .acceptor) m′
+  pub initiator-marks : (m m′ : ℕ) → ChoseWith o cs m → List·Memᴰ (false, choose m′) cs′
+      → SameMarks (o .acceptor) (o .initiator) (o .initiator) m (o′ .initiator) m′
 
 pub record Choice (o o′ : Opening) (cs′ : List (Bool × Call)) (m′ : ℕ) (c : Id) (a : Answer) : Type 0 where
   pub accepted : isAccepted a ≡ true
   pub ma : ℕ
   pub replied : Replied o′ cs′ ma
-  pub by-rule2 : rule2 (o′ .acceptor) (o′ .initiator) ma m′ ≡ some (a .choice)
+  pub chosen : rule2 (o′ .acceptor) (o′ .initiator) ma m′ ≡ some (a .choice)
   pub no-later : NoLater (o .acceptor) (o .initiator) (o′ .acceptor) c (a .choice)
 
 -- no call is refused with 17, and every lawful choosing call answers a choice by rule 2 that stands no later in the second acceptor's list; if it is

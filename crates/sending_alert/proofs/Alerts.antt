@@ -13,11 +13,11 @@ use Rattle.conversation.specs.Turns.{typeOf}
 use Rattle.conversation.specs.Outcomes.{Outcome, answered, unchanged}
 use Rattle.conversation.specs.Writing.{schemeNow, namedRows, alarm, speaking}
 use Rattle.calls.specs.Calls.{writeRefusal, Ready, Appended}
-use Rattle.calls.proofs.Sizes.{Sized}
+use Rattle.conversation.specs.Claims.{Arrays}
 use Rattle.calls.proofs.Writes.{write-ready}
 use Rattle.sending.proofs.Named.{named-refused, named-written}
 
-module _ (r : Record) (arrays : Sized r) (d : List ℕ) (code : ℤ) (n : ℕ) (n-is : n ≡ writeRefusal r 5 (namedRows r) 92 (length d)) where
+module _ (r : Record) (arrays : Arrays r) (d : List ℕ) (code : ℤ) (n : ℕ) (n-is : n ≡ writeRefusal r 5 (namedRows r) 92 (length d)) where
   abbrev pulse : List ℕ → Contents
   pulse s = ofAlert (record { scheme = s; code = code })
 

@@ -13,7 +13,7 @@ use Rattle.conversation.specs.Turns.{typeOf, writing}
 use Rattle.conversation.specs.Outcomes.{Outcome, answered}
 use Rattle.conversation.specs.Writing.{schemeNow, namedRows, request, askedBy, speaking}
 use Rattle.calls.specs.Calls.{writeRefusal, Ready, Appended}
-use Rattle.calls.proofs.Sizes.{Sized}
+use Rattle.conversation.specs.Claims.{Arrays}
 use Rattle.calls.proofs.Writes.{changed, write-ready}
 use Rattle.sending.proofs.Named.{named-refused, named-written}
 
@@ -27,7 +27,7 @@ module _ (r : Record) (t : ℕ) (t-is : t ≡ writing (r .acceptor) (r .stage)) 
 pub ruleset askeds = (asked-first, asked-later)
 
 -- ---- the call, by its refusal
-module _ (r : Record) (arrays : Sized r) (d value : List ℕ) (n : ℕ) (n-is : n ≡ writeRefusal r 3 (namedRows r) (64 + length value) (length d)) where
+module _ (r : Record) (arrays : Arrays r) (d value : List ℕ) (n : ℕ) (n-is : n ≡ writeRefusal r 3 (namedRows r) (64 + length value) (length d)) where
   abbrev exchange : List ℕ → Contents
   exchange s = ofExchange (record { scheme = s; value = value })
 

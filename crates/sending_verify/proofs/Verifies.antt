@@ -14,11 +14,11 @@ use Rattle.conversation.specs.Turns.{typeOf}
 use Rattle.conversation.specs.Outcomes.{Outcome, answered}
 use Rattle.conversation.specs.Writing.{schemeNow, namedRows, checksum, speaking}
 use Rattle.calls.specs.Calls.{writeRefusal, Ready, Appended}
-use Rattle.calls.proofs.Sizes.{Sized}
+use Rattle.conversation.specs.Claims.{Arrays}
 use Rattle.calls.proofs.Writes.{changed, write-ready}
 use Rattle.sending.proofs.Named.{named-refused, named-written}
 
-module _ (r : Record) (arrays : Sized r) (d : List ℕ) (type : ℤ) (value : List ℕ) (n : ℕ) (n-is : n ≡ writeRefusal r 4 (namedRows r) (80 + length value) (length d)) where
+module _ (r : Record) (arrays : Arrays r) (d : List ℕ) (type : ℤ) (value : List ℕ) (n : ℕ) (n-is : n ≡ writeRefusal r 4 (namedRows r) (80 + length value) (length d)) where
   abbrev verify : List ℕ → Contents
   verify s = ofVerify (record { scheme = s; type = type; value = value })
 
