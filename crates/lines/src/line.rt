@@ -8,7 +8,10 @@ ghost use Rattle.text.specs.Text.{text, written};
 ghost use Rattle.lines.specs.Lines.{lengths as Lines·lengths, messageLine, schemeLine, span as Lines·span, extensionLine, exchangeLine, checksumLine, errorLine, alertLine};
 ghost use Rattle.lines.specs.Lines.{endLine, refusedLine};
 use message::field::octet_vector;
+use octets::le_i32;
 use octets::le_u32;
+use parts::checksum_type;
+use parts::error_code;
 use text::append;
 use text::field;
 use text::id;
@@ -62,7 +65,7 @@ pub(crate) fn extension(d: &mut [u8], k: usize, array: &[u8], at: usize) -> usiz
 {
     let a = wide_field(d, 0, b"extension ", k);
     let b = append(d, a, b" type=");
-    let e = signed(d, b, le_u32(array, at));
+    let e = signed(d, b, le_i32(array, at));
     span(d, e, octet_vector(array, at + 4))
 }
 
@@ -79,7 +82,7 @@ pub(crate) fn checksum(d: &mut [u8], m: &[u8]) -> usize
     ensures { λ r. ⌜ text (now (d .exit)) r ≡ written (checksumLine (le 4 (now (m .entry)) 64) (checksumVector (now (m .entry)))) (text (now (d .entry)) 0) ⌝ }
 {
     let a = append(d, 0, b"checksum type=");
-    let b = signed(d, a, le_u32(m, 64));
+    let b = signed(d, a, checksum_type(m));
     span(d, b, octet_vector(m, 68))
 }
 
@@ -88,7 +91,7 @@ pub(crate) fn error(d: &mut [u8], m: &[u8]) -> usize
     ensures { λ r. ⌜ text (now (d .exit)) r ≡ written (errorLine (le 4 (now (m .entry)) 56)) (text (now (d .entry)) 0) ⌝ }
 {
     let a = append(d, 0, b"error code=");
-    let b = signed(d, a, le_u32(m, 56));
+    let b = signed(d, a, error_code(m));
     append(d, b, b"\n")
 }
 

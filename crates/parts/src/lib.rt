@@ -1,12 +1,14 @@
-// The vector readers: what a message shows, as parts of the octets that the caller lends. Each takes any slice; where it has no room for the header, or the
-// vector breaks its rule, there is nothing to show.
+// The readers of a message's contents: vectors, as parts of the octets that the caller lends, and signed numbers. Each takes any slice; where it has no room
+// for the header, or the vector breaks its rule, there is nothing to show, and a number is 0.
 ghost use mathlib.Core.Path.{_≡_};
+ghost use Prim.Native.Nat.{_+_, _≤_};
 ghost use Rattle.vector.specs.Vector.{shown};
 ghost use Rattle.message.specs.Layout.{schemeVector, extensionVector, exchangeVector, checksumVector, alertVector};
-ghost use Rattle.message.specs.Show.{idAt, nestedOf};
+ghost use Rattle.message.specs.Show.{idAt, nestedOf, signedIn, extensionType, checksumType, errorCode};
 use message::Kind;
 use message::field::octet_vector;
 use message::field::vector_at;
+use octets::le_i32;
 use vector::Vector;
 use vector::vector_octets;
 
@@ -100,4 +102,38 @@ pub fn alert_value(m: &[u8], k: u32) -> &[u8]
         return &m[..0];
     }
     value(Kind::ALERT_HEADER, m, vector_at(12, m, 60), k)
+}
+
+// The signed number at an offset of m; 0 where m has fewer than `least` octets.
+fn signed_in(least: usize, m: &[u8], at: usize) -> i32
+    requires { ⌜ at + 4 ≤ least ⌝ }
+    ensures { λ r. ⌜ r ≡ signedIn least (now (m .entry)) at ⌝ }
+{
+    if m.len() < least {
+        return 0;
+    }
+    le_i32(m, at)
+}
+
+// The type of extension k; 0 beyond the array.
+pub fn extension_type(m: &[u8], k: u32) -> i32
+    ensures { λ r. ⌜ r ≡ extensionType (now (m .entry)) k ⌝ }
+{
+    let elements = extensions(m);
+    let at = 12 * k as usize;
+    signed_in(at + 12, elements, at)
+}
+
+// The type of a VERIFY's checksum.
+pub fn checksum_type(m: &[u8]) -> i32
+    ensures { λ r. ⌜ r ≡ checksumType (now (m .entry)) ⌝ }
+{
+    signed_in(80, m, 64)
+}
+
+// An ALERT's error code.
+pub fn error_code(m: &[u8]) -> i32
+    ensures { λ r. ⌜ r ≡ errorCode (now (m .entry)) ⌝ }
+{
+    signed_in(72, m, 56)
 }
