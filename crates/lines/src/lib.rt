@@ -36,21 +36,21 @@ pub fn count(m: &[u8]) -> usize
 // The line of the message m with an index; nothing where it has none with that index.
 pub fn message_text(out: &mut [u8; 128], place: TokenPlace, m: &[u8], index: usize) -> usize
     requires { ⌜ Fit (shapeIn (now m)) (now m) ⌝ }
-    ensures { λ r. ⌜ LineIs r (now (out .exit)) (getD (messageLines (place .0) (now (m .entry))) index []) ⌝ }
+    ensures { λ r. ⌜ LineIs r (now (out .entry)) (now (out .exit)) (getD (messageLines (place .0) (now (m .entry))) index []) ⌝ }
 {
     content::line_at(out, place, m, index)
 }
 
 // The last line of an accepted token.
 pub fn end_text(out: &mut [u8; 128], n: u32, octets: usize) -> usize
-    ensures { λ r. ⌜ LineIs r (now (out .exit)) (endLine n octets) ⌝ }
+    ensures { λ r. ⌜ LineIs r (now (out .entry)) (now (out .exit)) (endLine n octets) ⌝ }
 {
     line::end(out, n, octets)
 }
 
 // The only line of a refused token.
 pub fn refused_text(out: &mut [u8; 128], n: u32, place: TokenPlace) -> usize
-    ensures { λ r. ⌜ LineIs r (now (out .exit)) (refusedLine n (place .0)) ⌝ }
+    ensures { λ r. ⌜ LineIs r (now (out .entry)) (now (out .exit)) (refusedLine n (place .0)) ⌝ }
 {
     line::refused(out, n, place)
 }

@@ -50,8 +50,8 @@ module _ (p : Progress) (d l : List ℕ) where
 pub ruleset puts = (put-done, put-skip, put-full, put-fits)
 
 -- a line that stands in an array
-pub line-put : (x : State) (t : State) (k : ℕ) (out : List ℕ) (l : List (List ℕ)) → LineIs k out l → x ≡ step t (take k out) → x ≡ step t (joined l)
-line-put x t k out l i e = e ∙ ap (step t) (i .is)
+pub line-put : (x : State) (t : State) (k : ℕ) (lent out : List ℕ) (l : List (List ℕ)) → LineIs k lent out l → x ≡ step t (take k out) → x ≡ step t (joined l)
+line-put x t k lent out l i e = e ∙ ap (step t) (i .is)
 
 -- a window stays inside its buffer, whose length stays
 step-length : (t : State) (l : List ℕ) → length (step t l .buffer) ≡ length (t .buffer)
