@@ -6,6 +6,7 @@ ghost use lib.ListN.{length, getD};
 ghost use Rattle.lines.specs.Lines.{messageLines, endLine, refusedLine};
 ghost use Rattle.lines.specs.Fit.{Fit, shapeIn, linesIn, LineIs};
 use message::Kind;
+use message::field;
 use octets::le_u32;
 use parts::alerts;
 use parts::extensions;
@@ -20,17 +21,17 @@ pub fn count(m: &[u8]) -> usize
     requires { ⌜ Fit (shapeIn (now m)) (now m) ⌝ }
     ensures { λ r. ⌜ r ≡ 1 + length (linesIn (shapeIn (now (m .entry))) (now (m .entry))) ⌝ }
 {
-    let kind = le_u32(m, 8);
+    let kind = le_u32(m, field::TYPE);
     if kind <= Kind::ACCEPTOR_NEGO {
         let ids = schemes(m);
         let array = extensions(m);
-        return 1 + (ids.len() / 16 + array.len() / 12);
+        return 1 + (ids.len() / field::ID + array.len() / field::ELEMENT);
     }
     if kind <= Kind::VERIFY {
         return 3;
     }
     let array = alerts(m);
-    3 + array.len() / 12
+    3 + array.len() / field::ELEMENT
 }
 
 // The line of the message m with an index; nothing where it has none with that index.

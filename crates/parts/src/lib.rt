@@ -6,70 +6,78 @@ ghost use Rattle.vector.specs.Vector.{shown};
 ghost use Rattle.message.specs.Layout.{schemeVector, extensionVector, exchangeVector, checksumVector, alertVector};
 ghost use Rattle.message.specs.Show.{idAt, nestedOf, signedIn, extensionType, checksumType, errorCode};
 use message::Kind;
+use message::field;
+use message::field::alert_vector;
+use message::field::checksum_vector;
+use message::field::exchange_vector;
+use message::field::extension_vector;
 use message::field::octet_vector;
-use message::field::vector_at;
+use message::field::scheme_vector;
 use octets::le_i32;
 use vector::Vector;
 use vector::vector_octets;
+
+// Where the scheme of a message that is no NEGO ends.
+const SCHEME_END: usize = field::SCHEME + field::ID;
 
 // The scheme of a message that is no NEGO, as a part of the message.
 pub fn scheme(m: &[u8]) -> &[u8]
     ensures { λ r. ⌜ now r ≡ idAt (now (m .entry)) 40 ⌝ }
 {
-    if m.len() < 56 {
+    if m.len() < SCHEME_END {
         return &m[..0];
     }
-    &m[40..56]
+    &m[field::SCHEME..SCHEME_END]
 }
 
 // The scheme vector's octets, 16 a scheme.
 pub fn schemes(m: &[u8]) -> &[u8]
     ensures { λ r. ⌜ now r ≡ shown 96 (now (m .entry)) (schemeVector (now (m .entry))) ⌝ }
 {
-    if m.len() < 96 {
+    if m.len() < Kind::NEGO_HEADER_LEN {
         return &m[..0];
     }
-    vector_octets(Kind::NEGO_HEADER, m, vector_at(16, m, 80))
+    vector_octets(Kind::NEGO_HEADER, m, scheme_vector(m))
 }
 
 // The extension vector's octets, 12 an extension.
 pub fn extensions(m: &[u8]) -> &[u8]
     ensures { λ r. ⌜ now r ≡ shown 96 (now (m .entry)) (extensionVector (now (m .entry))) ⌝ }
 {
-    if m.len() < 96 {
+    if m.len() < Kind::NEGO_HEADER_LEN {
         return &m[..0];
     }
-    vector_octets(Kind::NEGO_HEADER, m, vector_at(12, m, 88))
+    vector_octets(Kind::NEGO_HEADER, m, extension_vector(m))
 }
 
 // The exchange's octets.
 pub fn exchange(m: &[u8]) -> &[u8]
     ensures { λ r. ⌜ now r ≡ shown 64 (now (m .entry)) (exchangeVector (now (m .entry))) ⌝ }
 {
-    if m.len() < 64 {
+    if m.len() < Kind::EXCHANGE_HEADER_LEN {
         return &m[..0];
     }
-    vector_octets(Kind::EXCHANGE_HEADER, m, octet_vector(m, 56))
+    vector_octets(Kind::EXCHANGE_HEADER, m, exchange_vector(m))
 }
 
 // The checksum value's octets.
 pub fn checksum(m: &[u8]) -> &[u8]
     ensures { λ r. ⌜ now r ≡ shown 80 (now (m .entry)) (checksumVector (now (m .entry))) ⌝ }
 {
-    if m.len() < 80 {
+    if m.len() < Kind::VERIFY_HEADER_LEN {
         return &m[..0];
     }
-    vector_octets(Kind::VERIFY_HEADER, m, octet_vector(m, 68))
+    vector_octets(Kind::VERIFY_HEADER, m, checksum_vector(m))
 }
 
 // The alert vector's octets, 12 an alert.
 pub fn alerts(m: &[u8]) -> &[u8]
     ensures { λ r. ⌜ now r ≡ shown 72 (now (m .entry)) (alertVector (now (m .entry))) ⌝ }
 {
-    if m.len() < 72 {
+    if m.len() < Kind::ALERT_HEADER_LEN {
         return &m[..0];
     }
-    vector_octets(Kind::ALERT_HEADER, m, vector_at(12, m, 60))
+    vector_octets(Kind::ALERT_HEADER, m, alert_vector(m))
 }
 
 // The value of element k of an array of m, as a part of m; nothing beyond the array.
@@ -77,31 +85,31 @@ fn value(header: u32, m: &[u8], array: Vector, k: u32) -> &[u8]
     ensures { λ r. ⌜ now r ≡ nestedOf header (now (m .entry)) array k ⌝ }
 {
     let elements = vector_octets(header, m, array);
-    let at = 12 * k as usize;
-    if elements.len() < at + 12 {
+    let at = field::ELEMENT * k as usize;
+    if elements.len() < at + field::ELEMENT {
         return &m[..0];
     }
-    vector_octets(header, m, octet_vector(elements, at + 4))
+    vector_octets(header, m, octet_vector(elements, at + field::ELEMENT_VALUE))
 }
 
 // The value of extension k.
 pub fn extension_value(m: &[u8], k: u32) -> &[u8]
     ensures { λ r. ⌜ now r ≡ nestedOf 96 (now (m .entry)) (extensionVector (now (m .entry))) k ⌝ }
 {
-    if m.len() < 96 {
+    if m.len() < Kind::NEGO_HEADER_LEN {
         return &m[..0];
     }
-    value(Kind::NEGO_HEADER, m, vector_at(12, m, 88), k)
+    value(Kind::NEGO_HEADER, m, extension_vector(m), k)
 }
 
 // The value of alert k.
 pub fn alert_value(m: &[u8], k: u32) -> &[u8]
     ensures { λ r. ⌜ now r ≡ nestedOf 72 (now (m .entry)) (alertVector (now (m .entry))) k ⌝ }
 {
-    if m.len() < 72 {
+    if m.len() < Kind::ALERT_HEADER_LEN {
         return &m[..0];
     }
-    value(Kind::ALERT_HEADER, m, vector_at(12, m, 60), k)
+    value(Kind::ALERT_HEADER, m, alert_vector(m), k)
 }
 
 // The signed number at an offset of m; 0 where m has fewer than `least` octets.
@@ -120,20 +128,20 @@ pub fn extension_type(m: &[u8], k: u32) -> i32
     ensures { λ r. ⌜ r ≡ extensionType (now (m .entry)) k ⌝ }
 {
     let elements = extensions(m);
-    let at = 12 * k as usize;
-    signed_in(at + 12, elements, at)
+    let at = field::ELEMENT * k as usize;
+    signed_in(at + field::ELEMENT, elements, at)
 }
 
 // The type of a VERIFY's checksum.
 pub fn checksum_type(m: &[u8]) -> i32
     ensures { λ r. ⌜ r ≡ checksumType (now (m .entry)) ⌝ }
 {
-    signed_in(80, m, 64)
+    signed_in(Kind::VERIFY_HEADER_LEN, m, field::CHECKSUM_TYPE)
 }
 
 // An ALERT's error code.
 pub fn error_code(m: &[u8]) -> i32
     ensures { λ r. ⌜ r ≡ errorCode (now (m .entry)) ⌝ }
 {
-    signed_in(72, m, 56)
+    signed_in(Kind::ALERT_HEADER_LEN, m, field::ERROR_CODE)
 }

@@ -16,8 +16,8 @@ checksum-type-requires c κs = search needs
 signed-requires : tie.Need-signed-requires
 signed-requires c κs = search needs
 
-octet-vector-requires : tie.Need-octet-vector-requires
-octet-vector-requires c κs = search needs
+checksum-vector-requires : tie.Need-checksum-vector-requires
+checksum-vector-requires c κs = search needs
 
 span-requires : tie.Need-span-requires
 span-requires c κs = search needs
@@ -36,7 +36,7 @@ checksum-spec =
     append-requires
     checksum-type-requires
     signed-requires
-    octet-vector-requires
+    checksum-vector-requires
     span-requires
     same-length
     returns)
