@@ -20,11 +20,11 @@ fail() {
 }
 
 shown './negoex list' >"$work/listing"
-./negoex list >"$work/printed"
+./negoex list </dev/null >"$work/printed" 2>/dev/null
 cmp -s "$work/listing" "$work/printed" || fail 'the listing is another'
 
 shown './negoex converse' >"$work/answers"
-./negoex converse >"$work/printed"
+./negoex converse </dev/null >"$work/printed" 2>/dev/null
 [ -s "$work/answers" ] || fail 'no answers are shown'
 while IFS= read -r line; do
     pattern=$(printf '%s\n' "$line" | sed 's/[][*^$\\]/\\&/g; s/\.\./.*/g')
