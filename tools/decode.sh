@@ -19,7 +19,7 @@ is_text() { [ "$(tr -d '\t\r\n -~' <"$file" | sed '1s/^\xEF\xBB\xBF//' | wc -c)"
 
 # The digits, in pairs or not, with blanks, colons, commas, dashes and quotes between them, and 0x or \x before them.
 hex() {
-    text | sed 's/0[xX]//g; s/\\[xX]//g' | tr -d ' \t\n:,"-' >"$token.digits"
+    text | sed 's/0[xX]//g; s/\\[xX]//g' | tr -d ' \t\n:,"\\-' >"$token.digits"
     [ -s "$token.digits" ] && [ "$(tr -d '0-9A-Fa-f' <"$token.digits" | wc -c)" -eq 0 ] || return 1
     from_hex <"$token.digits" >"$token" || return 1
     echo "hexadecimal text: $(size "$token") octets"

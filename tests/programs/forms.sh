@@ -82,6 +82,8 @@ for words in '-tx1' '-v -tx1' '-Ax -tx1z' '-Ad -tx1' '-x' '-Ax -tx4' '-tx1 -w8';
 done
 hex "$token" | sed 's/../&-/g; s/-$//' >"$work/in"
 lists 'hexadecimal with dashes' 'hexadecimal text: 264 octets'
+hex "$token" | fold -w 32 | sed 's/../\\x&/g; s/.*/"&" \\/; $s/ .$//' >"$work/in"
+lists 'hexadecimal with \x' 'hexadecimal text: 264 octets'
 { printf '\357\273\277'; dump xxd | sed 's/$/\r/'; } >"$work/in"
 lists 'a dump with a byte order mark and carriage returns' 'hex dump: 264 octets'
 printf 'authorization: negotiate %s' "$(base64 -w 0 "$token")" >"$work/in"
@@ -162,6 +164,7 @@ cat "$token" >"$work/fifo" &
 expect 'a named pipe' "$(./negoex list "$work/fifo" 2>&1)" "$listing"
 : >"$work/in"
 expect 'an empty file on standard input' "$(./negoex list <"$work/in" 2>/dev/null)" 'refused 2 at=0'
+expect 'a device' "$(./negoex list </dev/zero 2>/dev/null)" 'refused 1 at=0'
 expect 'an empty pipe' "$(: | ./negoex list 2>/dev/null)" 'refused 2 at=0'
 example=$(cat crates/list/stdout)
 expect 'no standard input: the example' "$(./negoex list <&- 2>"$work/errors")" "$example"
