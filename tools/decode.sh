@@ -43,11 +43,13 @@ dump() {
         function upto(s, mark) { return index(s, mark) ? substr(s, 1, index(s, mark) - 1) : s }
         # how many octets line i stands for: up to the next offset; the last line has those that it shows
         function span(i, base) { return offset[i + 1] == "" ? length(data[i]) / 2 : value(offset[i + 1], base) - value(offset[i], base) }
-        # Whether the offsets agree in a base. The last word may be filled up with one octet more than there is.
-        function agrees(base,    i, have, gap) {
+        # Whether the offsets agree in a base, and are no more than twice those of the longest token. The last word may be filled up with one octet more than there is.
+        function agrees(base,    i, have, gap, all) {
             for (i = 1; i <= n; i++) {
                 have = length(data[i]) / 2
                 gap = span(i, base)
+                all += gap
+                if (all > 131072) return 0
                 if (again[i] ? gap < have || gap % have : gap != have && !(i == n && gap == have - 1)) return 0
             }
             return 1

@@ -96,7 +96,7 @@ of_token() {
         function length_before() { look(before + 20, 4, "length of the message before: " le(before + 20, 4) ", so that the next begins at " place) }
 
         END {
-            for (at = 0; at < place; at += le(at + 20, 4)) before = at
+            for (at = 0; at < place && le(at + 20, 4); at += le(at + 20, 4)) before = at
             left = size - place
             kind = le(place + 8, 4)
             header = header_of(kind)

@@ -148,6 +148,8 @@ expect 'a text' "$(./negoex list "$work/in" 2>"$work/errors")" 'refused 3 at=0'
 expect 'a text: line' "$(head -n 1 "$work/errors")" 'negoex: a text that is neither hexadecimal nor a hex dump nor base64'
 printf '00000000: 4e45 474f\n00000005: 4558 5453\n' >"$work/in"
 expect 'a dump with an offset that is wrong' "$(./negoex list --dump "$work/in" 2>/dev/null; echo $?)" 1
+printf '00000000: 4e45 474f\n*\nfffffff0: 4558 5453\n' >"$work/in"
+expect 'a dump that stands for 4 GiB' "$(./negoex list --dump "$work/in" 2>/dev/null; echo $?)" 1
 head -c 2200000 /dev/zero | tr '\0' '4' >"$work/in"
 expect 'a text of more than 2 MiB' "$(./negoex list "$work/in" 2>/dev/null)" 'refused 1 at=0'
 expect 'a text of more than 2 MiB, as hexadecimal' "$(./negoex list --hex "$work/in" 2>/dev/null; echo $?)" 1
