@@ -1,5 +1,5 @@
 #!/bin/sh
-# What docs/RULES.md says of types, header lengths and P1 to P10 is what `list` answers, and of P11 to P13 what `converse` does.
+# What docs/RULES.md says of types, header lengths, fields and P1 to P10 is what `list` answers, and of P11 to P13 what `converse` does.
 set -u
 cd "$(dirname "$0")/../.." || exit 1
 [ -x target/bin/list ] && [ -x target/bin/converse ] || { echo "tests/programs/rules.sh: target/bin/list or converse is not built" >&2; exit 1; }
@@ -25,6 +25,33 @@ expect 'types' "$(cat "$work/types")" "$(cat "$work/listed")"
 expect 'type names' "$(awk -F ' *\\| *' '$2 ~ /^[0-7]$/ && $5 ~ /^[0-9]+$/ { printf "%s ", $3 }' "$page")" \
     "$(sed -n 's/.*split("\(INITIATOR_NEGO [A-Z_ ]*\)".*/\1/p' tools/explain.sh) "
 expect 'refusal numbers' "$(awk -F ' *\\| *' '/^## /{ on = $0 == "## Refusals" } on && $2 ~ /^[0-9]+$/ { printf "%s ", $2 }' "$page")" "$(seq -s ' ' 19) "
+
+# The fields: one octet of a token with all kinds is set to 1 or 255, whatever is not there yet, and the field's own number is given, or none.
+kinds=crates/examples/data/kinds-0-to-7
+# with OCTET: what `list` answers to the token with this octet changed
+with() {
+    value=$(od -An -tu1 -j "$1" -N 1 "$kinds" | tr -d ' ')
+    case $value in 1) value='\377' ;; *) value='\001' ;; esac
+    { head -c "$1" "$kinds"; printf "$value"; tail -c "+$(($1 + 2))" "$kinds"; } >"$work/token"
+    printf '%s\n' "$work/token" | target/bin/list | sed -n '1s/^refused \([0-9]*\) .*/\1/p'
+}
+# The tables of the section, each with the place of a message that has its layout, and each row with the number that its field is for.
+awk -F ' *\\| *' '
+    /^## / { on = $0 == "## Layouts" }
+    !on { next }
+    $2 == "octets" { at = $3 == "field" ? 112 : $3 ~ /^NEGO/ ? 0 : $3 ~ /^metadata/ ? 240 : $3 ~ /^VERIFY/ ? 512 : 604; next }
+    $2 !~ /^[0-9]/ || NF != 4 { next }
+    $3 ~ /vector|value/ { next }
+    {
+        number = $3 ~ /^signature/ ? 3 : $3 == "type" ? 4 : $3 ~ /^sequence/ ? 7 : $3 ~ /^header/ ? 5 : $3 ~ /^message length/ ? 6 : $3 ~ /^conversation/ ? 8 : \
+            $3 ~ /^pad/ ? 9 : $3 ~ /^version/ ? 10 : $3 ~ /^checksum (header|scheme)/ ? 13 : ""
+        split($2, end, / to |, /)
+        # A type and a message length are wrong for sure where their third octet is not zero.
+        if (number == 4 || number == 6) end[1] = end[2] = end[1] + 2
+        for (k = end[1]; k <= end[2]; k++) print at + k, number
+    }' "$page" >"$work/fields"
+while read -r octet number; do expect "octet $octet of $kinds" "$(with "$octet")" "$number"; done <"$work/fields"
+expect 'octets of fields' "$(wc -l <"$work/fields")" "$(awk 'BEGIN { print (8 + 1 + 4 + 4 + 1 + 16) + (32 + 8 + 2 + 2) + 16 + (16 + 4 + 4 + 4 + 4) + (16 + 4 + 2 + 4) }')"
 
 # The octets of N and E: the blocks of the last section, in order.
 awk '/^## /{ on = $0 == "## P1 to P13" } on && /^    [0-9A-F][0-9A-F] / { if (!was) block++; was = 1; print block, $0; next } { was = 0 }' "$page" >"$work/blocks"
