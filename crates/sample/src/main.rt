@@ -4,14 +4,15 @@ ghost use Prim.Native.Nat.{_/_};
 ghost use lib.ListN.{length};
 ghost use Rattle.vector.specs.Vector.{shown};
 ghost use Rattle.message.specs.Layout.{schemeVector};
-use conversation::Answer;
 use libc::STDOUT_FILENO;
-use negotiating::opening::open;
-use parts::schemes;
-use receiving::read;
-use sending_nego::offer::write_offer;
-use sending_nego::reply::write_reply;
-use token::read_token;
+use negoex::Answer;
+use negoex::TokenAnswer;
+use negoex::open;
+use negoex::read;
+use negoex::read_token;
+use negoex::schemes;
+use negoex::write_offer;
+use negoex::write_reply;
 
 // A line with a number.
 fn say(what: &[u8], n: u64) {
@@ -49,11 +50,11 @@ fn listed(m: &[u8]) -> usize
 fn say_token(token: &[u8]) {
     let r = read_token(token);
     match r {
-        token::Answer::Messages(n) => {
+        TokenAnswer::Messages(n) => {
             say(b"token: messages", n as u64);
             say(b"  schemes", listed(token) as u64);
         }
-        token::Answer::Refused(n, place) => {
+        TokenAnswer::Refused(n, place) => {
             say(b"token: refused", n as u64);
             say(b"  at", place.0 as u64);
         }
