@@ -14,7 +14,6 @@ use Rattle.octets.proofs.Same.{same-sizes}
 use Rattle.vector.specs.Vector.{shown}
 use Rattle.message.specs.Layout.{size, front, schemeVector}
 use Rattle.message.specs.Show.{idsAt, idsOf, schemesIn}
-use Rattle.message.proofs.Ids.{size-is}
 use Rattle.parts.proofs.Shows.{shown-short}
 use Rattle.schemes.specs.Lists.{Id, mem}
 use Rattle.schemes.proofs.Ids.{same-as}
@@ -27,22 +26,22 @@ module _ (t : List ℕ) where
   pub listed-short : length t < 96 → [] ≡ listedIn t
   listed-short h = shown-short 96 (front t) (schemeVector (front t)) (simp length-take (omega arith))
 
-  module _ (n : ℕ) (n-is : n ≡ le 4 t 20) where
+  module _ (n : ℕ) (n-is : n ≡ size t) where
     pub listed-beyond : length t < n → (x : List ℕ) → x ≡ shown 96 t (schemeVector t) → x ≡ listedIn t
     listed-beyond h x e =
-        let w : length t ≤ size t = omega (arith, size-is t) in
+        let w : length t ≤ size t = omega (arith, n-is) in
         e ∙ ap (λ (m : List ℕ). shown 96 m (schemeVector m)) (sym (take-all (size t) t w))
 
     pub listed-front : (x : List ℕ) → x ≡ shown 96 (take n t) (schemeVector (take n t)) → x ≡ listedIn t
-    listed-front x e = e ∙ ap (λ (k : ℕ). shown 96 (take k t) (schemeVector (take k t))) (n-is ∙ size-is t)
+    listed-front x e = e ∙ ap (λ (k : ℕ). shown 96 (take k t) (schemeVector (take k t))) n-is
 
     pub behind-none : length t < n → take (length t - length t) (drop (length t) t) ≡ drop (size t) t
     behind-none h =
-        let w : length t ≤ size t = omega (arith, size-is t) in
+        let w : length t ≤ size t = omega (arith, n-is) in
         tail-all t (length t) ∙ drop-of-length-le t {i = length t} (omega arith) ∙ sym (drop-of-length-le t {i = size t} w)
 
     pub behind-some : take (length t - n) (drop n t) ≡ drop (size t) t
-    behind-some = tail-all t n ∙ ap (λ (k : ℕ). drop k t) (n-is ∙ size-is t)
+    behind-some = tail-all t n ∙ ap (λ (k : ℕ). drop k t) n-is
 
 pub listed-by : (t l : List ℕ) → l ≡ listedIn t → idsOf l ≡ listedBy t
 unfolding schemesIn
@@ -107,9 +106,9 @@ module _ (id : List ℕ) (sixteen : length id ≡ 16) (n : ℕ) (s : List ℕ) (
   pub named-short : length s < 56 → false ≡ x
   named-short h = nobody id sixteen n s h ∙ sym inv
 
-  module _ (more : 0 < n) (k : ℕ) (k-is : k ≡ le 4 s 20) (b : Bool) (b-is : b ≡ sameOctets id (schemeIn (take k s))) where
+  module _ (more : 0 < n) (k : ℕ) (k-is : k ≡ size s) (b : Bool) (b-is : b ≡ sameOctets id (schemeIn (take k s))) where
     tested : sameOctets id (schemeIn (front s)) ≡ b
-    tested = ap (λ (j : ℕ). sameOctets id (schemeIn (take j s))) (sym (k-is ∙ size-is s)) ∙ sym b-is
+    tested = ap (λ (j : ℕ). sameOctets id (schemeIn (take j s))) (sym k-is) ∙ sym b-is
 
     pub named-hit : b ≡ true → true ≡ x
     unfolding mem
@@ -120,7 +119,7 @@ module _ (id : List ℕ) (sixteen : length id ≡ 16) (n : ℕ) (s : List ℕ) (
       unfolding mem
       step =
           inv ∙ ap (mem id) (first-of n s more) ∙ simp (tested, miss)
-          (ap (λ (j : ℕ). mem id (namedIn (n - 1) (drop j s))) (sym (k-is ∙ size-is s)))
+          (ap (λ (j : ℕ). mem id (namedIn (n - 1) (drop j s))) (sym k-is))
 
       pub named-past : length s < k → false ≡ x
       named-past h = nobody id sixteen (n - 1) (drop k s) (omega (arith, length-drop k s)) ∙ sym step

@@ -19,7 +19,11 @@ use conversation::Scan;
 use conversation::turns::kind_of;
 use conversation::turns::place_behind;
 use conversation::turns::reading_token;
+use message::field;
 use octets::le_u32;
+
+// Where the scheme of a message that is no NEGO ends.
+const SCHEME_END: usize = field::SCHEME + field::ID;
 
 // How many metadata messages there are behind a message.
 fn named_behind(named: u32, kind: u8) -> u32
@@ -102,8 +106,8 @@ pub fn admit_message(r: Record, t: &[u8], c: Scan, m: &[u8]) -> Admission
     if position == 0 {
         return Admission::Stop(14);
     }
-    if scheme_fits(r, t, c, kind, &m[40..56]) {} else {
+    if scheme_fits(r, t, c, kind, &m[field::SCHEME..SCHEME_END]) {} else {
         return Admission::Stop(15);
     }
-    Admission::On(carry(r, c, kind, position, &m[40..56]))
+    Admission::On(carry(r, c, kind, position, &m[field::SCHEME..SCHEME_END]))
 }

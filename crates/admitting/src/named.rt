@@ -11,13 +11,17 @@ ghost use Rattle.conversation.specs.Writing.{startsWith};
 ghost use Rattle.conversation.specs.Admitting.{schemeIn, messagesAt, metadataFits};
 ghost use Rattle.admitting.specs.Admissions.{listedIn};
 use message::Kind;
-use octets::le_u32;
+use message::field;
+use message::walk::message_length;
 use octets::same_id;
 use parts::schemes;
 use schemes::list::has_id;
 
 // The header of a NEGO.
 const HEADER: usize = Kind::NEGO_HEADER as usize;
+
+// Where the scheme of a message that is no NEGO ends.
+const SCHEME_END: usize = field::SCHEME + field::ID;
 
 // The octets of the schemes that the NEGO at the front of a token lists, 16 a scheme.
 pub fn listed(t: &[u8]) -> &[u8]
@@ -26,7 +30,7 @@ pub fn listed(t: &[u8]) -> &[u8]
     if t.len() < HEADER {
         return &t[..0];
     }
-    let end = le_u32(t, 20) as usize;
+    let end = message_length(t);
     if t.len() < end {
         return schemes(t);
     }
@@ -37,10 +41,10 @@ pub fn listed(t: &[u8]) -> &[u8]
 pub(crate) fn starts_with(list: &[u8], id: &[u8]) -> bool
     ensures { λ r. ⌜ r ≡ startsWith (idsOf (now (list .entry))) (now (id .entry)) ⌝ }
 {
-    if list.len() < 16 {
+    if list.len() < field::ID {
         return false;
     }
-    same_id(id, &list[..16])
+    same_id(id, &list[..field::ID])
 }
 
 // What is behind the message at the front of s.
@@ -48,7 +52,7 @@ fn behind(s: &[u8]) -> &[u8]
     requires { ⌜ 24 ≤ length (now s) ⌝ }
     ensures { λ r. ⌜ now r ≡ drop (size (now (s .entry))) (now (s .entry)) ⌝ }
 {
-    let from = le_u32(s, 20) as usize;
+    let from = message_length(s);
     if s.len() < from {
         let end = s.len();
         return &s[end..];
@@ -61,13 +65,13 @@ fn names(s: &[u8], n: usize, id: &[u8]) -> bool
     requires { ⌜ length (now id) ≡ 16 ⌝ }
     ensures { λ r. ⌜ r ≡ sameOctets (now (id .entry)) (schemeIn (take n (now (s .entry)))) ⌝ }
 {
-    if s.len() < 56 {
+    if s.len() < SCHEME_END {
         return false;
     }
-    if n < 56 {
+    if n < SCHEME_END {
         return false;
     }
-    same_id(id, &s[40..56])
+    same_id(id, &s[field::SCHEME..SCHEME_END])
 }
 
 // Whether one of the `count` messages at the front of s names the scheme.
@@ -78,10 +82,10 @@ fn is_named(s: &[u8], count: u32, id: &[u8]) -> bool
     let mut rest = s;
     let mut left = count;
     while 0 < left {
-        if rest.len() < 56 {
+        if rest.len() < SCHEME_END {
             return false;
         }
-        let n = le_u32(rest, 20) as usize;
+        let n = message_length(rest);
         if names(rest, n, id) {
             return true;
         }
@@ -103,7 +107,7 @@ pub(crate) fn metadata_fits(t: &[u8], named: u32, id: &[u8]) -> bool
         return false;
     }
     let list = listed(t);
-    if has_id(list, list.len() / 16, id) {} else {
+    if has_id(list, list.len() / field::ID, id) {} else {
         return false;
     }
     if is_named(behind(t), named, id) {

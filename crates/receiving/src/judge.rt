@@ -15,6 +15,7 @@ use conversation::Record;
 use conversation::Scan;
 use conversation::turns::reading_token;
 use message::Read;
+use message::field;
 use schemes::list::id_at;
 use token::read_next;
 use vector::MessageOffset;
@@ -90,7 +91,7 @@ pub(crate) fn conversation_of(r: Record, t: &[u8]) -> [u8; 16]
 {
     let token = reading_token(r.acceptor, r.stage);
     if token == 0 {
-        return id_at(t, 24);
+        return id_at(t, field::CONVERSATION);
     }
     r.conversation
 }
@@ -100,7 +101,7 @@ pub(crate) fn judge_token(r: Record, t: &[u8]) -> Judgement
     requires { ⌜ Inside r × (length (now t) ≤ 65535) ⌝ }
     ensures { λ a. ⌜ judgedAs a ≡ judged r (now (t .entry)) ⌝ }
 {
-    if t.len() < 40 {
+    if t.len() < field::COMMON_HEADER {
         return Judgement::Halted(2, TokenPlace(0));
     }
     let conversation = conversation_of(r, t);

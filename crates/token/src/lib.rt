@@ -8,6 +8,7 @@ ghost use Rattle.token.specs.Token.{orderVerdict, nextVerdict, refusedAt
 ghost use Rattle.token.specs.Walk.{hasMessage, messageAt};
 use message::Header;
 use message::Read;
+use message::field;
 use message::read_body;
 use message::read_header;
 use message::walk::first;
@@ -31,7 +32,10 @@ fn read_ordered(rest: &[u8], sequence: u64, conversation: &[u8], h: Header) -> R
     if h.sequence as u64 != sequence {
         return Read::Refused(7);
     }
-    if same_id(&rest[24..40], conversation) {} else {
+    if same_id(
+        &rest[field::CONVERSATION..field::COMMON_HEADER],
+        conversation,
+    ) {} else {
         return Read::Refused(8);
     }
     read_body(rest, h)
@@ -88,10 +92,15 @@ pub fn read_token(token: &[u8]) -> Answer
     if 65535 < token.len() {
         return Answer::Refused(1, TokenPlace(0));
     }
-    if token.len() < 40 {
+    if token.len() < field::COMMON_HEADER {
         return Answer::Refused(2, TokenPlace(0));
     }
-    read_messages(token, le_u32(token, 12) as u64, &token[24..40])
+    let first = le_u32(token, field::SEQUENCE) as u64;
+    read_messages(
+        token,
+        first,
+        &token[field::CONVERSATION..field::COMMON_HEADER],
+    )
 }
 
 // Whether the token is accepted and has a message with the index k.

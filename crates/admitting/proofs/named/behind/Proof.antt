@@ -4,11 +4,8 @@ use borrow.Author.Needs.{needs}
 use Rattle.admitting.proofs.named.behind.Statement.{statement}
 use Rattle.admitting.proofs.named.behind.Tie as tie
 
-le-u32-requires : tie.Need-le-u32-requires
-le-u32-requires c κs = search needs
-
-cast-from : tie.Need-cast-from
-cast-from c = search needs
+message-length-requires : tie.Need-message-length-requires
+message-length-requires c κs = search needs
 
 sub-result : tie.Need-sub-result
 sub-result c = search needs
@@ -38,8 +35,7 @@ pub behind-spec : {M : Type 1} → statement M
 behind-spec =
     tie.close
     (tie.spec
-    le-u32-requires
-    cast-from
+    message-length-requires
     sub-result
     part-result-start
     part-result-end

@@ -19,11 +19,8 @@ loop-holds c = (search needs, refl)
 returns : tie.Need-returns Inv-loop μ-loop
 returns c = search namings
 
-le-u32-requires : tie.Need-le-u32-requires Inv-loop μ-loop
-le-u32-requires c κs = search needs
-
-cast-n : tie.Need-cast-n Inv-loop μ-loop
-cast-n c = search needs
+message-length-requires : tie.Need-message-length-requires Inv-loop μ-loop
+message-length-requires c κs = search needs
 
 names-requires : tie.Need-names-requires Inv-loop μ-loop
 names-requires c κs = search needs
@@ -50,7 +47,7 @@ loop-less : tie.Need-loop-less Inv-loop μ-loop
 loop-less c = search needs
 
 loop-again : tie.Need-loop-again Inv-loop μ-loop
-loop-again c = (search needs, named-on _ (c .before .before .before .before .before .before .before .before .before .before .pre) _ _ _ (c .before .before .before .before .before .before .before .loop .inv .1) (search needs) _ (c .before .before .before .before .le-u32 .ensures) _ (c .before .before .before .names .ensures) (c .before .before .if2 .left))
+loop-again c = (search needs, named-on _ (c .before .before .before .before .before .before .before .before .before .before .pre) _ _ _ (c .before .before .before .before .before .before .before .loop .inv .1) (search needs) _ (c .before .before .before .before .message-length .ensures) _ (c .before .before .before .names .ensures) (c .before .before .if2 .left))
 
 returns-4 : tie.Need-returns-4 Inv-loop μ-loop
 returns-4 c = search namings
@@ -63,8 +60,7 @@ is-named-spec =
     μ-loop
     loop-holds
     returns
-    le-u32-requires
-    cast-n
+    message-length-requires
     names-requires
     returns-2
     returns-3

@@ -12,11 +12,8 @@ slice-aggregate-result c = search needs
 returns : tie.Need-returns
 returns c = search lists
 
-le-u32-requires : tie.Need-le-u32-requires
-le-u32-requires c κs = search needs
-
-cast-end : tie.Need-cast-end
-cast-end c = search needs
+message-length-requires : tie.Need-message-length-requires
+message-length-requires c κs = search needs
 
 schemes-requires : tie.Need-schemes-requires
 schemes-requires c κs = search needs
@@ -39,8 +36,7 @@ listed-spec =
     (tie.spec
     slice-aggregate-result
     returns
-    le-u32-requires
-    cast-end
+    message-length-requires
     schemes-requires
     returns-2
     slice-aggregate-schemes

@@ -10,11 +10,8 @@ slice-aggregate-result c = search needs
 returns : tie.Need-returns
 returns c = search firsts
 
-le-u32-requires : tie.Need-le-u32-requires
-le-u32-requires c κs = search needs
-
-cast-length : tie.Need-cast-length
-cast-length c = search needs
+message-length-requires : tie.Need-message-length-requires
+message-length-requires c κs = search needs
 
 slice-aggregate-result-2 : tie.Need-slice-aggregate-result-2
 slice-aggregate-result-2 c = search needs
@@ -34,8 +31,7 @@ first-spec =
     (tie.spec
     slice-aggregate-result
     returns
-    le-u32-requires
-    cast-length
+    message-length-requires
     slice-aggregate-result-2
     returns-2
     slice-aggregate-result-3
