@@ -1,11 +1,11 @@
 -- 15: which scheme a message may name, in the words of the code.
 -- Assumes nothing.
-use Prim.Native.Nat.{ℕ, _*_, _<_, _≤_}
+use Prim.Native.Nat.{ℕ, _+_, _*_, _-_, _<_, _≤_}
 use mathlib.Core.Path.{_≡_, sym, ap, _∙_}
 use mathlib.Core.Bool.{Bool, true, false}
 use mathlib.Core.List.{List}
 use native.Mathlib.Omega.{arith}
-use lib.ListN.{length}
+use lib.ListN.{length, take, drop}
 use borrow.Author.Tests.{eq-eqb, ne-eqb, lt-ltb, le-ltb}
 use Rattle.octets.specs.Octets.{octets, sameOctets, sameId}
 use Rattle.message.specs.Show.{idsOf}
@@ -24,15 +24,22 @@ use Rattle.calls.proofs.Sizes.{own-sized}
 use Rattle.admitting.specs.Admissions.{listedIn}
 use Rattle.admitting.proofs.Lists.{listed-by}
 
+-- an id of a list, where it stands
+pub at-part : (l id : List ℕ) (k : ℕ) (b : Bool) → b ≡ sameId id (take (16 * k + 16 - 16 * k) (drop (16 * k) l)) → b ≡ sameId id (octets 16 l (16 * k))
+at-part l id k b e = let n : 16 * k + 16 - 16 * k ≡ 16 = omega arith in e ∙ ap (λ (j : ℕ). sameId id (take j (drop (16 * k) l))) n
+
 -- the own scheme at a place
 module _ (r : Record) (k : ℕ) (id : List ℕ) where
   pub at-beyond : r .count ≤ k → false ≡ isAt r k id
   at-beyond h = rw (le-ltb _ _ h)
 
-  pub at-same : Inside r → Arrays r → k < r .count → (own : List ℕ) → own ≡ octets 16 (r .list) (16 * k) → (b : Bool) → b ≡ sameId id own → b ≡ isAt r k id
-  at-same i z h own own-is b b-is =
+  pub at-same : Inside r → Arrays r → k < r .count → (b : Bool) → b ≡ sameId id (octets 16 (r .list) (16 * k)) → b ≡ isAt r k id
+  at-same i z h b b-is =
       let w : length (octets 16 (r .list) (16 * k)) ≡ 16 = own-sized r z k (omega (arith, i .few)) in
-      rw (lt-ltb _ _ h) (b-is ∙ ap (sameId id) own-is ∙ same-as id (octets 16 (r .list) (16 * k)) w ∙ ap (sameOctets id) (sym (id-at (r .count) (r .list) k h)))
+      rw (lt-ltb _ _ h) (b-is ∙ same-as id (octets 16 (r .list) (16 * k)) w ∙ ap (sameOctets id) (sym (id-at (r .count) (r .list) k h)))
+
+  pub at-room : Inside r → Arrays r → k < r .count → 16 * k + 16 ≤ length (r .list)
+  at-room i z h = omega (arith, i .few, z .list)
 
 -- an exchange of the first token or of the reply
 module _ (r : Record) (t id l : List ℕ) (l-is : l ≡ listedIn t) (a : Bool) (a-is : a ≡ startsWith (idsOf l) id) where
@@ -80,7 +87,7 @@ module _ (r : Record) (t : List ℕ) (c : Scan) (kind : ℕ) (id : List ℕ) whe
       unfolding schemeFits
       fits-exchange e b b-is = rw (ne-eqb _ _ one, ne-eqb _ _ two, ne-eqb (reads r) 2 (λ q. e (token-is ∙ q))) b-is
 
-pub ruleset places = (at-beyond, at-same)
+pub ruleset places = (at-beyond, at-same, at-room)
 
 pub ruleset exchanges = (exchange-other, exchange-first, exchange-reply, further-reply, further-unchosen, further-chosen)
 

@@ -1,6 +1,8 @@
 // 15: which scheme a message may name.
 ghost use mathlib.Core.Path.{_≡_};
+ghost use Prim.Native.Nat.{_+_, _*_, _≤_};
 ghost use lib.ListN.{length};
+ghost use Rattle.octets.specs.Octets.{octets, sameId};
 ghost use Rattle.conversation.specs.Admitting.{isAt, exchangeFits, furtherFits, schemeFits};
 ghost use Rattle.calls.specs.Calls.{Inside};
 use super::named::listed;
@@ -12,8 +14,18 @@ use calls::in_reply;
 use conversation::Record;
 use conversation::Scan;
 use conversation::turns::reading_token;
+use message::field;
 use octets::same_id;
-use schemes::list::id_of;
+
+// Whether the id at place k of a list is this one, both where they stand.
+fn same_at(list: &[u8], k: usize, id: &[u8]) -> bool
+    requires { ⌜ 16 * k + 16 ≤ length (now list) ⌝ }
+    ensures { λ a. ⌜ a ≡ sameId (now (id .entry)) (octets 16 (now (list .entry)) (16 * k)) ⌝ }
+{
+    let at = field::ID * k;
+    let end = at + field::ID;
+    same_id(id, &list[at..end])
+}
 
 // Whether the own scheme at place k is this one.
 fn is_at(r: Record, k: usize, id: &[u8]) -> bool
@@ -23,9 +35,7 @@ fn is_at(r: Record, k: usize, id: &[u8]) -> bool
     if r.count <= k {
         return false;
     }
-    let list = r.list;
-    let own = id_of(list, k as u32);
-    same_id(id, &own)
+    same_at(&r.list, k, id)
 }
 
 // 15 for an exchange of the first token or of the reply.

@@ -96,8 +96,7 @@ pub fn find_own(r: Record, id: &[u8]) -> usize
     requires { ⌜ Inside r ⌝ }
     ensures { λ a. ⌜ a ≡ place (ownOf r) (now (id .entry)) ⌝ }
 {
-    let list = r.list;
-    find(&list, r.count, id)
+    find(&r.list, r.count, id)
 }
 
 // Whether the reply lists a scheme.

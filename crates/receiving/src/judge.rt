@@ -104,6 +104,9 @@ pub(crate) fn judge_token(r: Record, t: &[u8]) -> Judgement
     if t.len() < field::COMMON_HEADER {
         return Judgement::Halted(2, TokenPlace(0));
     }
-    let conversation = conversation_of(r, t);
-    judge_messages(r, t, &conversation)
+    let token = reading_token(r.acceptor, r.stage);
+    if token == 0 {
+        return judge_messages(r, t, &t[field::CONVERSATION..field::COMMON_HEADER]);
+    }
+    judge_messages(r, t, &r.conversation)
 }

@@ -39,13 +39,12 @@ pub(crate) fn taken_record(r: Record, t: &[u8], n: u32, c: Scan) -> Record
 {
     let token = reading_token(r.acceptor, r.stage);
     let mut next = moved(r, t, n, c);
-    let list = r.list;
     if token == 0 {
-        next.common = common_set(&list, r.count, listed(t));
+        next.common = common_set(&r.list, r.count, listed(t));
         return next;
     }
     if token == 1 {
-        let kept = kept_places(&list, r.count, listed(t));
+        let kept = kept_places(&r.list, r.count, listed(t));
         let places = kept.places;
         next.kept = places;
         next.common = full_set(kept.count);

@@ -1,7 +1,4 @@
 -- Assumes nothing.
-use mathlib.Core.Path.{_≡_}
-use native.Mathlib.Omega.{arith}
-use lib.ListN.{length}
 use Rattle.receiving.proofs.Takes.{takes}
 use borrow.Author.Needs.{needs}
 use Rattle.receiving.proofs.taken.taken_record.Statement.{statement}
@@ -13,26 +10,20 @@ reading-token-requires c κs = search needs
 moved-requires : tie.Need-moved-requires
 moved-requires c κs = search needs
 
-slice-aggregate-common-set : tie.Need-slice-aggregate-common-set
-slice-aggregate-common-set c = search needs
-
 listed-requires : tie.Need-listed-requires
 listed-requires c κs = search needs
 
 common-set-requires : tie.Need-common-set-requires
-common-set-requires c κs = let h : length (c .before .before .before .before .before .before .before .args .r .list) ≡ 256 = search needs in (omega arith, omega arith)
+common-set-requires c κs = (search needs, search needs)
 
 returns : tie.Need-returns
 returns c = search takes
-
-slice-aggregate-kept-places : tie.Need-slice-aggregate-kept-places
-slice-aggregate-kept-places c = search needs
 
 listed-requires-2 : tie.Need-listed-requires-2
 listed-requires-2 c κs = search needs
 
 kept-places-requires : tie.Need-kept-places-requires
-kept-places-requires c κs = let h : length (c .before .before .before .before .before .before .before .before .args .r .list) ≡ 256 = search needs in (omega arith, omega arith)
+kept-places-requires c κs = (search needs, search needs)
 
 full-set-requires : tie.Need-full-set-requires
 full-set-requires c κs = search takes
@@ -49,11 +40,9 @@ taken-record-spec =
     (tie.spec
     reading-token-requires
     moved-requires
-    slice-aggregate-common-set
     listed-requires
     common-set-requires
     returns
-    slice-aggregate-kept-places
     listed-requires-2
     kept-places-requires
     full-set-requires
