@@ -23,7 +23,8 @@ pub fn element_size(n: usize) -> usize
     4 + n
 }
 
-fn cap(n: usize) -> usize
+// A size, or 65,536 where it is larger.
+pub fn cap(n: usize) -> usize
     ensures { λ r. ⌜ r ≡ capped n ⌝ }
 {
     if n < 65536 { n } else { 65536 }

@@ -18,7 +18,7 @@ use Rattle.der.specs.Grammar.{closed, within, only, starts, optional, fieldOcte
 use Rattle.der.proofs.Gots.{no-ok, bind-ok, check-ok, closed-ok}
 use Rattle.der.proofs.Cuts.{cut-back, cut-forth}
 use Rattle.der.proofs.Nesting.{Forth, Back, Suits, within-forth, only-forth, within-back, only-back, optional-forth, optional-back, starts-past}
-use Rattle.envelope.specs.Envelope.{Envelope, Init, Resp, spnego, isState, identifiers, sequence, encoded, fineState, fine, few}
+use Rattle.envelope.specs.Envelope.{Envelope, Init, Resp, spnego, isState, identifiers, tailOctets, encoded, fineState, fine, few}
 use Rattle.envelope.specs.Reading.{Tail, listOf, mechanismsOf, tailOf, initOf, begins, respOf, wrappedOf, envelopeOf}
 use Rattle.envelope.specs.Claims.{OneReading, ReadEncoded, EncodedRead}
 use Rattle.envelope.proofs.Identifiers.{Some, list-forth, list-back}
@@ -50,7 +50,7 @@ mechanisms-back = within-back 0xA0 any (only 0x30 any listOf) (λ ms. element 0x
 
 -- The three fields behind the first.
 abbrev tail : ℕ → Tail → List ℕ
-tail v q = fieldOctets 0xA1 v (q .second) ++ (fieldOctets 0xA2 0x04 (q .token) ++ (fieldOctets 0xA3 0x04 (q .checksum) ++ []))
+tail v q = tailOctets v (q .second) (q .token) (q .checksum)
 
 tail-forth : (v : ℕ) (s : List ℕ) (q : Tail) → tailOf v s ≡ ok q → s ≡ tail v q
 unfolding tailOf
@@ -180,12 +180,12 @@ record Whole (v : List ℕ) (e : Envelope) : Type 0 where
   is-few : few e ≡ true
 
 init-whole : (e : Envelope) → GoodInit e → Whole (element 0x60 (wrapped e)) e
-unfolding wrapped encoded fieldOctets
+unfolding wrapped encoded fieldOctets fine few
 init-whole (Init ms f t k) g = record { octets = refl; is-fine = le-leb 1 (length ms) (g .0); is-few = le-leb (length ms) 16 (g .1) }
 init-whole (Resp x m t k) g = absurd g
 
 resp-whole : (e : Envelope) → GoodResp e → Whole (element 0xA1 (element 0x30 (inner e))) e
-unfolding encoded
+unfolding encoded fine few
 resp-whole (Init ms f t k) g = absurd g
 resp-whole (Resp x m t k) g = record { octets = refl; is-fine = g; is-few = refl }
 
@@ -203,7 +203,7 @@ read-encoded s e g0 = go (which (starts 0x60 s)) (check-ok (leb (length s) 65535
       record { same = is ∙ w .octets; is-fine = w .is-fine; is-few = w .is-few; short = leb-true _ _ (g .0) }
 
 pub encoded-read : EncodedRead
-unfolding envelopeOf encoded check wrapped starts element fieldOctets
+unfolding envelopeOf encoded check wrapped starts element fieldOctets fine few
 encoded-read (Init ms f t k) a b h =
     rw (le-leb (length (encoded (Init ms f t k))) 65535 h)
     (only-back 0x60 any wrappedOf wrapped GoodInit wrapped-back (λ a i. refl) (Init ms f t k) (leb-true 1 (length ms) a, leb-true (length ms) 16 b) h)

@@ -4,7 +4,7 @@
 --   Envelope       the fields of either; what may be missing is none where it is, which is not the same as empty
 --   spnego         the contents of SPNEGO's identifier, 1.3.6.1.5.5.2; negoex: of NEGOEX's, 1.3.6.1.4.1.311.2.2.30
 --   identifiers    mechanism identifiers as elements, one behind the other
---   sequence       the contents of a token's sequence: four fields, the first two with elements of the tags u and v in them
+--   sequence       the contents of a token's sequence: four fields, the first two with elements of the tags u and v in them; tailOctets: the last three
 --   encoded e      the octets of the envelope e
 --   isState c      the contents c are a negotiation state
 --   fine e         e has a mechanism, where it is an Init, and a state from 0 to 3, where it has one; fineState: of a state that may be missing
@@ -34,9 +34,11 @@ identifiers [] = []
 identifiers (m ∷ ms) = element 0x06 m ++ identifiers ms
 
 -- [0] to [3], each with one element in it: the token and the checksum are OCTET STRINGs in both
+abbrev pub tailOctets : ℕ → Option (List ℕ) → Option (List ℕ) → Option (List ℕ) → List ℕ
+tailOctets v second token checksum = fieldOctets 0xA1 v second ++ (fieldOctets 0xA2 0x04 token ++ (fieldOctets 0xA3 0x04 checksum ++ []))
+
 abbrev pub sequence : ℕ → ℕ → Option (List ℕ) → Option (List ℕ) → Option (List ℕ) → Option (List ℕ) → List ℕ
-sequence u v first second token checksum =
-    fieldOctets 0xA0 u first ++ (fieldOctets 0xA1 v second ++ (fieldOctets 0xA2 0x04 token ++ (fieldOctets 0xA3 0x04 checksum ++ [])))
+sequence u v first second token checksum = fieldOctets 0xA0 u first ++ tailOctets v second token checksum
 
 -- an Init's fields are a SEQUENCE OF identifiers and a BIT STRING; a Resp's are an ENUMERATED and an identifier
 unfoldable pub encoded : Envelope → List ℕ
@@ -51,10 +53,10 @@ abbrev pub fineState : Option (List ℕ) → Bool
 fineState none = true
 fineState (some c) = isState c
 
-abbrev pub fine : Envelope → Bool
+unfoldable pub fine : Envelope → Bool
 fine (Init ms f t k) = leb 1 (length ms)
 fine (Resp x m t k) = fineState x
 
-abbrev pub few : Envelope → Bool
+unfoldable pub few : Envelope → Bool
 few (Init ms f t k) = leb (length ms) 16
 few (Resp x m t k) = true
