@@ -9,7 +9,7 @@ use envelope_lines::token;
 use fields::part;
 use libc::STDOUT_FILENO;
 
-// Writes what an envelope says. The text has two digits for each octet and fewer than 64 octets for each line besides, of which there are at most 20.
+// Writes what an envelope says. There is room for the whole text: `text-fits` (proofs/Room.antt).
 fn show(s: &[u8]) {
     let mut text = [0u8; 262144];
     let n = envelope_text(&mut text, s);
