@@ -1,0 +1,4 @@
+pub mod Got
+pub mod Element
+pub mod Grammar
+pub mod Holder

@@ -1,0 +1,4 @@
+pub mod Envelope
+pub mod Reading
+pub mod Answers
+pub mod Claims

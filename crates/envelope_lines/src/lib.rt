@@ -1,0 +1,253 @@
+// The text of an envelope, appended in a lent slice: each writer is given the place behind what is written already, and answers the next one.
+ghost use mathlib.Core.Path.{_≡_};
+ghost use mathlib.Core.List.{_∷_, [], _++_};
+ghost use lib.ListN.{length, getD};
+ghost use Rattle.text.specs.Text.{text, written, quoted};
+ghost use Rattle.der.specs.Holder.{part};
+ghost use Rattle.envelope.specs.Answers.{shown, mechanismsIn};
+ghost use Rattle.envelope_lines.specs.Answers.{TokenAt, InitAt, toldInit, RespAt, toldResp};
+ghost use Rattle.envelope_lines.specs.Lines.{digitsOf, octetsText, mechanismLine, mechanismLines, octetsLine, namedLines, stateLine, tokenLine, lastLines, headLine, refusedLine, textOf, envelopeText, tokenIn, begun as Lines·begun, wroteLine};
+use der::same;
+use envelope::Field;
+use envelope::Init;
+use envelope::Read;
+use envelope::Resp;
+use envelope::read_envelope;
+use envelope_parts::is_negoex;
+use envelope_parts::mechanism;
+use envelope_parts::octets;
+use text::append;
+use text::field;
+use text::hex;
+use text::wide_field;
+
+// Octets as digits.
+fn digits(d: &mut [u8], at: usize, v: &[u8]) -> usize
+    ensures { λ r. ⌜ text (now (d .exit)) r ≡ written (digitsOf (now (v .entry))) (text (now (d .entry)) at) ⌝ }
+{
+    let mut next = at;
+    let mut i = 0;
+    while i < v.len() {
+        next = hex(d, next, v[i]);
+        i += 1;
+    }
+    next
+}
+
+// A field OCTETS.
+fn octets_text(d: &mut [u8], at: usize, v: &[u8]) -> usize
+    ensures { λ r. ⌜ text (now (d .exit)) r ≡ written (octetsText (now (v .entry))) (text (now (d .entry)) at) ⌝ }
+{
+    if v.len() == 0 {
+        return append(d, at, b"-");
+    }
+    digits(d, at, v)
+}
+
+// A mechanism's line.
+fn mechanism_line(d: &mut [u8], at: usize, k: usize, v: &[u8]) -> usize
+    ensures { λ r. ⌜ text (now (d .exit)) r ≡ written (mechanismLine k (now (v .entry))) (text (now (d .entry)) at) ⌝ }
+{
+    let a = wide_field(d, at, b"mechanism ", k);
+    let b = append(d, a, b" ");
+    let c = octets_text(d, b, v);
+    if is_negoex(v) {
+        return append(d, c, b" negoex\n");
+    }
+    append(d, c, b"\n")
+}
+
+// The lines of the mechanisms of a list.
+fn mechanism_lines(
+    d: &mut [u8],
+    at: usize,
+    s: &[u8],
+    list: usize,
+    end: usize,
+    count: usize,
+) -> usize
+    requires { ⌜ count ≡ length (mechanismsIn (part (now s) list end)) ⌝ }
+    ensures { λ r. ⌜ text (now (d .exit)) r ≡ written (mechanismLines 0 (mechanismsIn (part (now (s .entry)) list end))) (text (now (d .entry)) at) ⌝ }
+{
+    let mut next = at;
+    let mut k = 0;
+    while k < count {
+        next = mechanism_line(d, next, k, mechanism(s, list, end, k));
+        k += 1;
+    }
+    next
+}
+
+// A line of octets behind a word.
+fn octets_line(d: &mut [u8], at: usize, word: &[u8], v: &[u8]) -> usize
+    ensures { λ r. ⌜ text (now (d .exit)) r ≡ written (now (word .entry) ∷ (octetsText (now (v .entry)) ++ (quoted "\n" ∷ []))) (text (now (d .entry)) at) ⌝ }
+{
+    let a = append(d, at, word);
+    let b = octets_text(d, a, v);
+    append(d, b, b"\n")
+}
+
+// A field's line, where it is there.
+fn field_line(d: &mut [u8], at: usize, word: &[u8], s: &[u8], f: Field) -> usize
+    ensures { λ r. ⌜ text (now (d .exit)) r ≡ written (octetsLine (now (word .entry)) (shown (now (s .entry)) f)) (text (now (d .entry)) at) ⌝ }
+{
+    match f {
+        Field::Absent => at,
+        Field::At(_, _) => octets_line(d, at, word, octets(s, f)),
+    }
+}
+
+// The line of a Resp's mechanism, where it is there.
+fn named_line(d: &mut [u8], at: usize, s: &[u8], f: Field) -> usize
+    ensures { λ r. ⌜ text (now (d .exit)) r ≡ written (namedLines (shown (now (s .entry)) f)) (text (now (d .entry)) at) ⌝ }
+{
+    match f {
+        Field::Absent => at,
+        Field::At(_, _) => mechanism_line(d, at, 0, octets(s, f)),
+    }
+}
+
+fn wide(x: u8) -> u32
+    ensures { λ r. ⌜ r ≡ x ⌝ }
+{
+    x as u32
+}
+
+// The first octet of a slice, 0 where it has none.
+fn first(v: &[u8]) -> u32
+    ensures { λ r. ⌜ r ≡ getD (now (v .entry)) 0 0 ⌝ }
+{
+    if v.len() == 0 {
+        return 0;
+    }
+    wide(v[0])
+}
+
+// The line of a state, where it is there.
+fn state_line(d: &mut [u8], at: usize, s: &[u8], f: Field) -> usize
+    ensures { λ r. ⌜ text (now (d .exit)) r ≡ written (stateLine (shown (now (s .entry)) f)) (text (now (d .entry)) at) ⌝ }
+{
+    match f {
+        Field::Absent => at,
+        Field::At(_, _) => {
+            let a = field(d, at, b"state ", first(octets(s, f)));
+            append(d, a, b"\n")
+        }
+    }
+}
+
+// The token's line, where it is there: its place in the buffer and its length.
+fn token_line(d: &mut [u8], at: usize, s: &[u8], f: Field, k: Field) -> usize
+    requires { ⌜ TokenAt (now s) f k ⌝ }
+    ensures { λ r. ⌜ text (now (d .exit)) r ≡ written (tokenLine (now (s .entry)) (shown (now (s .entry)) f) (shown (now (s .entry)) k)) (text (now (d .entry)) at) ⌝ }
+{
+    match f {
+        Field::Absent => at,
+        Field::At(b, e) => {
+            let x = wide_field(d, at, b"token at=", b);
+            let y = wide_field(d, x, b" length=", e - b);
+            append(d, y, b"\n")
+        }
+    }
+}
+
+// The lines of the token and the checksum.
+fn last_lines(d: &mut [u8], at: usize, s: &[u8], t: Field, k: Field) -> usize
+    requires { ⌜ TokenAt (now s) t k ⌝ }
+    ensures { λ r. ⌜ text (now (d .exit)) r ≡ written (lastLines (now (s .entry)) (shown (now (s .entry)) t) (shown (now (s .entry)) k)) (text (now (d .entry)) at) ⌝ }
+{
+    let a = token_line(d, at, s, t, k);
+    field_line(d, a, b"checksum ", s, k)
+}
+
+// The first line: what the envelope is, and its length.
+fn head_line(d: &mut [u8], word: &[u8], s: &[u8]) -> usize
+    ensures { λ r. ⌜ text (now (d .exit)) r ≡ written (headLine (now (word .entry)) (now (s .entry))) (text (now (d .entry)) 0) ⌝ }
+{
+    let a = wide_field(d, 0, word, s.len());
+    append(d, a, b"\n")
+}
+
+// A refusal's line.
+pub fn refused_line(d: &mut [u8], n: u32) -> usize
+    ensures { λ r. ⌜ text (now (d .exit)) r ≡ written (refusedLine n) (text (now (d .entry)) 0) ⌝ }
+{
+    let a = field(d, 0, b"refused ", n);
+    append(d, a, b" at=0\n")
+}
+
+fn init_text(d: &mut [u8], s: &[u8], i: Init) -> usize
+    requires { ⌜ InitAt (now s) i ⌝ }
+    ensures { λ r. ⌜ text (now (d .exit)) r ≡ written (textOf (now (s .entry)) (toldInit (now (s .entry)) i)) (text (now (d .entry)) 0) ⌝ }
+{
+    let list = i.list;
+    let end = i.end;
+    let count = i.count;
+    let flags = i.flags;
+    let token = i.token;
+    let checksum = i.checksum;
+    let a = head_line(d, b"envelope init length=", s);
+    let b = mechanism_lines(d, a, s, list, end, count);
+    let c = field_line(d, b, b"flags ", s, flags);
+    last_lines(d, c, s, token, checksum)
+}
+
+fn resp_text(d: &mut [u8], s: &[u8], r: Resp) -> usize
+    requires { ⌜ RespAt (now s) r ⌝ }
+    ensures { λ x. ⌜ text (now (d .exit)) x ≡ written (textOf (now (s .entry)) (toldResp (now (s .entry)) r)) (text (now (d .entry)) 0) ⌝ }
+{
+    let state = r.state;
+    let mechanism = r.mechanism;
+    let token = r.token;
+    let checksum = r.checksum;
+    let a = head_line(d, b"envelope resp length=", s);
+    let b = state_line(d, a, s, state);
+    let c = named_line(d, b, s, mechanism);
+    last_lines(d, c, s, token, checksum)
+}
+
+// The text of the envelope in a buffer, from the lent slice's front on.
+pub fn envelope_text(d: &mut [u8], s: &[u8]) -> usize
+    ensures { λ r. ⌜ text (now (d .exit)) r ≡ written (envelopeText (now (s .entry))) (text (now (d .entry)) 0) ⌝ }
+{
+    match read_envelope(s) {
+        Read::Refused(n) => refused_line(d, n),
+        Read::Init(i) => init_text(d, s, i),
+        Read::Resp(r) => resp_text(d, s, r),
+    }
+}
+
+// The token of the envelope in a buffer, nothing where there is none.
+pub fn token(s: &[u8]) -> &[u8]
+    ensures { λ r. ⌜ now r ≡ tokenIn (now (s .entry)) ⌝ }
+{
+    match read_envelope(s) {
+        Read::Refused(_) => &s[..0],
+        Read::Init(i) => {
+            let t = i.token;
+            octets(s, t)
+        }
+        Read::Resp(r) => {
+            let t = r.token;
+            octets(s, t)
+        }
+    }
+}
+
+// Whether a token is NEGOEX's, by its signature.
+pub fn begun(v: &[u8]) -> bool
+    ensures { λ r. ⌜ r ≡ Lines·begun (now (v .entry)) ⌝ }
+{
+    if v.len() < 8 {
+        return false;
+    }
+    same(&v[..8], b"NEGOEXTS")
+}
+
+// The line of an envelope that was written.
+pub fn wrote_line(d: &mut [u8], v: &[u8]) -> usize
+    ensures { λ r. ⌜ text (now (d .exit)) r ≡ written (wroteLine (now (v .entry))) (text (now (d .entry)) 0) ⌝ }
+{
+    let a = wide_field(d, 0, b"wrote ", v.len());
+    octets_line(d, a, b" ", v)
+}

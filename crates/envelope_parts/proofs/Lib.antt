@@ -1,0 +1,3 @@
+pub mod Clamped
+pub mod Nths
+pub mod Mechanisms

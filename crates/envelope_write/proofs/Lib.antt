@@ -1,0 +1,5 @@
+pub mod Sums
+pub mod Identifiers
+pub mod Puts
+pub mod Stores
+pub mod Trips

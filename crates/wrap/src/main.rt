@@ -1,0 +1,12 @@
+// Writes the envelope that the text in the file says whose name stands on standard input's first line.
+use bytes::scan::find;
+use libc::STDIN_FILENO;
+use wrapping::wrap::wrap_file;
+
+fn main() {
+    let mut input = io::buffer();
+    let n = io::read_full(STDIN_FILENO, &mut input);
+    let end = find(&input, 0, n, b'\n');
+    let mut buf = [0u8; 262144];
+    wrap_file(&input[..end], &mut buf);
+}
