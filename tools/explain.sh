@@ -14,7 +14,7 @@ the header length is not the one of the type
 the message length is below the header length, or above the octets left
 the sequence number is not the one expected
 another conversation
-a pad octet is not zero
+(never given: pads are passed over)
 the version is not 0
 a vector breaks its rule
 a critical extension
@@ -56,9 +56,6 @@ of_token() {
             split("INITIATOR_NEGO ACCEPTOR_NEGO INITIATOR_META_DATA ACCEPTOR_META_DATA CHALLENGE AP_REQUEST VERIFY ALERT", name, " ")
             return kind <= 7 ? name[kind + 1] : "unknown"
         }
-
-        # a pad of k octets
-        function pad(at, k) { for (; k--; at++) if (octet[at]) look(at, 1, "a pad: " hex(at, 1) ", and not 00") }
 
         # Whether a vector keeps its rule; where `all` is set, or it does not, a line says why.
         function keeps(at, what, unit, count, all,    offset, bad, how) {
@@ -127,12 +124,6 @@ of_token() {
             if (number == 8) {
                 look(place + 24, 16, "the conversation: " hex(place + 24, 16))
                 look(24, 16, "that of the first message: " hex(24, 16))
-            }
-            if (number == 9) {
-                if (kind <= 1) { pad(place + 86, 2); pad(place + 94, 2) }
-                if (kind == 6) pad(place + 76, 4)
-                if (kind == 7) pad(place + 66, 6)
-                if (kind <= 1 && le(place + 86, 4) >= 96 && le(place + 86, 4) <= len) print "MIT krb5 has its extension vector at 86: docs/PEERS.md"
             }
             if (number == 10) look(place + 72, 8, "the version: " hex(place + 72, 8))
             if (number == 11) vectors()

@@ -26,14 +26,17 @@ expect 'type names' "$(awk -F ' *\\| *' '$2 ~ /^[0-7]$/ && $5 ~ /^[0-9]+$/ { pri
     "$(sed -n 's/.*split("\(INITIATOR_NEGO [A-Z_ ]*\)".*/\1/p' tools/explain.sh) "
 expect 'refusal numbers' "$(awk -F ' *\\| *' '/^## /{ on = $0 == "## Refusals" } on && $2 ~ /^[0-9]+$/ { printf "%s ", $2 }' "$page")" "$(seq -s ' ' 19) "
 
-# The fields: one octet of a token with all kinds is set to 1 or 255, whatever is not there yet, and the field's own number is given, or none.
+# The fields: one octet of a token with all kinds is set to 1 or 255, whatever is not there yet, and the field's own number is given, or none. The listing
+# shows no pad and no random octet, so that it stays the same with another one.
 kinds=crates/examples/data/kinds-0-to-7
-# with OCTET: what `list` answers to the token with this octet changed
+printf '%s\n' "$kinds" | target/bin/list >"$work/whole"
+# with OCTET: what `list` answers to the token with this octet changed: the number, `same` for the same listing, or nothing for another one
 with() {
     value=$(od -An -tu1 -j "$1" -N 1 "$kinds" | tr -d ' ')
     case $value in 1) value='\377' ;; *) value='\001' ;; esac
     { head -c "$1" "$kinds"; printf "$value"; tail -c "+$(($1 + 2))" "$kinds"; } >"$work/token"
-    printf '%s\n' "$work/token" | target/bin/list | sed -n '1s/^refused \([0-9]*\) .*/\1/p'
+    printf '%s\n' "$work/token" | target/bin/list >"$work/listing"
+    if cmp -s "$work/listing" "$work/whole"; then echo same; else sed -n '1s/^refused \([0-9]*\) .*/\1/p' "$work/listing"; fi
 }
 # The tables of the section, each with the place of a message that has its layout, and each row with the number that its field is for.
 awk -F ' *\\| *' '
@@ -44,7 +47,7 @@ awk -F ' *\\| *' '
     $3 ~ /vector|value/ { next }
     {
         number = $3 ~ /^signature/ ? 3 : $3 == "type" ? 4 : $3 ~ /^sequence/ ? 7 : $3 ~ /^header/ ? 5 : $3 ~ /^message length/ ? 6 : $3 ~ /^conversation/ ? 8 : \
-            $3 ~ /^pad/ ? 9 : $3 ~ /^version/ ? 10 : $3 ~ /^checksum (header|scheme)/ ? 13 : ""
+            $3 ~ /^(pad|random)/ ? "same" : $3 ~ /^version/ ? 10 : $3 ~ /^checksum (header|scheme)/ ? 13 : ""
         split($2, end, / to |, /)
         # A type and a message length are wrong for sure where their third octet is not zero.
         if (number == 4 || number == 6) end[1] = end[2] = end[1] + 2

@@ -12,8 +12,8 @@ ROOM = 65535
 REPLY_RANDOM = bytes(32)
 CHOOSE = 'i choose 0000'
 
-# A turn of MIT's at our two ends: what the reader makes of it, as it is and with octet 86 zero, and what the writer writes.
-AtOurEnds = namedtuple('AtOurEnds', 'as_it_is zeroed writes')
+# A turn of MIT's at our two ends: what the reader makes of it, and what the writer writes.
+AtOurEnds = namedtuple('AtOurEnds', 'reads writes')
 
 
 def listing(path):
@@ -48,8 +48,7 @@ def conversation(turns, lists, keep):
     for place, token in enumerate(turns):
         writer, reader = 'ia'[place % 2], 'ai'[place % 2]
         calls += [(f'write {place}', write_call(writer, message)) for message in split(token)]
-        copies = [token] if token == zeroed(token) else [token, zeroed(token)]
-        calls += [(f'read {place}', read_call(reader, octets)) for octets in copies]
+        calls.append((f'read {place}', read_call(reader, token)))
         if place == 1:
             calls.append(('choose', CHOOSE))
     if len(turns) == 1:                        # MIT's acceptor wrote no reply; ours is asked for one
@@ -58,16 +57,15 @@ def conversation(turns, lists, keep):
     for (label, _), answer in zip(calls, played([call for _, call in calls], keep)):
         said[label].append(answer)
     met = [at_our_ends(place, token, said) for place, token in enumerate(turns)]
-    refused = [place for place, one in enumerate(met) if one.zeroed.startswith('refused')]
+    refused = [place for place, one in enumerate(met) if one.reads.startswith('refused')]
     return [one if place <= min(refused, default=place) else None for place, one in enumerate(met)]
 
 
 def at_our_ends(place, token, said):
     """A turn at our two ends, by what the calls of each label said. Who reads the first turn writes its reply, the first message of
     the second turn; who reads that one chooses."""
-    reads = said[f'read {place}']
     following = {0: said['write 1'], 1: said['choose']}.get(place, [])
-    return AtOurEnds(outcome(reads[0]), outcome(reads[-1], *following[:1]), writes(said[f'write {place}'], token))
+    return AtOurEnds(outcome(*said[f'read {place}'], *following[:1]), writes(said[f'write {place}'], token))
 
 
 def played(calls, keep):

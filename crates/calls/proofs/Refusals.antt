@@ -10,13 +10,13 @@ use lib.Dec.{leb}
 use borrow.Author.Tests.{le-leb, lt-leb, eq-eqb, ne-eqb, leb-true, leb-false, ltb-true}
 use Rattle.octets.proofs.Bools.{which}
 use Rattle.message.specs.Check.{Row, firstFailing}
-use Rattle.message.proofs.Tables.{AllTrue}
+use Rattle.message.proofs.Tables.{AllTrue, without}
 use Rattle.conversation.specs.declared.Record.{Record}
 use Rattle.conversation.specs.State.{limitRows}
 use Rattle.conversation.specs.Turns.{placeAfter, mayWrite}
 use Rattle.conversation.specs.Outcomes.{Outcome, refused, decide, row, fits}
 use Rattle.conversation.specs.Writing.{stageRows}
-use Rattle.conversation.proofs.Rows.{without, front-true}
+use Rattle.conversation.proofs.Rows.{front-true}
 use Rattle.conversation.proofs.Decides.{first-none, first-stop, first-on, decide-passed, decide-refused, decide-behind}
 use Rattle.calls.specs.Calls.{roomFor, callRefusal, stageRefusal, writeRefusal, Inside}
 

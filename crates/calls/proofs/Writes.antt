@@ -9,7 +9,7 @@ use lib.ListN.{length}
 use lib.Dec.{leb}
 use borrow.Author.Tests.{le-leb, eq-eqb}
 use Rattle.message.specs.Check.{Row}
-use Rattle.message.proofs.Tables.{AllTrue}
+use Rattle.message.proofs.Tables.{AllTrue, without}
 use Rattle.put.specs.Put.{put}
 use Rattle.encode.specs.declared.Heading.{Heading}
 use Rattle.encode.specs.declared.Stored.{Stored}
@@ -21,7 +21,6 @@ use Rattle.conversation.specs.declared.Answer.{Answer}
 use Rattle.conversation.specs.Turns.{typeOf, placeAfter, mayWrite}
 use Rattle.conversation.specs.Outcomes.{Outcome, WrittenAs, answered, decide, row, fits, wrote, unchanged, appended}
 use Rattle.conversation.specs.Writing.{heading, messageOf, stageRows, thenFits}
-use Rattle.conversation.proofs.Rows.{without}
 use Rattle.conversation.proofs.Sends.{WholeIds, fields-fit}
 use Rattle.calls.specs.Calls.{writeRefusal, Inside, Ready, Appended}
 use Rattle.calls.proofs.Refusals.{call-refused, call-passed, passed-inside, passed-room, measured}

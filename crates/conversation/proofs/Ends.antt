@@ -15,7 +15,7 @@ use Rattle.octets.proofs.Bools.{which, no-true, and-l, and-r}
 use Rattle.octets.specs.Octets.{octets}
 use Rattle.message.specs.Show.{idsAt, idsOf}
 use Rattle.message.specs.Check.{Row, FirstFails}
-use Rattle.message.proofs.Tables.{AllTrue}
+use Rattle.message.proofs.Tables.{AllTrue, without, fails-other}
 use Rattle.schemes.specs.Lists.{Id, distinct, first, bit, leftOver, rule2, replyOf, oneTo16, wholeIds, listOk, joinIds}
 use Rattle.schemes.specs.Sets.{commonSet, left, keptPlaces, ones, named, below, padTo}
 use Rattle.schemes.proofs.Replies.{left-keep, left-of-reply}
@@ -31,7 +31,7 @@ use Rattle.conversation.specs.Reading.{conversationOf, whole, judged, co
 use Rattle.conversation.specs.Choosing.{openTo, mayChoose, chose, choosing}
 use Rattle.conversation.specs.Runs.{Sized, Call, offer, reply, metadata, speak, read, choose, End, act, Opening, World, world, outcomeAt, next, Entry, run, isAccepted, isLawful}
 use Rattle.conversation.specs.Claims.{ReplyAnswer, OpeningFresh}
-use Rattle.conversation.proofs.Rows.{decide-out, without, fails-other, fails-one, fails-parts, fails-each, fails-until, true-behind, front-true}
+use Rattle.conversation.proofs.Rows.{decide-out, fails-one, fails-parts, fails-each, fails-until, true-behind, front-true}
 use Rattle.conversation.proofs.Tokens.{Heads, heads-more, heads-here, empty-judged, judged-first}
 use Rattle.conversation.proofs.Goals.{positive, none-written, no-after, NotFirst, nego-start, no17, not-some, Goal, refusal, stopped, metadata-goal, speak-goal, read-goal}
 

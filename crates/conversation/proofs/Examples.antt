@@ -14,7 +14,7 @@ use Rattle.octets.specs.Octets.{le, signed32, sameOctets, sameId}
 use Rattle.octets.proofs.Same.{same-eq}
 use Rattle.vector.specs.Vector.{keepsRule, shown}
 use Rattle.message.specs.Layout.{shapeOf, headOf, elementsAt, contentOf, vectorsOf}
-use Rattle.message.specs.Check.{commonRows, zeros, padsZero, allKeepRule, noneCritical, contentRows, bodyRows, frontRows}
+use Rattle.message.specs.Check.{commonRows, allKeepRule, noneCritical, contentRows, bodyRows, frontRows}
 use Rattle.message.specs.Show.{idsAt, schemesIn}
 use Rattle.token.specs.Token.{orderRows, nextRows, chainOf}
 use Rattle.put.specs.Put.{put}
@@ -36,11 +36,11 @@ use Rattle.conversation.specs.Worked.{scheme, opened, negotiation, Says,
 use Rattle.conversation.proofs.Demand.{demand3, run-calls}
 
 pub whole-conversation : WholeConversation
-unfolding opened le signed32 sameOctets sameId keepsRule shown shapeOf headOf elementsAt contentOf vectorsOf commonRows zeros padsZero allKeepRule noneCritical contentRows bodyRows frontRows idsAt schemesIn orderRows nextRows chainOf put encoded mem place distinct setOf left has mentions ones openPlaces keptBelow turns.writing turns.reading turns.kindOf turns.typeOf turns.afterOpening turns.afterFurther turns.after offering replying writingMetadata speaking schemeNow messagesAt schemeFits passed admit conversationOf judge judged commonAfter keptAfter finish readingToken choosing act
+unfolding opened le signed32 sameOctets sameId keepsRule shown shapeOf headOf elementsAt contentOf vectorsOf commonRows allKeepRule noneCritical contentRows bodyRows frontRows idsAt schemesIn orderRows nextRows chainOf put encoded mem place distinct setOf left has mentions ones openPlaces keptBelow turns.writing turns.reading turns.kindOf turns.typeOf turns.afterOpening turns.afterFurther turns.after offering replying writingMetadata speaking schemeNow messagesAt schemeFits passed admit conversationOf judge judged commonAfter keptAfter finish readingToken choosing act
 whole-conversation = refl
 
 pub whole-logs : WholeLogs
-unfolding opened le signed32 sameOctets sameId keepsRule shown shapeOf headOf elementsAt contentOf vectorsOf commonRows zeros padsZero allKeepRule noneCritical contentRows bodyRows frontRows idsAt schemesIn orderRows nextRows chainOf put encoded mem place distinct setOf left has mentions ones openPlaces keptBelow turns.writing turns.reading turns.kindOf turns.typeOf turns.afterOpening turns.afterFurther turns.after offering replying writingMetadata speaking schemeNow messagesAt schemeFits passed admit conversationOf judge judged commonAfter keptAfter finish readingToken choosing act messagesIn
+unfolding opened le signed32 sameOctets sameId keepsRule shown shapeOf headOf elementsAt contentOf vectorsOf commonRows allKeepRule noneCritical contentRows bodyRows frontRows idsAt schemesIn orderRows nextRows chainOf put encoded mem place distinct setOf left has mentions ones openPlaces keptBelow turns.writing turns.reading turns.kindOf turns.typeOf turns.afterOpening turns.afterFurther turns.after offering replying writingMetadata speaking schemeNow messagesAt schemeFits passed admit conversationOf judge judged commonAfter keptAfter finish readingToken choosing act messagesIn
 whole-logs = (refl, refl)
 
 -- two runs without marks, the second with longer lists
@@ -100,7 +100,7 @@ abbrev chosen : Entry
 chosen = fifth (run (world opened) (negotiation 0 0)) none-such
 
 first-choice : saysOf chosen ≡ names (scheme 2) 2
-unfolding opened le signed32 sameOctets sameId keepsRule shown shapeOf headOf elementsAt contentOf vectorsOf commonRows zeros padsZero allKeepRule noneCritical contentRows bodyRows frontRows idsAt schemesIn orderRows nextRows chainOf put encoded mem place distinct setOf left has mentions ones openPlaces keptBelow turns.writing turns.reading turns.kindOf turns.typeOf turns.afterOpening turns.afterFurther turns.after offering replying writingMetadata speaking schemeNow messagesAt schemeFits passed admit conversationOf judge judged commonAfter keptAfter finish readingToken choosing act
+unfolding opened le signed32 sameOctets sameId keepsRule shown shapeOf headOf elementsAt contentOf vectorsOf commonRows allKeepRule noneCritical contentRows bodyRows frontRows idsAt schemesIn orderRows nextRows chainOf put encoded mem place distinct setOf left has mentions ones openPlaces keptBelow turns.writing turns.reading turns.kindOf turns.typeOf turns.afterOpening turns.afterFurther turns.after offering replying writingMetadata speaking schemeNow messagesAt schemeFits passed admit conversationOf judge judged commonAfter keptAfter finish readingToken choosing act
 first-choice = refl
 
 -- so no call of the second run is refused with 17, and its choice, by rule 2, stands no later
@@ -112,5 +112,5 @@ longer-run y h =
 
 -- the second run, computed
 pub choices : LongerChoice
-unfolding longerLists le signed32 sameOctets sameId keepsRule shown shapeOf headOf elementsAt contentOf vectorsOf commonRows zeros padsZero allKeepRule noneCritical contentRows bodyRows frontRows idsAt schemesIn orderRows nextRows chainOf put encoded mem place distinct setOf left has mentions ones openPlaces keptBelow turns.writing turns.reading turns.kindOf turns.typeOf turns.afterOpening turns.afterFurther turns.after offering replying writingMetadata speaking schemeNow messagesAt schemeFits passed admit conversationOf judge judged commonAfter keptAfter finish readingToken choosing act
+unfolding longerLists le signed32 sameOctets sameId keepsRule shown shapeOf headOf elementsAt contentOf vectorsOf commonRows allKeepRule noneCritical contentRows bodyRows frontRows idsAt schemesIn orderRows nextRows chainOf put encoded mem place distinct setOf left has mentions ones openPlaces keptBelow turns.writing turns.reading turns.kindOf turns.typeOf turns.afterOpening turns.afterFurther turns.after offering replying writingMetadata speaking schemeNow messagesAt schemeFits passed admit conversationOf judge judged commonAfter keptAfter finish readingToken choosing act
 choices = refl

@@ -22,7 +22,8 @@ use Rattle.conversation.specs.Outcomes.{Outcome, answered, refused, deci
 use Rattle.conversation.specs.Writing.{stageRows, thenFits, someLeft, metadataRows, metadataMessage, writingMetadata, namedRows, Speech, request, checksum, alarm, kindIn, spoken, spokenAs, speaking}
 use Rattle.conversation.specs.Reading.{Judged, whole, halted, judged, taken, finish, tokenRows, readingToken}
 use Rattle.conversation.specs.Runs.{Sized, Call, metadata, speak, read, End, turnAfter, moved}
-use Rattle.conversation.proofs.Rows.{decide-out, without, fails-other, true-behind}
+use Rattle.message.proofs.Tables.{without, fails-other}
+use Rattle.conversation.proofs.Rows.{decide-out, true-behind}
 use Rattle.conversation.proofs.Tokens.{judged-number}
 
 zero-cond : (b : Bool) → _≡_ {A = ℕ} (cond b 0 0) 0
@@ -131,7 +132,7 @@ module _ (e : End) (Inv : End → Type 0) (Tog : ℕ → Type 0) where
           (stopped read rows refl refl)
           (λ g. token (judged r peer) refl (true-behind (limitRows r) (row 18 (mayRead r)) (row 1 (leb (length peer) 65535) ∷ []) g)) where
             token : (j : Judged) → judged r peer ≡ j → mayRead r ≡ true → Goal read no17 (finish r d peer j)
-            token (halted n p) w h = unfold finish in (let z = judged-number r peer n p w in refusal read no17 n p (z .0) (z .1))
+            token (halted n p) w h = unfold finish in (let z = judged-number r peer n p w in refusal read no17 n p (z .0) (z .1 .0))
             token (whole n c) w h = unfold finish in elim (which (leb (r .used + length peer) (room d))) [
               | inr b ↦ rw b (refusal read no17 16 0 (λ z. omega arith) (λ z. omega arith))
               | inl b ↦ rw b (let g = reads-on n c (put d (r .used) peer) h w in record { then-ok = g .0; then-together = g .1; fair = λ z. omega arith })

@@ -16,3 +16,4 @@ pub mod Messages
 pub mod Inside
 pub mod Sends
 pub mod Logs
+pub mod Nines

@@ -13,7 +13,7 @@ use lib.Dec.{eqb, leb}
 use borrow.Author.Tests.{leb-true, lt-ltb, ne-eqb, not-true}
 use Rattle.octets.proofs.Bools.{which, and-l, and-r}
 use Rattle.message.specs.Check.{Row, FirstFails}
-use Rattle.message.proofs.Tables.{AllTrue}
+use Rattle.message.proofs.Tables.{AllTrue, without, fails-other}
 use Rattle.token.specs.Split.{join}
 use Rattle.put.specs.Put.{put}
 use Rattle.encode.specs.Encode.{Whole, Contents, ofNego, ofExchange, ofVerify, ofAlert}
@@ -30,7 +30,7 @@ use Rattle.conversation.specs.Choosing.{openTo, mayChoose, chose, choosi
 use Rattle.conversation.specs.Runs.{Sized, Call, offer, reply, metadata, speak, read, choose, End, act, turnAfter, moved, World, world, next, ends}
 use Rattle.conversation.specs.Logs.{messagesIn, added, logged, Logs, nextLogs, logsBehind, Counted, InStep, EveryRun}
 use Rattle.conversation.proofs.Decides.{all-first}
-use Rattle.conversation.proofs.Rows.{decide-out, without, fails-other, true-behind}
+use Rattle.conversation.proofs.Rows.{decide-out, true-behind}
 use Rattle.conversation.proofs.Tokens.{judged-first, judged-number}
 use Rattle.conversation.proofs.Ends.{ok-distinct, each-whole, sized-at, own-opened, count-joined}
 use Rattle.conversation.proofs.Inside.{told-below, ChosenBelow, admit-chosen, limits-wrote, limits-taken, limits-chose, limits-counts, now-below}

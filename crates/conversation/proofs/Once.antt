@@ -24,7 +24,8 @@ use Rattle.conversation.specs.Reading.{Judged, whole, halted, judged, ta
 use Rattle.conversation.specs.Choosing.{openTo, mayChoose, choiceRows, chose, choosing}
 use Rattle.conversation.specs.Runs.{Sized, Call, offer, reply, metadata, speak, read, choose, End, act, Opening, World, world, outcomeAt, next, Entry, run, isAccepted}
 use Rattle.conversation.specs.Claims.{atEnd, acceptedAt, withMarks, isVerify, MarksOnce, VerifyOnce}
-use Rattle.conversation.proofs.Rows.{decide-out, without, fails-other, true-behind}
+use Rattle.message.proofs.Tables.{without, fails-other}
+use Rattle.conversation.proofs.Rows.{decide-out, true-behind}
 use Rattle.conversation.proofs.Goals.{positive, nego-start}
 use Rattle.conversation.proofs.Tokens.{judged-number}
 

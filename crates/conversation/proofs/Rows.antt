@@ -9,7 +9,7 @@ use lib.Dec.{eqb}
 use borrow.Author.Tests.{eq-eqb}
 use Rattle.octets.proofs.Bools.{no-true, and-l, and-r}
 use Rattle.message.specs.Check.{Row, FirstFails}
-use Rattle.message.proofs.Tables.{AllTrue}
+use Rattle.message.proofs.Tables.{AllTrue, without, fails-other}
 use Rattle.conversation.specs.declared.Record.{Record}
 use Rattle.conversation.specs.Outcomes.{Outcome, refused, decide, row}
 
@@ -20,17 +20,6 @@ decide-out P (x ∷ xs) r d action f h = go (x .test) refl (decide-out P xs r d 
   go : (b : Bool) → x .test ≡ b → (((n : ℕ) → FirstFails n xs → P (refused r d n 0)) → (AllTrue xs → P action) → P (decide xs r d action)) → P (cond (x .test) (decide xs r d action) (refused r d (x .number) 0))
   go true t ih = rw t (ih (λ n g. f n (inr (t, g))) (λ g. h (t, g)))
   go false t ih = rw t (f (x .number) (inl (t, refl)))
-
--- no row of the table has the number
-abbrev pub without : ℕ → List Row → Bool
-without n [] = true
-without n (x ∷ xs) = not (eqb (x .number) n) && without n xs
-
-pub fails-other : (k : ℕ) (rows : List Row) (n : ℕ) → without k rows ≡ true → FirstFails n rows → n ≡ k → ⊥
-fails-other k [] n w f e = f
-fails-other k (x ∷ xs) n w (inl f) e =
-    no-true (let q : eqb (x .number) k ≡ true = eq-eqb _ _ (f .1 ∙ e) in rw q at (and-l (not (eqb (x .number) k)) (without k xs) w))
-fails-other k (x ∷ xs) n w (inr f) e = fails-other k xs n (and-r (not (eqb (x .number) k)) (without k xs) w) (f .1) e
 
 -- a number that one row has is given where that row's test is the first that fails
 pub fails-one : (k : ℕ) (xs : List Row) (b : Bool) (ys : List Row) (n : ℕ) → without k xs ≡ true → without k ys ≡ true → FirstFails n (xs ++ (row k b ∷ ys)) → n ≡ k → AllTrue xs × (b ≡ false)

@@ -14,7 +14,7 @@ use borrow.Author.Tests.{leb-true, le-leb, eq-eqb, ne-eqb}
 use Rattle.octets.proofs.Bools.{no-true, and-i}
 use Rattle.message.specs.Check.{Row}
 use Rattle.message.specs.Show.{idsAt}
-use Rattle.message.proofs.Tables.{AllTrue}
+use Rattle.message.proofs.Tables.{AllTrue, without, fails-other}
 use Rattle.put.specs.Put.{put}
 use Rattle.encode.specs.declared.Heading.{Heading}
 use Rattle.encode.specs.Encode.{Whole, Contents, ofNego, ofExchange, ofVerify, ofAlert, sizeOf, hasKind, fitsFields, encodable, encoded, written, storing}
@@ -30,7 +30,7 @@ use Rattle.conversation.specs.Outcomes.{Outcome, decide, row, room, fits
 use Rattle.conversation.specs.Writing.{heading, messageOf, stageRows, thenFits, offerRows, replyRows, metadataRows, namedRows, schemeNow, schemeAllowed, offering, replying, writingMetadata, speaking, Speech, request, checksum, alarm, kindIn, contentsIn}
 use Rattle.conversation.specs.Runs.{Sized, Call, offer, reply, metadata, speak, read, choose, End, act, isAccepted}
 use Rattle.conversation.specs.Claims.{Arrays, sentBy, ReadsAsSent, WrittenReads}
-use Rattle.conversation.proofs.Rows.{decide-out, without, fails-other, true-behind, front-true, back-true}
+use Rattle.conversation.proofs.Rows.{decide-out, true-behind, front-true, back-true}
 use Rattle.conversation.proofs.Ends.{length-joined, left-sized, sized-at}
 use Rattle.conversation.proofs.Inside.{now-below, limits-counts}
 

@@ -12,9 +12,10 @@ use borrow.Author.Tests.{ne-eqb}
 use Rattle.octets.proofs.Bools.{which}
 use Rattle.message.specs.Layout.{Head, headOf, size, front}
 use Rattle.message.specs.Check.{firstFailing, commonRows, bodyRows, contentRows, frontRows}
-use Rattle.message.proofs.Tables.{refuses-first}
+use Rattle.message.proofs.Tables.{refuses-first, without, fails-other}
 use Rattle.token.specs.Token.{orderRows, nextRows, passes, Chain, end, refused as cutAt, message, chainOf}
 use Rattle.token.proofs.Cuts.{passes-parts, passes-sized, turn-pass, turn-fail}
+use Rattle.token.proofs.Splits.{rows-9}
 use Rattle.message.proofs.Local.{head-front}
 use Rattle.schemes.specs.Lists.{Id}
 use Rattle.conversation.specs.declared.Record.{Record}
@@ -22,7 +23,6 @@ use Rattle.conversation.specs.declared.Scan.{Scan}
 use Rattle.conversation.specs.Turns.{kindOf, after, reads}
 use Rattle.conversation.specs.Admitting.{listedBy, schemeIn, Admitted, on, stop, orStop, schemeFits, passed, admit}
 use Rattle.conversation.specs.Reading.{conversationOf, startOf, Judged, whole, halted, thenJudge, judge, judged}
-use Rattle.conversation.proofs.Rows.{without, fails-other}
 use lib.Seq.{take-take, length-take-le}
 
 -- what begins with a NEGO of a type and a list, whatever follows: all that demand 3 asks of octets
@@ -76,7 +76,7 @@ judged-first r (x ∷ t) n d e =
     let some : length (x ∷ t) ≡ 0 → ⊥ = λ z. omega arith in
     chain-first r (x ∷ t) n d (r .sequence) (conversationOf r (x ∷ t)) (omega arith) (rw (ne-eqb _ _ some) at e)
 
--- the numbers that refuse a token are those of its messages: never 0, never 17
+-- the numbers that refuse a token are those of its messages: never 0, never 17, never 9
 rows-17 : (s : List ℕ) (q : ℕ) (v : List ℕ) → without 17 (nextRows s q v) ≡ true
 unfolding nextRows commonRows orderRows frontRows bodyRows contentRows
 rows-17 s q v = refl
@@ -86,7 +86,7 @@ unfolding nextRows commonRows orderRows frontRows bodyRows contentRows
 rows-0 s q v = refl
 
 abbrev pub Other : ℕ → Type 0
-Other n = (n ≡ 0 → ⊥) × (n ≡ 17 → ⊥)
+Other n = (n ≡ 0 → ⊥) × ((n ≡ 17 → ⊥) × (n ≡ 9 → ⊥))
 
 -- every refusal of a chain has such a number
 abbrev Numbers : Chain → Type 0
@@ -103,14 +103,15 @@ chain-numbers (x ∷ xs) zero place q v = go (which (passes (x ∷ xs) q v)) (ch
   go (inl p) ih = rw p ih
   go (inr p) ih =
       let f = refuses-first (nextRows (x ∷ xs) q v) p in
-      rw p (fails-other 0 (nextRows (x ∷ xs) q v) _ (rows-0 (x ∷ xs) q v) f, fails-other 17 (nextRows (x ∷ xs) q v) _ (rows-17 (x ∷ xs) q v) f)
+      let rows = nextRows (x ∷ xs) q v in
+      rw p (fails-other 0 rows _ (rows-0 (x ∷ xs) q v) f, (fails-other 17 rows _ (rows-17 (x ∷ xs) q v) f, fails-other 9 rows _ (rows-9 (x ∷ xs) q v) f))
 
 admit-number : (r : Record) (t : List ℕ) (c : Scan) (m : List ℕ) (n : ℕ) → admit r t c m ≡ stop n → Other n
 unfolding admit
 admit-number r t c m n e = go (not (eqb (after (reads r) (c .position) (c .heard) (kindOf (not (r .acceptor)) (headOf m .kind))) 0)) (schemeFits r t c (kindOf (not (r .acceptor)) (headOf m .kind)) (schemeIn m)) e where
   go : (a b : Bool) → orStop a 14 (orStop b 15 (on (passed r c (kindOf (not (r .acceptor)) (headOf m .kind)) (after (reads r) (c .position) (c .heard) (kindOf (not (r .acceptor)) (headOf m .kind))) (schemeIn m)))) ≡ stop n → Other n
-  go false b e = let z : 14 ≡ n = cc in ((λ w. omega arith), (λ w. omega arith))
-  go true false e = let z : 15 ≡ n = cc in ((λ w. omega arith), (λ w. omega arith))
+  go false b e = let z : 14 ≡ n = cc in ((λ w. omega arith), ((λ w. omega arith), (λ w. omega arith)))
+  go true false e = let z : 15 ≡ n = cc in ((λ w. omega arith), ((λ w. omega arith), (λ w. omega arith)))
   go true true e = let z : _≡_ {A = ℕ} 0 1 = cc in absurd (omega arith)
 
 judge-number : (r : Record) (t : List ℕ) (k : ℕ) (c : Scan) (ch : Chain) → Numbers ch → (n p : ℕ) → judge r t k c ch ≡ halted n p → Other n
@@ -124,7 +125,7 @@ judge-number r t k c (message m ms) h n p e = go (admit r t c (m .octets)) refl 
 
 pub judged-number : (r : Record) (t : List ℕ) (n p : ℕ) → judged r t ≡ halted n p → Other n
 unfolding judged judge
-judged-number r [] n p e = let z : 2 ≡ n = cc in ((λ w. omega arith), (λ w. omega arith))
+judged-number r [] n p e = let z : 2 ≡ n = cc in ((λ w. omega arith), ((λ w. omega arith), (λ w. omega arith)))
 judged-number r (x ∷ t) n p e =
     let some : length (x ∷ t) ≡ 0 → ⊥ = λ z. omega arith in
     judge-number r (x ∷ t) 0 (startOf r) (chainOf (x ∷ t) 0 0 (r .sequence) (conversationOf r (x ∷ t))) (chain-numbers (x ∷ t) 0 0 (r .sequence) (conversationOf r (x ∷ t))) n p (rw (ne-eqb _ _ some) at e)

@@ -4,7 +4,7 @@ use mathlib.Core.Path.{refl}
 use Rattle.octets.specs.Octets.{le, signed32, sameOctets, sameId}
 use Rattle.vector.specs.Vector.{keepsRule, shown}
 use Rattle.message.specs.Layout.{shapeOf, headOf, elementsAt, contentOf, vectorsOf}
-use Rattle.message.specs.Check.{commonRows, zeros, padsZero, allKeepRule, noneCritical, contentRows, bodyRows, frontRows}
+use Rattle.message.specs.Check.{commonRows, allKeepRule, noneCritical, contentRows, bodyRows, frontRows}
 use Rattle.message.specs.Show.{idsAt, schemesIn}
 use Rattle.token.specs.Token.{orderRows, nextRows, chainOf, readingOf, tokenOf}
 use Rattle.put.specs.Put.{put}
@@ -20,5 +20,5 @@ use Rattle.conversation.specs.Runs.{act}
 use Rattle.conversation.specs.Worked.{opened, Worked}
 
 pub worked : Worked
-unfolding opened le signed32 sameOctets sameId keepsRule shown shapeOf headOf elementsAt contentOf vectorsOf commonRows zeros padsZero allKeepRule noneCritical contentRows bodyRows frontRows idsAt schemesIn orderRows nextRows chainOf readingOf tokenOf put encoded mem place distinct setOf left has mentions ones openPlaces keptBelow turns.writing turns.reading turns.kindOf turns.typeOf turns.afterOpening turns.afterFurther turns.after offering replying writingMetadata speaking schemeNow messagesAt schemeFits passed admit conversationOf judge judged commonAfter keptAfter finish readingToken choosing act
+unfolding opened le signed32 sameOctets sameId keepsRule shown shapeOf headOf elementsAt contentOf vectorsOf commonRows allKeepRule noneCritical contentRows bodyRows frontRows idsAt schemesIn orderRows nextRows chainOf readingOf tokenOf put encoded mem place distinct setOf left has mentions ones openPlaces keptBelow turns.writing turns.reading turns.kindOf turns.typeOf turns.afterOpening turns.afterFurther turns.after offering replying writingMetadata speaking schemeNow messagesAt schemeFits passed admit conversationOf judge judged commonAfter keptAfter finish readingToken choosing act
 worked = (refl, (refl, (refl, (refl, (refl, (refl, (refl, (refl, (refl, (refl, (refl, (refl, (refl, (refl, tt))))))))))))))

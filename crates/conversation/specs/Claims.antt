@@ -3,6 +3,7 @@
 -- Glossary
 --   Unchanged          a refusal that leaves record and transcript as they were
 --   RefusedUnchanged   every refused call does, on every record
+--   NineNeverRead      no reading into a record is refused with 9
 --   RefusedStays       a refused call leaves the two ends of a run as they were
 --   acceptedOf         the calls of a list that are accepted, in order
 --   AcceptedEnds       the two ends behind a list of calls are those of its accepted calls alone
@@ -39,6 +40,7 @@ use Rattle.conversation.specs.State.{ownOf, schemeAt, fresh}
 use Rattle.conversation.specs.Turns.{NEGO, METADATA, VERIFY}
 use Rattle.conversation.specs.Outcomes.{Outcome, zeroId, answered}
 use Rattle.conversation.specs.Writing.{heading, schemeNow, kindIn, contentsIn, opening}
+use Rattle.conversation.specs.Reading.{readingToken}
 use Rattle.conversation.specs.Runs.{Sized, Call, offer, reply, metadata, speak, read, choose, End, act, Opening, World, world, outcomeAt, next, ends, Entry, run, isAccepted, isLawful, Replied}
 
 -- "Record and lent octets are unchanged."
@@ -47,6 +49,10 @@ Unchanged r d o = (o .answer .refusal ≡ 0 → ⊥) → (o .answer .next ≡ r)
 
 abbrev pub RefusedUnchanged : Type 0
 RefusedUnchanged = (e : End) (peer : List ℕ) (k : Call) → Unchanged (e .record-of) (e .transcript) (act e peer k)
+
+-- C-11: "number 9 is never given again"
+abbrev pub NineNeverRead : Type 0
+NineNeverRead = (r : Record) (d t : List ℕ) → readingToken r d t .answer .refusal ≡ 9 → ⊥
 
 -- "In a run the call and those accepted (not refused) before it decide 18."
 abbrev pub RefusedStays : Type 0

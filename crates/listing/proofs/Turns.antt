@@ -31,7 +31,7 @@ unfolding frontRows bodyRows contentRows
 message-fit q v m e =
     let z = passes-sized m q v (e .pass) in
     let whole : front m ≡ m = take-all (size m) m (omega (arith, e .exact)) in
-    let (r9, (r10, (r11, (r12, (r13, none))))) = given (frontRows m) (passes-parts m q v (e .pass) .body) in
+    let (r10, (r11, (r12, (r13, none)))) = given (frontRows m) (passes-parts m q v (e .pass) .body) in
     record {
       room = let a = z .header in let b = z .holds in omega (arith, e .exact);
       rule =

@@ -31,7 +31,7 @@ decided (r ∷ rs) v e = go (r .test) (decided rs v (e .1)) where
 
 body-numbered : (shape : Shape) (len : ℕ) (m : List ℕ) → Numbered (bodyRows shape len m)
 unfolding bodyRows contentRows
-body-numbered shape len m = ((λ e. omega arith), ((λ e. omega arith), ((λ e. omega arith), ((λ e. omega arith), ((λ e. omega arith), tt)))))
+body-numbered shape len m = ((λ e. omega arith), ((λ e. omega arith), ((λ e. omega arith), ((λ e. omega arith), tt))))
 
 module _ (s : List ℕ) (h : Header) (p : Passed s h) where
   -- the message's own slice holds its header

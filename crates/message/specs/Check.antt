@@ -6,15 +6,14 @@
 --   FirstFails n rs      the first test of a table that fails has the number n
 --   RefusesFirst         a table that does not pass refuses with the first that fails; FirstRefuses: and the first that fails is what it refuses with
 --   commonRows n h       2 to 6, of a head with n octets left from the message's first on; SIGNATURE: the one that 3 asks for
---   padRows              9, over the pads of a layout; zeros: octets are zero; padsZero: all pads are
 --   versionOk            10; allKeepRule: 11; noneCritical, criticalOk: 12; checksumOk: 13
 --   contentRows          10 to 13, of a message of `len` octets
---   bodyRows, refusalOf  9 to 13 of a message of a given layout, and the first of them that refuses it; frontRows s: of the message at the front of s
---   messageRows s        2 to 6 and 9 to 13 of the message at the front of s: all that can be asked of a message by itself
+--   bodyRows, refusalOf  10 to 13 of a message of a given layout, and the first of them that refuses it; frontRows s: of the message at the front of s
+--   messageRows s        2 to 6 and 10 to 13 of the message at the front of s: all that can be asked of a message by itself
 --   Verdict              what a message's reading says: its header's fields, or a refusal's number; said gives it for the answers of src/
 --   verdict rs v         the verdict v, where every row of rs passes
 --   fieldsOf h           the header's fields that later checks and the listing go by
---   headerVerdict        the verdict by 2 to 6; bodyVerdict: by 9 to 13; messageVerdict: by both
+--   headerVerdict        the verdict by 2 to 6; bodyVerdict: by 10 to 13; messageVerdict: by both
 --   Passed s h           the header of the message at the front of s passed 2 to 6 as h; HeaderPassed: as each that reading answers did
 use Prim.Native.Nat.{ℕ, zero, suc, _+_, _≤_}
 use mathlib.Core.Path.{_≡_}
@@ -68,18 +67,6 @@ commonRows n h =
     ∷ record { number = 6; test = leb (h .length) n }
     ∷ []
 
--- "Pad octets must be zero."
-unfoldable pub zeros : ℕ → List ℕ → ℕ → Bool
-zeros zero m at = true
-zeros (suc k) m at = zeros k m at && eqb (getD m (at + k) 0) 0
-
-unfoldable pub padsZero : List ℕ → List Pad → Bool
-padsZero m [] = true
-padsZero m (p ∷ ps) = zeros (p .size) m (p .at) && padsZero m ps
-
-abbrev pub padRows : List Pad → List ℕ → List Row
-padRows pads m = record { number = 9; test = padsZero m pads } ∷ []
-
 -- 10: "NEGO version isn't 0"
 abbrev pub versionOk : Content → Bool
 versionOk (Nego random version schemes extensions elements) = eqb version 0
@@ -118,8 +105,9 @@ contentRows header len c =
     ∷ record { number = 13; test = checksumOk c }
     ∷ []
 
+-- C-11: "the reader passes over pad octets", so no row looks at them, and none has the number 9
 unfoldable pub bodyRows : Shape → ℕ → List ℕ → List Row
-bodyRows shape len m = padRows (padsOf shape) m ++ contentRows (headerOf shape) len (contentOf shape m)
+bodyRows shape len m = contentRows (headerOf shape) len (contentOf shape m)
 
 unfoldable pub refusalOf : Shape → List ℕ → ℕ
 refusalOf shape m = firstFailing (bodyRows shape (length m) m)
@@ -151,7 +139,7 @@ fieldsOf h = record { kind = record { 0 = h .kind }; sequence = h .sequence; hea
 unfoldable pub headerVerdict : List ℕ → Verdict
 headerVerdict s = verdict (commonRows (length s) (headOf s)) (read (fieldsOf (headOf s)))
 
--- 9 to 13 of the message at the front of s, whose header passed as h
+-- 10 to 13 of the message at the front of s, whose header passed as h
 unfoldable pub bodyVerdict : List ℕ → Header → Verdict
 bodyVerdict s h = verdict (frontRows s) (read h)
 

@@ -185,7 +185,7 @@ pub fn read_header(rest: &[u8]) -> Read
     })
 }
 
-// The number of the first of checks 9 to 13 that refuses the message m, or 0.
+// The number of the first of checks 10 to 13 that refuses the message m, or 0.
 pub fn refusal(kind: Kind, m: &[u8]) -> u32
     requires { ⌜ headerOf (shapeOf (kind .0)) ≤ length (now m) ⌝ }
     ensures { λ r. ⌜ r ≡ refusalOf (shapeOf (kind .0)) (now (m .entry)) ⌝ }
@@ -202,7 +202,7 @@ pub fn refusal(kind: Kind, m: &[u8]) -> u32
     alert::refusal(m)
 }
 
-// Checks 9 to 13 of the message at the front of `rest`, whose header is h.
+// Checks 10 to 13 of the message at the front of `rest`, whose header is h.
 pub fn read_body(rest: &[u8], h: Header) -> Read
     requires { ⌜ Passed (now rest) h ⌝ }
     ensures { λ r. ⌜ said r ≡ bodyVerdict (now (rest .entry)) h ⌝ }
@@ -215,7 +215,7 @@ pub fn read_body(rest: &[u8], h: Header) -> Read
     Read::Message(h)
 }
 
-// Checks 2 to 6 and 9 to 13 of the message at the front of `rest`: all that can be asked of a message by itself.
+// Checks 2 to 6 and 10 to 13 of the message at the front of `rest`: all that can be asked of a message by itself.
 pub fn read_message(rest: &[u8]) -> Read
     ensures { λ r. ⌜ said r ≡ messageVerdict (now (rest .entry)) ⌝ }
 {

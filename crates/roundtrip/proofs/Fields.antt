@@ -2,15 +2,16 @@
 -- Assumes nothing.
 use Prim.Native.Nat.{ℕ, zero, suc, _+_, _-_, _*_, _/_, _%_, _^_, _<_, _≤_}
 use mathlib.Core.Path.{_≡_, refl, sym, ap, _∙_}
-use mathlib.Core.Bool.{true}
+use mathlib.Core.Bool.{true, _&&_}
 use mathlib.Core.List.{List, _∷_, _++_}
-use native.Mathlib.Nat.{zero-add, pow-succ'}
+use native.Mathlib.Nat.{zero-add, pow-succ', mul-pos, one-le-pow}
 use native.Mathlib.Omega.{arith}
-use lib.ListN.{length, take, drop, take-append-drop}
+use lib.ListN.{length, take, drop, getD, take-append-drop}
 use lib.Seq.{getD-drop, take-at, drop-at}
 use lib.IntN.{ℤ, pos, negsuc}
 use lib.Signed.{mag}
-use borrow.Author.Tests.{lt-ltb, le-ltb, le-leb}
+use lib.Dec.{eqb}
+use borrow.Author.Tests.{lt-ltb, le-ltb, le-leb, eq-eqb, ne-eqb}
 use Rattle.octets.specs.Octets.{le, octets, signed32}
 use Rattle.octets.proofs.Le.{le-add}
 use Rattle.vector.specs.declared.Vector.{Vector}
@@ -19,7 +20,7 @@ use Rattle.vector.proofs.Rule.{inside-rule}
 use Rattle.message.specs.Show.{signedIn}
 use Rattle.put.specs.Put.{octetsOf, unsigned32, joined}
 use Rattle.put.proofs.Laws.{joined-append}
-use Rattle.roundtrip.specs.ReadBack.{LeOctets, SignedBack}
+use Rattle.roundtrip.specs.ReadBack.{zeros, LeOctets, SignedBack}
 
 le-drop : (k : ℕ) (s : List ℕ) (at : ℕ) → le k s at ≡ le k (drop at s) 0
 unfolding le
@@ -46,6 +47,19 @@ le-octets (suc k) x t h =
 
       whole : x % 256 + 256 * (x / 256) ≡ x
       whole = omega arith
+
+-- octets are all zero exactly when their number is: once over the width
+sum-zero : (a b p : ℕ) → 0 < p → eqb a 0 && eqb b 0 ≡ eqb (a + p * b) 0
+sum-zero zero zero p h = let w : 0 + p * 0 ≡ 0 = omega arith in sym (eq-eqb _ _ w)
+sum-zero zero (suc b) p h =
+    let w : 0 < p * suc b = mul-pos h (omega arith) in
+    ne-eqb (suc b) 0 (λ e. omega arith) ∙ sym (ne-eqb (0 + p * suc b) 0 (λ e. omega arith))
+sum-zero (suc a) b p h = rw (ne-eqb (suc a) 0 (λ e. omega arith)) (sym (ne-eqb (suc a + p * b) 0 (λ e. omega arith)))
+
+pub zeros-le : (k : ℕ) (m : List ℕ) (at : ℕ) → zeros k m at ≡ eqb (le k m at) 0
+unfolding zeros le
+zeros-le zero m at = refl
+zeros-le (suc k) m at = rw (zeros-le k m at) (sum-zero (le k m at) (getD m (at + k) 0) (256 ^ k) (one-le-pow k 256 (omega arith)))
 
 pub drop-joined : (i : ℕ) (fs : List (List ℕ)) (at : ℕ) → length (joined (take i fs)) ≡ at → drop at (joined fs) ≡ joined (drop i fs)
 drop-joined i fs at e =

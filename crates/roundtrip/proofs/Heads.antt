@@ -12,8 +12,8 @@ use borrow.Author.Tests.{le-leb, eq-eqb, leb-true, eqb-true}
 use Rattle.octets.specs.Octets.{le}
 use Rattle.octets.proofs.Bools.{both}
 use Rattle.octets.proofs.Same.{id-refl}
-use Rattle.message.specs.Layout.{Shape, nego, exchange, verify, alert, shapeOf, headerOf, padsOf, signature, Head, headOf, front, Content, contentOf, vectorsOf}
-use Rattle.message.specs.Check.{allPass, SIGNATURE, commonRows, padsZero, allKeepRule, contentRows, bodyRows, frontRows, messageRows, padRows, versionOk, criticalOk, checksumOk, noneCritical, read, fieldsOf, messageVerdict}
+use Rattle.message.specs.Layout.{Shape, nego, exchange, verify, alert, shapeOf, headerOf, signature, Head, headOf, front, Content, contentOf, vectorsOf}
+use Rattle.message.specs.Check.{allPass, SIGNATURE, commonRows, allKeepRule, contentRows, bodyRows, frontRows, messageRows, versionOk, criticalOk, checksumOk, noneCritical, read, fieldsOf, messageVerdict}
 use Rattle.message.proofs.Tables.{giving, pass-append, verdict-is}
 use Rattle.message.proofs.Shapes.{header-least, shape-nego, shape-exchange, shape-verify, shape-alert}
 use Rattle.token.specs.Token.{orderRows, nextRows, passes}
@@ -115,8 +115,8 @@ module _ (h : Heading) (c : Contents) (s : Sent h c) where
         (giving (commonRows (length (encoded h c ++ r)) (headRead h c))
         (le-leb _ _ d, (eq-eqb SIGNATURE _ refl, (le-leb _ _ (f .known), (eq-eqb _ _ k, (le-leb _ _ a, (le-leb _ _ b, tt)))))))
 
-    -- from what the layout says: the content, zero pads, and vectors that keep their rule
-    module _ (content : contentOf (shapeFor c) (encoded h c) ≡ contentRead c) (pads : padsZero (encoded h c) (padsOf (shapeFor c)) ≡ true) (rules : allKeepRule (headerOf (shapeFor c)) (sizeOf c) (vectorsOf (contentRead c)) ≡ true) where
+    -- from what the layout says: the content, and vectors that keep their rule
+    module _ (content : contentOf (shapeFor c) (encoded h c) ≡ contentRead c) (rules : allKeepRule (headerOf (shapeFor c)) (sizeOf c) (vectorsOf (contentRead c)) ≡ true) where
       version-encoded : (d : Contents) → versionOk (contentRead d) ≡ true
       version-encoded (ofNego o) = refl
       version-encoded (ofExchange p) = refl
@@ -139,9 +139,8 @@ module _ (h : Heading) (c : Contents) (s : Sent h c) where
       body-encoded : allPass (bodyRows (shapeFor c) (sizeOf c) (encoded h c)) ≡ true
       unfolding bodyRows contentRows
       body-encoded =
-          ap (λ (d : Content). allPass (padRows (padsOf (shapeFor c)) (encoded h c) ++ contentRows (headerOf (shapeFor c)) (sizeOf c) d)) content
-          ∙ giving (padRows (padsOf (shapeFor c)) (encoded h c) ++ contentRows (headerOf (shapeFor c)) (sizeOf c) (contentRead c))
-          (pads, (version-encoded c, (rules, (critical-encoded c, (checksum-encoded c, tt)))))
+          ap (λ (d : Content). allPass (contentRows (headerOf (shapeFor c)) (sizeOf c) d)) content
+          ∙ giving (contentRows (headerOf (shapeFor c)) (sizeOf c) (contentRead c)) (version-encoded c, (rules, (critical-encoded c, (checksum-encoded c, tt))))
 
       front-rows : allPass (frontRows (encoded h c ++ r)) ≡ true
       unfolding frontRows

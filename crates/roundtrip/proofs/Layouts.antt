@@ -12,15 +12,14 @@ use Rattle.octets.specs.Octets.{le, octets}
 use Rattle.vector.specs.declared.Vector.{Vector}
 use Rattle.vector.specs.Vector.{keepsRule, part, shown}
 use Rattle.message.specs.Layout.{nego, exchange, verify, alert, padsOf, contentOf, vectorsOf, schemeVector, exchangeVector, checksumVector, alertVector, elementsAt, elementsOf}
-use Rattle.message.specs.Check.{padsZero, allKeepRule}
+use Rattle.message.specs.Check.{allKeepRule}
 use Rattle.message.specs.Show.{idsOf, schemesIn, nestedOf}
-use Rattle.message.proofs.Bodies.{zeros-le}
 use Rattle.put.specs.Put.{octetsOf, unsigned32, joined}
 use Rattle.encode.specs.declared.Heading.{Heading}
 use Rattle.encode.specs.Encode.{Offer, Payload, Checksum, Pulse, Contents, ofNego, ofExchange, ofVerify, ofAlert, sizeOf, headFields, bodyFields, octetVectorFields, encoded}
-use Rattle.roundtrip.specs.ReadBack.{contentRead, Shows}
+use Rattle.roundtrip.specs.ReadBack.{contentRead, Shows, padsZero}
 use Rattle.encode.proofs.Sizes.{length-encoded}
-use Rattle.roundtrip.proofs.Fields.{number-at, octets-at, drop-joined, shown-field, behindHeader, payload-rule, payload-shown, signed-shown, unsigned-small}
+use Rattle.roundtrip.proofs.Fields.{zeros-le, number-at, octets-at, drop-joined, shown-field, behindHeader, payload-rule, payload-shown, signed-shown, unsigned-small}
 
 module _ (h : Heading) (id : length (h .conversation) ≡ 16) where
   abbrev fields : Contents → List (List ℕ)

@@ -12,7 +12,7 @@ use lib.Dec.{leb, eqb}
 use borrow.Author.Tests.{leb-true, eqb-true}
 use Rattle.octets.proofs.Bools.{which, both}
 use Rattle.message.specs.Layout.{headerOf, padsOf, Head, headOf, size, front, contentOf, vectorsOf}
-use Rattle.message.specs.Check.{padsZero, allKeepRule}
+use Rattle.message.specs.Check.{allKeepRule}
 use Rattle.message.specs.Show.{idsAt, idsOf, schemesIn}
 use Rattle.token.specs.Token.{passes, Accepted, tokenOf}
 use Rattle.token.specs.Split.{Message, Numbered, join, placedFrom}
@@ -20,7 +20,7 @@ use Rattle.token.proofs.Splits.{numbered-accepted}
 use Rattle.put.specs.Put.{put, joined}
 use Rattle.encode.specs.declared.Heading.{Heading}
 use Rattle.encode.specs.Encode.{Whole, Offer, Contents, ofNego, ofExchange, ofVerify, ofAlert, sizeOf, hasKind, fitsFields, encodable, encoded, written, unwritten, storing}
-use Rattle.roundtrip.specs.ReadBack.{InRange, Sent, shapeFor, contentRead, Shows, ReadsBack, Stands, Outgoing, octetsOfAll, InSequence, ReadEncode, NegoBegins, WrittenAccepted, StoredStands}
+use Rattle.roundtrip.specs.ReadBack.{InRange, Sent, shapeFor, contentRead, Shows, ReadsBack, Stands, Outgoing, octetsOfAll, InSequence, ReadEncode, NegoBegins, WrittenAccepted, StoredStands, padsZero, PadsWritten}
 use Rattle.roundtrip.proofs.Heads.{size-encoded, head-encoded, front-encoded, verdict-encoded, passes-encoded}
 use Rattle.roundtrip.proofs.Layouts.{nego-content, nego-pads, nego-rules, nego-shows, exchange-content, exchange-pads, exchange-rules, exchange-shows, verify-content, verify-pads, verify-rules, verify-shows, alert-content, alert-pads, alert-rules, alert-shows}
 
@@ -67,6 +67,10 @@ laid h (ofAlert p) s = record {
   shows = alert-shows h (s .id) p (s .whole) (s .range);
 }
 
+-- "writers still send zeros"
+pub pads-written : PadsWritten
+pads-written h c s = laid h c s .pads
+
 -- the round trip, every kind
 pub read-encode : ReadEncode
 read-encode h c s r =
@@ -76,7 +80,7 @@ read-encode h c s r =
       head = head-encoded h c s r;
       front = front-encoded h c s r;
       content = l .content;
-      verdict = verdict-encoded h c s r (l .content) (l .pads) (l .rules);
+      verdict = verdict-encoded h c s r (l .content) (l .rules);
       shows = l .shows;
     }
 
@@ -112,7 +116,7 @@ encoded-message h c s =
     let l = laid h c s in
     let e = append-nil (encoded h c) in
     record {
-      pass = ap (λ (m : List ℕ). passes m (h .sequence) (h .conversation)) (sym e) ∙ passes-encoded h c s [] (l .content) (l .pads) (l .rules);
+      pass = ap (λ (m : List ℕ). passes m (h .sequence) (h .conversation)) (sym e) ∙ passes-encoded h c s [] (l .content) (l .rules);
       exact = ap size (sym e) ∙ ap (λ (g : Head). g .length) (head-encoded h c s []) ∙ sym (size-encoded h c s);
     }
 

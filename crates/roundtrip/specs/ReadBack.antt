@@ -10,22 +10,25 @@
 --   Stands d at h c next d'   the written message stands at `at` in d', which else is d; `next` is the place behind it
 --   Outgoing             a message to write; octetsOfAll gives the written messages of a list
 --   InSequence q v ms    messages to write that are numbered on from q, of the conversation v
+--   zeros, padsZero      octets are zero; all pads are
+--   PadsWritten          the pads of every message that can be written are zero
 --   LeOctets             a number's octets read as that number; SignedBack: two's complement, there and back
 --   ReadEncode           demand 2's round trip: every message that can be written reads back, whatever follows it
 --   NegoBegins           what begins with a written NEGO reads as that NEGO: its type and its schemes
 --   WrittenAccepted      a token of written messages is accepted, and its list is those messages
 --   StoredStands         where a writer answers a next place, its message stands there, and no other octet has changed
-use Prim.Native.Nat.{ℕ, _+_, _/_, _<_, _≤_, _^_}
+use Prim.Native.Nat.{ℕ, zero, suc, _+_, _/_, _<_, _≤_, _^_}
 use mathlib.Core.Path.{_≡_}
-use mathlib.Core.Bool.{true}
+use mathlib.Core.Bool.{Bool, true, _&&_}
 use mathlib.Core.List.{List, [], _∷_, _++_}
-use lib.ListN.{length, take, drop}
+use lib.ListN.{length, take, drop, getD}
+use lib.Dec.{eqb}
 use lib.IntN.{ℤ}
 use lib.Signed.{mag}
 use Rattle.octets.specs.Octets.{le, signed32}
 use Rattle.vector.specs.declared.Vector.{Vector}
 use Rattle.vector.specs.Vector.{shown}
-use Rattle.message.specs.Layout.{Shape, nego, exchange, verify, alert, headerOf, Head, headOf, front, Content, Nego, Exchange, Verify, Alert, contentOf, schemeVector, exchangeVector, checksumVector, alertVector}
+use Rattle.message.specs.Layout.{Shape, nego, exchange, verify, alert, headerOf, Pad, padsOf, Head, headOf, front, Content, Nego, Exchange, Verify, Alert, contentOf, schemeVector, exchangeVector, checksumVector, alertVector}
 use Rattle.message.specs.Check.{SIGNATURE, read, fieldsOf, messageVerdict}
 use Rattle.message.specs.Show.{idsOf, schemesIn, nestedOf, checksumType, errorCode}
 use Rattle.put.specs.Put.{octetsOf, unsigned32, joined}
@@ -111,6 +114,18 @@ InSequence q v [] = Unit {0}
 InSequence q v (m ∷ ms) =
     Sent (m .heading) (m .contents)
     × ((m .heading .sequence ≡ q) × ((m .heading .conversation ≡ v) × InSequence (q + 1) v ms))
+
+unfoldable pub zeros : ℕ → List ℕ → ℕ → Bool
+zeros zero m at = true
+zeros (suc k) m at = zeros k m at && eqb (getD m (at + k) 0) 0
+
+unfoldable pub padsZero : List ℕ → List Pad → Bool
+padsZero m [] = true
+padsZero m (p ∷ ps) = zeros (p .size) m (p .at) && padsZero m ps
+
+-- C-11: "writers still send zeros"
+abbrev pub PadsWritten : Type 0
+PadsWritten = (h : Heading) (c : Contents) → Sent h c → padsZero (encoded h c) (padsOf (shapeFor c)) ≡ true
 
 abbrev pub LeOctets : Type 0
 LeOctets = (k x : ℕ) (t : List ℕ) → x < 256 ^ k → le k (octetsOf k x ++ t) 0 ≡ x
