@@ -1,5 +1,5 @@
 #!/bin/sh
-# What README.md shows of the programs is what they print: the listing whole, of the script and its answers each line (`..` stands for anything).
+# What README.md shows of the programs is what they print: the listing and the damaged capture whole, of the script and its answers each line (`..` stands for anything).
 set -u
 cd "$(dirname "$0")/../.." || exit 1
 work=$(mktemp -d) || exit 1
@@ -23,6 +23,10 @@ shown './negoex list' >"$work/listing"
 ./negoex list >"$work/printed"
 cmp -s "$work/listing" "$work/printed" || fail 'the listing is another'
 
+shown './negoex recover' >"$work/recovered"
+./negoex recover >"$work/printed"
+cmp -s "$work/recovered" "$work/printed" || fail 'the damaged capture is another'
+
 shown './negoex converse' >"$work/answers"
 ./negoex converse >"$work/printed"
 [ -s "$work/answers" ] || fail 'no answers are shown'
@@ -37,5 +41,5 @@ while IFS= read -r line; do
     grep -qxF -- "$line" crates/converse/data/example || fail "no such call in the bundled script: $line"
 done <"$work/calls"
 
-printf 'tests/programs/readme.sh: %d lines shown, %d not so\n' "$(cat "$work/listing" "$work/answers" "$work/calls" | wc -l)" "$failures"
+printf 'tests/programs/readme.sh: %d lines shown, %d not so\n' "$(cat "$work/listing" "$work/recovered" "$work/answers" "$work/calls" | wc -l)" "$failures"
 [ "$failures" -eq 0 ]
