@@ -32,7 +32,7 @@ for page in README.md docs/*.md; do
         [ -e "$path" ] || echo "$page names the path '$path', which is not there"
     done
 done >"$work/paths"
-for page in README.md docs/READING.md docs/DECISIONS.md; do
+for page in README.md docs/READING.md docs/DECISIONS.md docs/RULES.md docs/CONTRIBUTING.md; do
     grep -oE '`[A-Za-z][A-Za-z0-9]*[_-][A-Za-z0-9_-]*`' "$page" | tr -d '`' | LC_ALL=C sort -u | while IFS= read -r name; do
         declared "$name" || grep -qwF -- "$name" "$work/text" || echo "$page names '$name', which stands in no file"
     done

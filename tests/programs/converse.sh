@@ -125,8 +125,9 @@ for name in cksum-etype18 cksum-etype23 meta-odd-sizes one-3hop one-meta-3hop on
 done
 
 # The front door.
-expect 'the bundled script' "$(./negoex converse)" "$expected"
-expect 'a script by a relative name' "$(cd "$work" && "$root/negoex" converse 'name with  spaces')" "$expected"
+expect 'the bundled script' "$(./negoex converse </dev/null 2>/dev/null)" "$expected"
+expect 'a script on standard input' "$(./negoex converse <"$example" 2>/dev/null)" "$expected"
+expect 'a script by a relative name' "$(cd "$work" && "$root/negoex" converse 'name with  spaces' 2>/dev/null)" "$expected"
 got=$("$root/negoex" converse "$work/missing" 2>"$work/errors")
 expect 'a missing script: status' "$?" 1
 expect 'a missing script: output' "$got" ''

@@ -58,9 +58,11 @@ if [ "$(id -u)" -ne 0 ]; then
     expect 'a file that may not be read' "$(of "$work/unreadable")" 'no file'
 fi
 
-expect 'the bundled example' "$(./negoex list)" "$expected"
+expect 'the bundled example' "$(./negoex list </dev/null 2>/dev/null)" "$expected"
 expect 'a file by a relative name' "$(cd "$work" && "$root/negoex" list 'name with  spaces')" "$expected"
-expect 'a file whose name is a dash' "$(cd "$work" && "$root/negoex" list -)" "$expected"
+expect 'a file whose name is a dash' "$(cd "$work" && "$root/negoex" list ./-)" "$expected"
+cp "$example" "$work/$(printf 'two\nlines')"
+expect 'a file whose name has a line end' "$("$root/negoex" list "$work/$(printf 'two\nlines')")" "$expected"
 
 # refused WHAT STATUS LINE WORDS..: the front door answers with one line on standard error, nothing else, and the status
 refused() {
@@ -75,10 +77,12 @@ refused 'a missing file' 1 "negoex: no such file: $work/missing" list "$work/mis
 refused 'a folder' 1 "negoex: a folder, and no file: $work/folder" list "$work/folder"
 refused 'an empty name' 1 'negoex: the file has no name' list ''
 refused 'two files' 2 "negoex: 'list' takes one file" list a b
+refused 'an unknown option' 2 "negoex: unknown option '--binary': --raw, --hex, --dump or --base64" list --binary a
+refused 'an argument too many' 2 "negoex: 'examples' takes no argument" examples a
 refused 'no word' 2 'negoex: say what to do: list, recover, converse, examples, test or help'
 refused 'an unknown word' 2 "negoex: unknown word 'show': list, recover, converse, examples, test or help" show
 mkdir "$work/bin"
-ln -s "$(command -v dirname)" "$work/bin/dirname"
+ln -s "$(command -v dirname)" "$(command -v readlink)" "$work/bin"
 got=$(PATH=$work/bin /bin/sh "$root/negoex" test 2>&1)
 expect 'a missing kit: status' "$?" 1
 expect 'a missing kit: line' "$got" "negoex: the Rattle kit's command 'rt' is not in PATH"

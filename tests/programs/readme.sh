@@ -1,5 +1,6 @@
 #!/bin/sh
-# What README.md shows of the programs is what they print: the listing and the damaged capture whole, of the script and its answers each line (`..` stands for anything).
+# What README.md shows of the programs is what they print: listings and the damaged capture whole, and what is said beside a refusal; of the script and its answers each line (`..` stands for
+# anything). The piece of a program that it shows stands in that program.
 set -u
 cd "$(dirname "$0")/../.." || exit 1
 work=$(mktemp -d) || exit 1
@@ -19,16 +20,30 @@ fail() {
     printf 'tests/programs/readme.sh: %s\n' "$1" >&2
 }
 
-shown './negoex list' >"$work/listing"
-./negoex list >"$work/printed"
-cmp -s "$work/listing" "$work/printed" || fail 'the listing is another'
+sed -n 's/^    \$ \(\.\/negoex list.*\)$/\1/p' README.md >"$work/commands"
+while IFS= read -r command; do
+    shown "$command" >"$work/shown"
+    cat "$work/shown" >>"$work/listing"
+    sh -c "$command" </dev/null >"$work/printed" 2>>"$work/said"
+    cmp -s "$work/shown" "$work/printed" || fail "the listing is another: $command"
+done <"$work/commands"
+[ -s "$work/listing" ] || fail 'no listing is shown'
+sed -n 's/^    \(negoex: .*\)$/\1/p' README.md >"$work/beside"
+[ -s "$work/beside" ] || fail 'nothing is shown of what is said beside a refusal'
+grep -v 'no FILE is given' "$work/said" | cmp -s "$work/beside" - || fail 'what is said beside a refusal is another'
+
+awk '/^## /{ on = $0 == "## Calling the library" } on && /^    / { print substr($0, 5) }' README.md >"$work/piece"
+[ -s "$work/piece" ] || fail 'no piece of a program is shown'
+while IFS= read -r line; do
+    grep -qF -- "$line" crates/sample/src/main.rt || fail "crates/sample/src/main.rt has no such line: $line"
+done <"$work/piece"
 
 shown './negoex recover' >"$work/recovered"
-./negoex recover >"$work/printed"
+./negoex recover </dev/null >"$work/printed" 2>/dev/null
 cmp -s "$work/recovered" "$work/printed" || fail 'the damaged capture is another'
 
 shown './negoex converse' >"$work/answers"
-./negoex converse >"$work/printed"
+./negoex converse </dev/null >"$work/printed" 2>/dev/null
 [ -s "$work/answers" ] || fail 'no answers are shown'
 while IFS= read -r line; do
     pattern=$(printf '%s\n' "$line" | sed 's/[][*^$\\]/\\&/g; s/\.\./.*/g')
@@ -41,5 +56,5 @@ while IFS= read -r line; do
     grep -qxF -- "$line" crates/converse/data/example || fail "no such call in the bundled script: $line"
 done <"$work/calls"
 
-printf 'tests/programs/readme.sh: %d lines shown, %d not so\n' "$(cat "$work/listing" "$work/recovered" "$work/answers" "$work/calls" | wc -l)" "$failures"
+printf 'tests/programs/readme.sh: %d lines shown, %d not so\n' "$(cat "$work/listing" "$work/recovered" "$work/beside" "$work/piece" "$work/answers" "$work/calls" | wc -l)" "$failures"
 [ "$failures" -eq 0 ]

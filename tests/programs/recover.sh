@@ -67,8 +67,10 @@ for at in $(printf '%s\n' "$expected" | sed -n 's/^message at=\([0-9]*\) .*/\1/p
     done
 done
 
-expect 'the bundled example' "$(./negoex recover)" "$expected"
+expect 'the bundled example' "$(./negoex recover </dev/null 2>/dev/null)" "$expected"
 expect 'a file by a relative name' "$(cd "$work" && "$root/negoex" recover 'name with  spaces')" "$expected"
+expect 'standard input' "$(./negoex recover <"$example")" "$expected"
+expect 'too long a file at the front door' "$(./negoex recover "$work/zeros-65536" 2>/dev/null; echo "status $?")" "$(lines 'refused 1 at=0' 'status 3')"
 expect 'a missing file at the front door' "$(./negoex recover "$work/missing" 2>&1)" "negoex: no such file: $work/missing"
 
 printf 'tests/programs/recover.sh: %d cases, %d failed\n' "$cases" "$failures"

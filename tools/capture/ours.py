@@ -18,7 +18,7 @@ AtOurEnds = namedtuple('AtOurEnds', 'as_it_is zeroed writes')
 
 def listing(path):
     """The structural reading's answer, with the types that it shows."""
-    _, text = asked(['./negoex', 'list', path], path + '.ours-list')
+    _, text = asked(['./negoex', 'list', '--raw', path], path + '.ours-list')
     if text.startswith('refused'):
         return refusal(text)
     if not text.startswith('message'):

@@ -19,7 +19,8 @@ use Rattle.conversation.specs.Turns.{reads}
 use Rattle.conversation.specs.Writing.{startsWith}
 use Rattle.conversation.specs.Admitting.{listedBy, isAt, metadataFits, exchangeFits, furtherFits, schemeFits}
 use Rattle.calls.specs.Calls.{Inside}
-use Rattle.calls.proofs.Sizes.{Sized, own-sized}
+use Rattle.conversation.specs.Claims.{Arrays}
+use Rattle.calls.proofs.Sizes.{own-sized}
 use Rattle.admitting.specs.Admissions.{listedIn}
 use Rattle.admitting.proofs.Lists.{listed-by}
 
@@ -28,7 +29,7 @@ module _ (r : Record) (k : ℕ) (id : List ℕ) where
   pub at-beyond : r .count ≤ k → false ≡ isAt r k id
   at-beyond h = rw (le-ltb _ _ h)
 
-  pub at-same : Inside r → Sized r → k < r .count → (own : List ℕ) → own ≡ octets 16 (r .list) (16 * k) → (b : Bool) → b ≡ sameId id own → b ≡ isAt r k id
+  pub at-same : Inside r → Arrays r → k < r .count → (own : List ℕ) → own ≡ octets 16 (r .list) (16 * k) → (b : Bool) → b ≡ sameId id own → b ≡ isAt r k id
   at-same i z h own own-is b b-is =
       let w : length (octets 16 (r .list) (16 * k)) ≡ 16 = own-sized r z k (omega (arith, i .few)) in
       rw (lt-ltb _ _ h) (b-is ∙ ap (sameId id) own-is ∙ same-as id (octets 16 (r .list) (16 * k)) w ∙ ap (sameOctets id) (sym (id-at (r .count) (r .list) k h)))

@@ -10,16 +10,20 @@ ghost use Rattle.schemes.specs.Lists.{mem};
 ghost use Rattle.conversation.specs.Writing.{startsWith};
 ghost use Rattle.conversation.specs.Admitting.{schemeIn, messagesAt, metadataFits};
 ghost use Rattle.admitting.specs.Admissions.{listedIn};
+use message::Kind;
 use octets::le_u32;
 use octets::same_id;
 use parts::schemes;
 use schemes::list::has_id;
 
+// The header of a NEGO.
+const HEADER: usize = Kind::NEGO_HEADER as usize;
+
 // The octets of the schemes that the NEGO at the front of a token lists, 16 a scheme.
 pub fn listed(t: &[u8]) -> &[u8]
     ensures { λ r. ⌜ now r ≡ listedIn (now (t .entry)) ⌝ }
 {
-    if t.len() < 96 {
+    if t.len() < HEADER {
         return &t[..0];
     }
     let end = le_u32(t, 20) as usize;
@@ -95,7 +99,7 @@ pub(crate) fn metadata_fits(t: &[u8], named: u32, id: &[u8]) -> bool
     requires { ⌜ length (now id) ≡ 16 ⌝ }
     ensures { λ r. ⌜ r ≡ metadataFits (now (t .entry)) named (now (id .entry)) ⌝ }
 {
-    if t.len() < 96 {
+    if t.len() < HEADER {
         return false;
     }
     let list = listed(t);

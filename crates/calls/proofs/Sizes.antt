@@ -12,16 +12,13 @@ use denote.Struct.Declared.{row}
 use Rattle.octets.specs.Octets.{octets}
 use Rattle.conversation.proofs.Record.{the-type}
 use Rattle.conversation.specs.declared.Record.{Record}
+use Rattle.conversation.specs.Claims.{Arrays}
 
-pub record Sized (r : Record) : Type 0 where
-  pub list : length (r .list) ≡ 256
-  pub conversation : length (r .conversation) ≡ 16
-
-pub sized : (r : Record) (vs : List Val) → Is (row the-type) r vs → Sized r
+pub sized : (r : Record) (vs : List Val) → Is (row the-type) r vs → Arrays r
 sized r vs g = record {
   list = length-unmapped ℕ (r .list) 256 (g .1 .1 .1 .1 .1 .0 .1 .0 .1);
   conversation = length-unmapped ℕ (r .conversation) 16 (g .1 .1 .1 .1 .1 .1 .1 .0 .1 .0 .1);
 }
 
-pub own-sized : (r : Record) → Sized r → (k : ℕ) → k < 16 → length (octets 16 (r .list) (16 * k)) ≡ 16
+pub own-sized : (r : Record) → Arrays r → (k : ℕ) → k < 16 → length (octets 16 (r .list) (16 * k)) ≡ 16
 own-sized r z k h = simp (length-take, length-drop) (omega (arith, z .list))

@@ -22,9 +22,10 @@ use Rattle.conversation.specs.Turns.{typeOf, placeAfter, mayWrite}
 use Rattle.conversation.specs.Outcomes.{Outcome, WrittenAs, answered, decide, row, fits, wrote, unchanged, appended}
 use Rattle.conversation.specs.Writing.{heading, messageOf, stageRows, thenFits}
 use Rattle.conversation.proofs.Rows.{without}
+use Rattle.conversation.proofs.Sends.{WholeIds, fields-fit}
 use Rattle.calls.specs.Calls.{writeRefusal, Inside, Ready, Appended}
 use Rattle.calls.proofs.Refusals.{call-refused, call-passed, passed-inside, passed-room, measured}
-use Rattle.calls.proofs.Sizes.{Sized}
+use Rattle.conversation.specs.Claims.{Arrays}
 
 -- a record with other values where a written message changes it
 abbrev pub changed : Record → WrittenAs → Record
@@ -47,19 +48,6 @@ changed n w = record {
   used = n .used;
 }
 
--- a scheme list is one of whole ids
-abbrev pub WholeIds : Contents → Type 0
-WholeIds (ofNego o) = length (o .schemes) % 16 ≡ 0
-WholeIds (ofExchange p) = Unit {0}
-WholeIds (ofVerify k) = Unit {0}
-WholeIds (ofAlert p) = Unit {0}
-
-fields-fit : (c : Contents) → WholeIds c → sizeOf c ≤ 65535 → fitsFields c ≡ true
-fields-fit (ofNego o) w h = simp (eq-eqb _ _ w, le-leb (length (o .schemes)) 1048560 (omega arith))
-fields-fit (ofExchange p) w h = le-leb (length (p .value)) 4294967231 (omega arith)
-fields-fit (ofVerify k) w h = le-leb (length (k .value)) 4294967215 (omega arith)
-fields-fit (ofAlert p) w h = refl
-
 -- a message of a kind that both ends write, and of the size that has passed 16
 pub write-ready : (r : Record) (d : List ℕ) (kind : ℕ) (rows : List Row) (size n : ℕ) → n ≡ writeRefusal r kind rows size (length d) → n ≡ 0 → without 0 (rows ++ (fits r d size ∷ [])) ≡ true
     → (c : Contents) → sizeOf c ≡ size → WholeIds c → hasKind c (typeOf false kind) ≡ true → hasKind c (typeOf true kind) ≡ true → Ready r d kind c
@@ -76,7 +64,7 @@ write-ready r d kind rows size n n-is z sure c s ids e f =
 abbrev pub called : Record → List ℕ → ℕ → List Row → Contents → Outcome → Outcome
 called r d kind rows c action = decide (stageRows r kind ++ thenFits rows r d (messageOf r kind c)) r d action
 
-module _ (r : Record) (arrays : Sized r) (d : List ℕ) (kind : ℕ) (rows : List Row) (c : Contents) (size : ℕ) (whole : Inside r → AllTrue rows → Whole c × (sizeOf c ≡ size)) (n : ℕ) (n-is : n ≡ writeRefusal r kind rows size (length d)) where
+module _ (r : Record) (arrays : Arrays r) (d : List ℕ) (kind : ℕ) (rows : List Row) (c : Contents) (size : ℕ) (whole : Inside r → AllTrue rows → Whole c × (sizeOf c ≡ size)) (n : ℕ) (n-is : n ≡ writeRefusal r kind rows size (length d)) where
   by-length : (action : Outcome) → decide (stageRows r kind ++ (rows ++ (fits r d size ∷ []))) r d action ≡ called r d kind rows c action
   by-length = measured r d kind rows size (length (messageOf r kind c)) (λ i t. let w = whole i t in length-encoded (heading r kind) (arrays .conversation) c (w .0) ∙ w .1)
 
@@ -101,7 +89,7 @@ stored : (s : Stored) (d e : List ℕ) (k : ℕ) → told s d ≡ written k e �
 stored (variant.Next j) d e k h = cc
 stored variant.Nothing d e k h = let z : _≡_ {A = ℕ} 0 1 = cc in absurd (omega arith)
 
-pub appends : (r : Record) → Sized r → (d : List ℕ) (kind : ℕ) (c : Contents) → Whole c → Ready r d kind c → (h : Heading) → h ≡ heading r kind
+pub appends : (r : Record) → Arrays r → (d : List ℕ) (kind : ℕ) (c : Contents) → Whole c → Ready r d kind c → (h : Heading) → h ≡ heading r kind
     → (s : Stored) (d' : List ℕ) (v : Contents) → told s d' ≡ storing d (r .used) h v → v ≡ c → (next : Record) → next ≡ wrote r (placeAfter r kind) (sizeOf c) (unchanged r)
     → Appended r d kind c d' next
 unfolding storing

@@ -14,34 +14,34 @@ use conversation::turns::own_place;
 use encode::Heading;
 use message::Kind;
 
-// One of two type numbers, by the role.
-fn by_role(acceptor: bool, of_acceptor: u32, of_initiator: u32) -> u32
+// One of two message types, by the role.
+fn by_role(acceptor: bool, of_acceptor: Kind, of_initiator: Kind) -> Kind
     ensures { λ a. ⌜ a ≡ cond acceptor «of_acceptor» «of_initiator» ⌝ }
 {
     if acceptor { of_acceptor } else { of_initiator }
 }
 
-// The type number of a kind.
-fn type_of(acceptor: bool, kind: u8) -> u32
-    ensures { λ a. ⌜ a ≡ typeOf acceptor kind ⌝ }
+// The message type of a kind.
+fn type_of(acceptor: bool, kind: u8) -> Kind
+    ensures { λ a. ⌜ a ≡ record { 0 = typeOf acceptor kind } ⌝ }
 {
     if kind == NEGO {
-        return by_role(acceptor, Kind::ACCEPTOR_NEGO, Kind::INITIATOR_NEGO);
+        return by_role(acceptor, Kind::acceptor_nego(), Kind::initiator_nego());
     }
     if kind == METADATA {
         return by_role(
             acceptor,
-            Kind::ACCEPTOR_META_DATA,
-            Kind::INITIATOR_META_DATA,
+            Kind::acceptor_meta_data(),
+            Kind::initiator_meta_data(),
         );
     }
     if kind == EXCHANGE {
-        return by_role(acceptor, Kind::CHALLENGE, Kind::AP_REQUEST);
+        return by_role(acceptor, Kind::challenge(), Kind::ap_request());
     }
     if kind == VERIFY {
-        return Kind::VERIFY;
+        return Kind::verify();
     }
-    Kind::ALERT
+    Kind::alert()
 }
 
 // The common fields of the next message.
@@ -50,7 +50,7 @@ pub fn heading_of(r: Record, kind: u8) -> Heading
 {
     let conversation = r.conversation;
     Heading {
-        kind: Kind(type_of(r.acceptor, kind)),
+        kind: type_of(r.acceptor, kind),
         sequence: r.sequence,
         conversation,
     }

@@ -11,7 +11,7 @@ use Rattle.put.specs.Put.{put, Written}
 use Rattle.conversation.specs.declared.Record.{Record}
 use Rattle.conversation.specs.declared.Answer.{Answer}
 use Rattle.conversation.specs.Outcomes.{Outcome, answered}
-use Rattle.conversation.specs.Writing.{opening, offering, replying, writingMetadata, writingExchange, writingVerify, writingAlert}
+use Rattle.conversation.specs.Writing.{opening, offering, replying, writingMetadata, request, checksum, alarm, speaking}
 use Rattle.conversation.specs.Reading.{readingToken}
 use Rattle.conversation.specs.Choosing.{choosing}
 use Rattle.script.specs.declared.Command.{Command}
@@ -47,17 +47,17 @@ module _ (c : Command) (r : Record) (d o : List ℕ) (x : Outcome) where
   write-metadata h e = e ∙ rw (eq-eqb _ _ h)
 
   module _ (not-metadata : c .verb ≡ 3 → ⊥) where
-    pub write-exchange : c .verb ≡ 4 → x ≡ writingExchange r d o → x ≡ writerOf c r d o
+    pub write-exchange : c .verb ≡ 4 → x ≡ speaking r d (request o) → x ≡ writerOf c r d o
     unfolding writerOf
     write-exchange h e = e ∙ rw (ne-eqb _ _ not-metadata, eq-eqb _ _ h)
 
     module _ (not-exchange : c .verb ≡ 4 → ⊥) where
-      pub write-verify : c .verb ≡ 5 → (z : ℤ) → z ≡ signed32 (c .number) → x ≡ writingVerify r d z o → x ≡ writerOf c r d o
+      pub write-verify : c .verb ≡ 5 → (z : ℤ) → z ≡ signed32 (c .number) → x ≡ speaking r d (checksum z o) → x ≡ writerOf c r d o
       unfolding writerOf
       write-verify h z z-is e = e ∙ rw (ne-eqb _ _ not-metadata, ne-eqb _ _ not-exchange, eq-eqb _ _ h, z-is)
 
       module _ (not-verify : c .verb ≡ 5 → ⊥) where
-        pub write-alert : c .verb ≡ 6 → (z : ℤ) → z ≡ signed32 (c .number) → x ≡ writingAlert r d z → x ≡ writerOf c r d o
+        pub write-alert : c .verb ≡ 6 → (z : ℤ) → z ≡ signed32 (c .number) → x ≡ speaking r d (alarm z) → x ≡ writerOf c r d o
         unfolding writerOf
         write-alert h z z-is e = e ∙ rw (ne-eqb _ _ not-metadata, ne-eqb _ _ not-exchange, ne-eqb _ _ not-verify, eq-eqb _ _ h, z-is)
 

@@ -14,7 +14,7 @@ use Rattle.octets.specs.Octets.{signed32}
 use Rattle.conversation.specs.declared.Record.{Record}
 use Rattle.conversation.specs.declared.Answer.{Answer}
 use Rattle.conversation.specs.Outcomes.{Outcome, answered}
-use Rattle.conversation.specs.Writing.{opening, offering, replying, writingMetadata, writingExchange, writingVerify, writingAlert}
+use Rattle.conversation.specs.Writing.{opening, offering, replying, writingMetadata, request, checksum, alarm, speaking}
 use Rattle.conversation.specs.Reading.{readingToken}
 use Rattle.conversation.specs.Choosing.{choosing}
 use Rattle.script.specs.declared.Command.{Command}
@@ -36,9 +36,9 @@ negoOf c r d o =
 unfoldable pub writerOf : Command → Record → List ℕ → List ℕ → Outcome
 writerOf c r d o =
     cond (eqb (c .verb) METADATA) (writingMetadata r d (c .id) o)
-    (cond (eqb (c .verb) EXCHANGE) (writingExchange r d o)
-    (cond (eqb (c .verb) VERIFY) (writingVerify r d (signed32 (c .number)) o)
-    (cond (eqb (c .verb) ALERT) (writingAlert r d (signed32 (c .number)))
+    (cond (eqb (c .verb) EXCHANGE) (speaking r d (request o))
+    (cond (eqb (c .verb) VERIFY) (speaking r d (checksum (signed32 (c .number)) o))
+    (cond (eqb (c .verb) ALERT) (speaking r d (alarm (signed32 (c .number))))
     (negoOf c r d o))))
 
 -- "open i ROOM CONVERSATION ID ID ..", "open a ROOM ID ID ..", "E read OCTETS", "E choose MARKS"

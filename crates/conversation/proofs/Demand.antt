@@ -27,10 +27,11 @@ use Rattle.conversation.specs.State.{ownOf, limitRows}
 use Rattle.conversation.specs.Turns.{NEGO, typeOf}
 use Rattle.conversation.specs.Outcomes.{zeroId}
 use Rattle.conversation.specs.Writing.{heading, messageOf, offered, replyMessage}
-use Rattle.conversation.specs.Runs.{Sized, Call, offer, reply, metadata, exchange, verify, alert, read, choose, Opening, World, world, next, Entry, run, isAccepted, isLawful, MarksKept, Replied, Choice, Demand3}
+use Rattle.conversation.specs.Runs.{Sized, Call, offer, reply, metadata, speak, read, choose, Opening, World, world, next, Entry, run, isAccepted, isLawful, Replied, ChoseWith, MarksKept, Choice, NotLost, Demand3}
+use Rattle.conversation.specs.Claims.{RuleTwoAnswer, ByRule2, NoneRefused, ReplyAnswer, ReplyByMarks, acceptedAt, withMarks}
 use Rattle.conversation.proofs.Tokens.{Heads}
-use Rattle.conversation.proofs.Once.{marks-once}
-use Rattle.conversation.proofs.Ends.{ok-distinct, Ask, Fair, run-fair, world-ok, own-opened, count-joined, length-joined}
+use Rattle.conversation.proofs.Once.{marks-once, same-kept}
+use Rattle.conversation.proofs.Ends.{ok-distinct, Ask, Fair, run-fair, world-ok, each-whole, left-sized, own-opened, count-joined, length-joined}
 
 -- 1. a written NEGO, whatever follows it
 
@@ -63,35 +64,27 @@ module _ (r : Record) (random : Sized 32) (l : List Id) (sized : (s : Id) → Li
       (b .0, b .1 ∙ ap idsOf e ∙ ids-joined l (all-sized l sized))
 
 module _ (o : Opening) where
+  abbrev initiator-sized : (s : Id) → List·Memᴰ s (o .initiator) → length s ≡ 16
+  initiator-sized = each-whole (o .initiator) (o .initiator-whole)
+
+  abbrev acceptor-sized : (s : Id) → List·Memᴰ s (o .acceptor) → length s ≡ 16
+  acceptor-sized = each-whole (o .acceptor) (o .acceptor-whole)
+
   few : (l : List Id) → oneTo16 l ≡ true → length l ≤ 16
   few l e = leb-true _ _ (and-r (leb 1 (length l)) (leb (length l) 16) (and-l (leb 1 (length l) && leb (length l) 16) (distinct l) e))
 
   heads-offer : (r : Record) (random : Sized 32) → r .acceptor ≡ false → r .list ≡ padTo 256 (joinIds (o .initiator)) → r .count ≡ length (o .initiator) → r .conversation ≡ o .conversation .0 → AllTrue (limitRows r) → Heads 0 (o .initiator) (offered r (random .0))
   unfolding typeOf
   heads-offer r random role bytes count talk limits =
-      let n = length-joined (o .initiator) (o .initiator-sized) in
+      let n = length-joined (o .initiator) initiator-sized in
       let e : take (16 * r .count) (r .list) ≡ joinIds (o .initiator) = rw (bytes, count) (take-at (joinIds (o .initiator)) _ (16 * length (o .initiator)) n) in
       subst (λ (a : Bool). Heads (typeOf a NEGO) (o .initiator) (offered r (random .0))) role
-      (heads-written r random (o .initiator) (o .initiator-sized) (few (o .initiator) (o .initiator-ok)) (ap length talk ∙ o .conversation .1) limits (take (16 * r .count) (r .list)) e)
-
-  left-sized : (l : List Id) (c m : ℕ) → ((s : Id) → List·Memᴰ s l → length s ≡ 16) → ((s : Id) → List·Memᴰ s (left l c m) → length s ≡ 16) × (length (left l c m) ≤ length l)
-  unfolding left
-  left-sized [] c m h = (h, omega arith)
-  left-sized (x ∷ l) c m h =
-      let i = left-sized l (c / 2) (m / 2) (λ s k. h s (List·Memᴰ·tail k)) in
-      go (bit c 0 && not (bit m 0)) i where
-        go : (b : Bool) → ((s : Id) → List·Memᴰ s (left l (c / 2) (m / 2)) → length s ≡ 16) × (length (left l (c / 2) (m / 2)) ≤ length l)
-            → ((s : Id) → List·Memᴰ s (cond b (x ∷ left l (c / 2) (m / 2)) (left l (c / 2) (m / 2))) → length s ≡ 16) × (length (cond b (x ∷ left l (c / 2) (m / 2)) (left l (c / 2) (m / 2))) ≤ length (x ∷ l))
-        go true i = (
-          λ s k. elim (List·Memᴰ·cases-cons k) [ inl e ↦ ap length e ∙ h x (List·Memᴰ·head refl) | inr k′ ↦ i .0 s k′ ],
-          omega (arith, i .1),
-        )
-        go false i = (i .0, omega (arith, i .1))
+      (heads-written r random (o .initiator) initiator-sized (few (o .initiator) (o .initiator-ok)) (ap length talk ∙ o .conversation .1) limits (take (16 * r .count) (r .list)) e)
 
   heads-reply : (r : Record) (m : ℕ) (random : Sized 32) → r .acceptor ≡ true → ownOf r ≡ o .acceptor → length (r .conversation) ≡ 16 → AllTrue (limitRows r) → Heads 1 (left (o .acceptor) (r .common) m) (replyMessage r m (random .0))
   unfolding typeOf
   heads-reply r m random role own talk limits =
-      let k = left-sized (o .acceptor) (r .common) m (o .acceptor-sized) in
+      let k = left-sized (o .acceptor) (r .common) m acceptor-sized in
       let f = few (o .acceptor) (o .acceptor-ok) in
       subst (λ (a : Bool). Heads (typeOf a NEGO) (left (o .acceptor) (r .common) m) (replyMessage r m (random .0))) role
       (heads-written r random (left (o .acceptor) (r .common) m) (k .0) (omega (arith, k .1)) talk limits (joinIds (left (ownOf r) (r .common) m)) (rw own))
@@ -115,9 +108,7 @@ asks o cs false k a m = tt
 asks o cs true (offer random) a m = tt
 asks o cs true (reply x random) a m = λ h. record { random = random; answered = a; accepted = h; entry = m }
 asks o cs true (metadata id value) a m = tt
-asks o cs true (exchange value) a m = tt
-asks o cs true (verify type value) a m = tt
-asks o cs true (alert code) a m = tt
+asks o cs true (speak s) a m = tt
 asks o cs true read a m = tt
 asks o cs true (choose x) a m = tt
 
@@ -125,38 +116,39 @@ fair-run : (o : Opening) (cs : List (Bool × Call)) (x : Entry) → List·Memᴰ
 fair-run o cs x m =
     run-fair o (Replied o cs) (heads-offer o) (heads-reply o) (world o)
     (world-ok o (Replied o cs) (heads-offer o) (heads-reply o)
-    (own-opened false (o .initiator) (o .conversation .0) (o .initiator-sized))
-    (own-opened true (o .acceptor) zeroId (o .acceptor-sized))
-    (count-joined (o .initiator) (o .initiator-sized)))
+    (own-opened false (o .initiator) (o .conversation .0) (initiator-sized o))
+    (own-opened true (o .acceptor) zeroId (acceptor-sized o))
+    (count-joined (o .initiator) (initiator-sized o)))
     cs (λ y n. asks o cs (y .acceptor) (y .call) (y .said) n) x m
 
 -- the first run: who chose, and by what
 chose-facts : (o : Opening) (cs : List (Bool × Call)) (x : Bool) (m : ℕ) (a : Answer) → isAccepted a ≡ true → FairIn o cs x (choose m) a
     → (x ≡ false) × ((ma : ℕ) × (Replied o cs ma × (rule2 (o .acceptor) (o .initiator) ma m ≡ some (a .choice))))
 chose-facts o cs false m a e h = let g = h .1 e in (refl, (g .0, (g .1 .0, g .1 .1 .0)))
-chose-facts o cs true m a e h = no-true (sym (h .2) ∙ e)
+chose-facts o cs true m a e h = no-true (rw h at e)
 
--- rule 2, for every choosing call of every run: it is refused with 17, or answers, by what is left; the number left is exact; and a call that is
--- lawful is one of the two
-pub record ByRule2 (o : Opening) (cs : List (Bool × Call)) (m : ℕ) (a : Answer) : Type 0 where
-  pub refuses : a .refusal ≡ 17 → (ma : ℕ) × (Replied o cs ma × (leftOver (o .acceptor) (o .initiator) ma m ≡ []))
-  pub answers : isAccepted a ≡ true → (ma : ℕ) × (Replied o cs ma × ((rule2 (o .acceptor) (o .initiator) ma m ≡ some (a .choice)) × (a .left ≡ length (leftOver (o .acceptor) (o .initiator) ma m))))
-  pub lawful : isLawful a ≡ true → (a .refusal ≡ 17) ⊎ (isAccepted a ≡ true)
-
-pub by-rule2 : (o : Opening) (cs : List (Bool × Call)) (x : Entry) (m : ℕ) → List·Memᴰ x (run (world o) cs) → x .call ≡ choose m → ByRule2 o cs m (x .said)
+pub by-rule2 : ByRule2
 by-rule2 o cs x m h call = go (x .acceptor) (rw call at (fair-run o cs x h)) where
-  go : (b : Bool) → FairIn o cs b (choose m) (x .said) → ByRule2 o cs m (x .said)
+  go : (b : Bool) → FairIn o cs b (choose m) (x .said) → RuleTwoAnswer o cs m (x .said)
   go false f = record { refuses = f .0; answers = f .1; lawful = f .2 }
-  go true f = record { refuses = λ e. absurd (f .0 e); answers = λ e. no-true (sym (f .2) ∙ e); lawful = λ e. no-true (sym (f .1) ∙ e) }
+  go true f = record { refuses = λ e. absurd (omega arith); answers = λ e. no-true (rw f at e); lawful = λ e. no-true (rw f at e) }
+
+pub reply-by-marks : ReplyByMarks
+reply-by-marks o cs x m random h call = go (x .acceptor) (rw call at (fair-run o cs x h)) where
+  go : (b : Bool) → FairIn o cs b (reply m random) (x .said) → ReplyAnswer o m (x .said)
+  go true f = f
+  go false f = record { refuses = λ e. absurd (omega arith); answers = λ e. no-true (rw f at e); none-left = λ z a b. absurd (a f) }
 
 -- the acceptor's marks are one set
 pub replied-once : (o : Opening) (cs : List (Bool × Call)) (m n : ℕ) → Replied o cs m → Replied o cs n → m ≡ n
 replied-once o cs m n r s =
-    marks-once o cs true _ _ m n (r .entry) (s .entry) (record { at = refl; marks = refl; accepted = r .accepted }) (record { at = refl; marks = refl; accepted = s .accepted }) .1
+    let e = same-kept (acceptedAt true withMarks) (run (world o) cs) _ _ (marks-once o cs true) (r .entry) (s .entry) (rw (r .accepted)) (rw (s .accepted)) in
+    marks-of (ap (λ (y : Entry). y .call) e) where
+      marks-of : {a b : ℕ} {x y : Sized 32} → reply a x ≡ reply b y → a ≡ b
+      marks-of e = cc
 
--- "No common scheme" is said exactly when there is none: a lawful choosing call is refused with 17 where rule 2 leaves nothing, and only there (`refuses`)
-pub none-refused : (o : Opening) (cs : List (Bool × Call)) (x : Entry) (m ma : ℕ) → List·Memᴰ x (run (world o) cs) → x .call ≡ choose m → isLawful (x .said) ≡ true
-    → Replied o cs ma → leftOver (o .acceptor) (o .initiator) ma m ≡ [] → x .said .refusal ≡ 17
+-- where rule 2 leaves nothing, a lawful choosing call is refused with 17, and only there (`refuses`)
+pub none-refused : NoneRefused
 none-refused o cs x m ma h call l r none-left =
     let b = by-rule2 o cs x m h call in
     elim (b .lawful l) [
@@ -178,10 +170,10 @@ module _ (o : Opening) (cs : List (Bool × Call)) (o′ : Opening) (cs′ : List
     (rep : Replied o cs ma) (before : rule2 (o .acceptor) (o .initiator) ma m ≡ some (a .choice))
     (up : Longer (o .acceptor) (o .initiator) (o′ .acceptor) (o′ .initiator)) (marks : MarksKept o cs o′ cs′) where
   ini-marks : (m′ : ℕ) → List·Memᴰ (false, choose m′) cs′ → SameMarks (o .acceptor) (o .initiator) (o .initiator) m (o′ .initiator) m′
-  ini-marks m′ h = marks _ m chosen ok refl (choose m′) m′ h refl
+  ini-marks m′ h = marks .initiator-marks m m′ (record { answered = a; accepted = ok; entry = chosen }) h
 
   acc-marks : (m′ : ℕ) (random : Sized 32) → List·Memᴰ (true, reply m′ random) cs′ → SameMarks (o .acceptor) (o .initiator) (o .acceptor) ma (o′ .acceptor) m′
-  acc-marks m′ random h = marks _ ma (rep .entry) (rep .accepted) refl (reply m′ random) m′ h refl
+  acc-marks m′ random h = marks .acceptor-marks ma m′ random rep h
 
   rep-marks : (m′ : ℕ) → Replied o′ cs′ m′ → SameMarks (o .acceptor) (o .initiator) (o .acceptor) ma (o′ .acceptor) m′
   rep-marks m′ h = acc-marks m′ (h .random) (run-calls (world o′) cs′ _ (h .entry))
@@ -196,22 +188,18 @@ module _ (o : Opening) (cs : List (Bool × Call)) (o′ : Opening) (cs′ : List
 
   no-17 : (x : Bool) (k : Call) (b : Answer) → List·Memᴰ (x, k) cs′ → FairIn o′ cs′ x k b → b .refusal ≡ 17 → ⊥
   no-17 false (offer random) b h f = f
-  no-17 false (reply y random) b h f = f
+  no-17 false (reply y random) b h f = λ e. omega arith
   no-17 false (metadata id value) b h f = f
-  no-17 false (exchange value) b h f = f
-  no-17 false (verify type value) b h f = f
-  no-17 false (alert code) b h f = f
+  no-17 false (speak s) b h f = f
   no-17 false read b h f = f
   no-17 false (choose m′) b h f = λ e. let g = f .0 e in some-left m′ (g .0) h (g .1 .0) (g .1 .1)
   no-17 true (offer random) b h f = f
   no-17 true (reply m′ random) b h f =
-      λ e. no-mem-nil (a .choice) _ (f e) (still-common (o .acceptor) (o .initiator) (o′ .acceptor) (o′ .initiator) up dist ma m (a .choice) before m′ (acc-marks m′ random h))
+      λ e. no-mem-nil (a .choice) _ (f .refuses e) (still-common (o .acceptor) (o .initiator) (o′ .acceptor) (o′ .initiator) up dist ma m (a .choice) before m′ (acc-marks m′ random h))
   no-17 true (metadata id value) b h f = f
-  no-17 true (exchange value) b h f = f
-  no-17 true (verify type value) b h f = f
-  no-17 true (alert code) b h f = f
+  no-17 true (speak s) b h f = f
   no-17 true read b h f = f
-  no-17 true (choose m′) b h f = f .0
+  no-17 true (choose m′) b h f = λ e. omega arith
 
   choice-of : (x : Bool) (m′ : ℕ) (b : Answer) → List·Memᴰ (x, choose m′) cs′ → FairIn o′ cs′ x (choose m′) b → isLawful b ≡ true → Choice o o′ cs′ m′ (a .choice) b
   choice-of false m′ b h f l = elim (f .2 l) [
@@ -220,11 +208,11 @@ module _ (o : Opening) (cs : List (Bool × Call)) (o′ : Opening) (cs′ : List
       accepted = e;
       ma = g .0;
       replied = g .1 .0;
-      by-rule2 = g .1 .1 .0;
+      chosen = g .1 .1 .0;
       no-later = longer (o .acceptor) (o .initiator) (o′ .acceptor) (o′ .initiator) up dist ma m (a .choice) before (g .0) m′ (rep-marks (g .0) (g .1 .0)) (ini-marks m′ h) (b .choice) (g .1 .1 .0);
     }
   ]
-  choice-of true m′ b h f l = no-true (sym (f .1) ∙ l)
+  choice-of true m′ b h f l = no-true (rw f at l)
 
 pub demand3 : Demand3
 demand3 o cs o′ cs′ x m hx call ok up marks y hy =

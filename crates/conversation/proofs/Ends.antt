@@ -1,38 +1,39 @@
 -- Demand 3: an invariant of the two ends of a run, kept by every call, and what each call then answers.
 -- Assumes nothing.
-use Prim.Native.Nat.{ℕ, _+_, _*_, _≤_, _/_, _%_}
+use Prim.Native.Nat.{ℕ, zero, suc, _+_, _*_, _≤_, _<_, _/_, _%_}
 use mathlib.Core.Path.{_≡_, refl, sym, ap, subst, _∙_}
 use mathlib.Core.Bool.{Bool, true, false, cond, not, _&&_, _||_}
 use mathlib.Core.Logic.{_⊎_, inl, inr}
 use mathlib.Core.List.{List, [], _∷_, _++_, List·Memᴰ, List·Memᴰ·head, List·Memᴰ·tail, List·Memᴰ·cases-cons, List·Memᴰ·not-nil, append-nil, append-assoc}
 use mathlib.Core.Option.{some}
 use native.Mathlib.Omega.{arith}
-use lib.ListN.{length, length-take, length-drop, length-append}
+use lib.ListN.{length, getD, length-take, length-drop, length-append}
 use lib.Seq.{take-at, drop-at}
 use lib.Dec.{eqb, leb}
 use borrow.Author.Tests.{eq-eqb, eqb-true}
-use Rattle.octets.proofs.Bools.{which, no-true, and-r}
+use Rattle.octets.proofs.Bools.{which, no-true, and-l, and-r}
 use Rattle.octets.specs.Octets.{octets}
 use Rattle.message.specs.Show.{idsAt, idsOf}
 use Rattle.message.specs.Check.{Row, FirstFails}
 use Rattle.message.proofs.Tables.{AllTrue}
-use Rattle.schemes.specs.Lists.{Id, distinct, first, leftOver, rule2, oneTo16, listOk, joinIds}
+use Rattle.schemes.specs.Lists.{Id, distinct, first, bit, leftOver, rule2, replyOf, oneTo16, wholeIds, listOk, joinIds}
 use Rattle.schemes.specs.Sets.{commonSet, left, keptPlaces, ones, named, below, padTo}
-use Rattle.schemes.proofs.Replies.{replyOf, left-keep, left-of-reply}
+use Rattle.schemes.proofs.Replies.{left-keep, left-of-reply}
 use Rattle.conversation.specs.declared.Record.{Record}
 use Rattle.conversation.specs.declared.Answer.{Answer}
 use Rattle.conversation.specs.declared.Scan.{Scan}
 use Rattle.conversation.specs.State.{ownOf, limitRows, fresh}
 use Rattle.conversation.specs.Turns.{NEGO, writing, reading, kindOf, after, writes, reads, placeAfter, mayWrite, mayRead}
-use Rattle.conversation.specs.Outcomes.{Outcome, zeroId, answered, row, fits, WrittenAs, unchanged, wrote, appended}
+use Rattle.conversation.specs.Outcomes.{Outcome, answered, row, fits, WrittenAs, unchanged, wrote, appended}
 use Rattle.conversation.specs.Writing.{stageRows, thenFits, offered, offerRows, offering, someLeft, firstOr, replyMessage, naming, replying, opening}
 use Rattle.conversation.specs.Admitting.{listedBy}
 use Rattle.conversation.specs.Reading.{conversationOf, whole, judged, commonAfter, keptAfter, taken}
 use Rattle.conversation.specs.Choosing.{openTo, mayChoose, chose, choosing}
-use Rattle.conversation.specs.Runs.{Sized, Call, offer, reply, metadata, exchange, verify, alert, read, choose, End, act, Opening, World, world, outcomeAt, next, Entry, run, isAccepted, isLawful}
-use Rattle.conversation.proofs.Rows.{decide-out, fails-other, fails-one, fails-each, fails-until, true-behind, front-true}
+use Rattle.conversation.specs.Runs.{Sized, Call, offer, reply, metadata, speak, read, choose, End, act, Opening, World, world, outcomeAt, next, Entry, run, isAccepted, isLawful}
+use Rattle.conversation.specs.Claims.{ReplyAnswer, OpeningFresh}
+use Rattle.conversation.proofs.Rows.{decide-out, without, fails-other, fails-one, fails-parts, fails-each, fails-until, true-behind, front-true}
 use Rattle.conversation.proofs.Tokens.{Heads, heads-more, heads-here, empty-judged, judged-first}
-use Rattle.conversation.proofs.Goals.{positive, none-written, no-after, NotFirst, nego-start, no17, not-some, Goal, refusal, stopped, metadata-goal, exchange-goal, verify-goal, alert-goal, read-goal}
+use Rattle.conversation.proofs.Goals.{positive, none-written, no-after, NotFirst, nego-start, no17, not-some, Goal, refusal, stopped, metadata-goal, speak-goal, read-goal}
 
 -- 1. the invariant
 
@@ -44,6 +45,10 @@ pub record Together (i a : ℕ) : Type 0 where
 
 pub ok-distinct : (l : List Id) → oneTo16 l ≡ true → distinct l ≡ true
 ok-distinct l e = and-r (leb 1 (length l) && leb (length l) 16) (distinct l) e
+
+some-first : (l : List Id) → someLeft l ≡ true → first l ≡ some (firstOr l)
+some-first [] h = no-true h
+some-first (x ∷ l) h = refl
 
 module _ (o : Opening) (Q : ℕ → Type 0)
     (heads-offer : (r : Record) (random : Sized 32) → r .acceptor ≡ false → r .list ≡ padTo 256 (joinIds (o .initiator)) → r .count ≡ length (o .initiator) → r .conversation ≡ o .conversation .0 → AllTrue (limitRows r) → Heads 0 (o .initiator) (offered r (random .0)))
@@ -92,27 +97,23 @@ module _ (o : Opening) (Q : ℕ → Type 0)
         × (isAccepted a ≡ true → (ma : ℕ) × (Q ma × ((rule2 (o .acceptor) (o .initiator) ma m ≡ some (a .choice)) × (a .left ≡ length (leftOver (o .acceptor) (o .initiator) ma m)))))
         × (isLawful a ≡ true → (a .refusal ≡ 17) ⊎ (isAccepted a ≡ true))
 
-    -- refused, by another number than 17, and not lawful
+    -- a call of the other end
     abbrev pub Barred : Answer → Type 0
-    Barred a = (a .refusal ≡ 17 → ⊥) × (isLawful a ≡ false) × (isAccepted a ≡ false)
+    Barred a = a .refusal ≡ 18
 
     abbrev pub IniSays : Call → Answer → Type 0
     IniSays (offer random) a = no17 a
-    IniSays (reply m random) a = no17 a
+    IniSays (reply m random) a = Barred a
     IniSays (metadata id value) a = no17 a
-    IniSays (exchange value) a = no17 a
-    IniSays (verify type value) a = no17 a
-    IniSays (alert code) a = no17 a
+    IniSays (speak s) a = no17 a
     IniSays read a = no17 a
     IniSays (choose m) a = ChooseSays m a
 
     abbrev pub AccSays : Call → Answer → Type 0
     AccSays (offer random) a = no17 a
-    AccSays (reply m random) a = a .refusal ≡ 17 → reply-of m ≡ []
+    AccSays (reply m random) a = ReplyAnswer o m a
     AccSays (metadata id value) a = no17 a
-    AccSays (exchange value) a = no17 a
-    AccSays (verify type value) a = no17 a
-    AccSays (alert code) a = no17 a
+    AccSays (speak s) a = no17 a
     AccSays read a = no17 a
     AccSays (choose m) a = Barred a
 
@@ -125,9 +126,7 @@ module _ (o : Opening) (Q : ℕ → Type 0)
     AskAcc (offer random) a = Unit {0}
     AskAcc (reply m random) a = isAccepted a ≡ true → Q m
     AskAcc (metadata id value) a = Unit {0}
-    AskAcc (exchange value) a = Unit {0}
-    AskAcc (verify type value) a = Unit {0}
-    AskAcc (alert code) a = Unit {0}
+    AskAcc (speak s) a = Unit {0}
     AskAcc read a = Unit {0}
     AskAcc (choose m) a = Unit {0}
 
@@ -184,12 +183,15 @@ module _ (o : Opening) (Q : ℕ → Type 0)
             fair = λ q. omega arith;
           })
 
-      ini-reply : (m : ℕ) (random : Sized 32) → IniGoal (reply m random) no17 (replying r d m (random .0))
+      ini-reply : (m : ℕ) (random : Sized 32) → IniGoal (reply m random) Barred (replying r d m (random .0))
       unfolding replying
       ini-reply m random =
           let more : List Row = row 19 (below (r .count) m) ∷ row 17 (someLeft (left (ownOf r) (r .common) m)) ∷ fits r d (length (replyMessage r m (random .0))) ∷ [] in
-          decide-out (IniGoal (reply m random) no17) (stageRows r NEGO ++ (row 18 (r .acceptor) ∷ more)) r d _
-          (λ n g. stopped e IniOk beside ok tg (reply m random) (stageRows r NEGO ++ (row 18 (r .acceptor) ∷ [])) refl refl n (fails-until (stageRows r NEGO) (row 18 (r .acceptor)) more n (ok .role) g))
+          decide-out (IniGoal (reply m random) Barred) (stageRows r NEGO ++ (row 18 (r .acceptor) ∷ more)) r d _
+          (λ n g.
+          let h = fails-until (stageRows r NEGO) (row 18 (r .acceptor)) more n (ok .role) g in
+          let is : n ≡ 18 = eqb-true _ _ (fails-each (λ k. eqb k 18) (stageRows r NEGO ++ (row 18 (r .acceptor) ∷ [])) n refl h) in
+          refusal e IniOk beside ok tg (reply m random) Barred n 0 (λ z. omega arith) is)
           (λ g. no-true (sym (ok .role) ∙ true-behind (stageRows r NEGO) (row 18 (r .acceptor)) more g))
 
       -- the reply, read
@@ -237,10 +239,6 @@ module _ (o : Opening) (Q : ℕ → Type 0)
       only-17 : (n : ℕ) → eqb n 17 || not (lawful n) ≡ true → lawful n ≡ true → eqb n 17 ≡ true
       only-17 n e h = elim (which (eqb n 17)) [ inl a ↦ a | inr a ↦ no-true (rw (a, h) at e) ]
 
-      some-first : (l : List Id) → someLeft l ≡ true → first l ≡ some (firstOr l)
-      some-first [] h = no-true h
-      some-first (x ∷ l) h = refl
-
       ini-choose : (m : ℕ) → IniGoal (choose m) (ChooseSays m) (choosing r d m)
       unfolding choosing
       ini-choose m =
@@ -276,9 +274,7 @@ module _ (o : Opening) (Q : ℕ → Type 0)
       ini-step (offer random) = ini-offer random
       ini-step (reply m random) = ini-reply m random
       ini-step (metadata id value) = metadata-goal e IniOk beside ok tg ini-on id value
-      ini-step (exchange value) = exchange-goal e IniOk beside ok tg ini-on value
-      ini-step (verify type value) = verify-goal e IniOk beside ok tg ini-on type value
-      ini-step (alert code) = alert-goal e IniOk beside ok tg ini-on code
+      ini-step (speak s) = speak-goal e IniOk beside ok tg ini-on s
       ini-step read = read-goal e IniOk beside ok tg (f .turn) ini-reads-on
       ini-step (choose m) = ini-choose m
 
@@ -341,29 +337,55 @@ module _ (o : Opening) (Q : ℕ → Type 0)
       acc-lists m h (acc-later st) =
           no-true (let z : leb (writing true 3) 1 ≡ true = rw (ok .role, st) at (nego-start (writes s) (s .position) (s .verified) h .0) in z)
 
-      acc-reply : (m : ℕ) (random : Sized 32) → (isAccepted (replying s b m (random .0) .answer) ≡ true → Q m) → AccGoal (reply m random) (λ a. a .refusal ≡ 17 → reply-of m ≡ []) (replying s b m (random .0))
+      -- refused by the table whose row 17 asks for a scheme left
+      reply-refused : (m n : ℕ) (last : List Row) → without 0 last ≡ true → without 17 last ≡ true
+          → let l : List Id = left (ownOf s) (s .common) m in
+          FirstFails n (stageRows s NEGO ++ (row 18 (s .acceptor) ∷ row 19 (below (s .count) m) ∷ row 17 (someLeft l) ∷ last)) → ReplyAnswer o m (answered n 0 s)
+      reply-refused m n last z0 z17 g = record {
+        refuses = λ z. let w = fails-one 17 before (someLeft l) last n refl z17 g z in sym (lists (w .0)) ∙ not-some l (w .1);
+        answers = λ z. absurd (fails-other 0 (before ++ (row 17 (someLeft l) ∷ last)) n z0 g (eqb-true _ _ z));
+        none-left = λ z x y. elim (fails-parts before (row 17 (someLeft l) ∷ last) n g) [
+          | inl f ↦ let w : eqb n 18 || eqb n 19 ≡ true = fails-each (λ k. eqb k 18 || eqb k 19) before n refl f in
+              elim (which (eqb n 18)) [ inl a ↦ absurd (x (eqb-true _ _ a)) | inr a ↦ absurd (y (eqb-true _ _ (rw a at w))) ]
+          | inr f ↦ given (f .1) (lists (f .0) ∙ z)
+        ];
+      } where
+        l : List Id
+        l = left (ownOf s) (s .common) m
+
+        before : List Row
+        before = stageRows s NEGO ++ (row 18 (s .acceptor) ∷ row 19 (below (s .count) m) ∷ [])
+
+        lists : AllTrue before → l ≡ reply-of m
+        lists t = acc-lists m (true-behind (limitRows s) (row 18 (mayWrite s NEGO)) (row 18 (s .acceptor) ∷ row 19 (below (s .count) m) ∷ []) t) (ok .at) .lists
+
+        given : FirstFails n (row 17 (someLeft l) ∷ last) → l ≡ [] → n ≡ 17
+        given (inl f) none = sym (f .1)
+        given (inr f) none = no-true (sym (ap someLeft none) ∙ f .0)
+
+      acc-reply : (m : ℕ) (random : Sized 32) → (isAccepted (replying s b m (random .0) .answer) ≡ true → Q m) → AccGoal (reply m random) (ReplyAnswer o m) (replying s b m (random .0))
       unfolding replying
       acc-reply m random =
           let l : List Id = left (ownOf s) (s .common) m in
           let last : List Row = fits s b (length (replyMessage s m (random .0))) ∷ [] in
           let before : List Row = stageRows s NEGO ++ (row 18 (s .acceptor) ∷ row 19 (below (s .count) m) ∷ []) in
-          let P : Answer → Type 0 = λ a. a .refusal ≡ 17 → reply-of m ≡ [] in
-          decide-out (λ out. (isAccepted (out .answer) ≡ true → Q m) → AccGoal (reply m random) P out) (before ++ (row 17 (someLeft l) ∷ last)) s b
+          decide-out (λ out. (isAccepted (out .answer) ≡ true → Q m) → AccGoal (reply m random) (ReplyAnswer o m) out) (before ++ (row 17 (someLeft l) ∷ last)) s b
           (naming l (appended s b (placeAfter s NEGO) (replyMessage s m (random .0)) (record { marks = m; told = s .told; asked = s .asked; verified = s .verified })))
-          (λ n g ask. refusal e AccOk along ok tg (reply m random) P n 0 (fails-other 0 (before ++ (row 17 (someLeft l) ∷ last)) n refl g)
-          (λ z.
-          let w = fails-one 17 before (someLeft l) last n refl refl g z in
-          let h = true-behind (limitRows s) (row 18 (mayWrite s NEGO)) (row 18 (s .acceptor) ∷ row 19 (below (s .count) m) ∷ []) (w .0) in
-          sym (acc-lists m h (ok .at) .lists) ∙ not-some l (w .1)))
+          (λ n g ask. refusal e AccOk along ok tg (reply m random) (ReplyAnswer o m) n 0 (fails-other 0 (before ++ (row 17 (someLeft l) ∷ last)) n refl g) (reply-refused m n last refl refl g))
           (λ g ask.
           let h = true-behind (limitRows s) (row 18 (mayWrite s NEGO)) (row 18 (s .acceptor) ∷ row 19 (below (s .count) m) ∷ row 17 (someLeft l) ∷ last) g in
+          let some-left = true-behind before (row 17 (someLeft l)) last g in
           let a = acc-lists m h (ok .at) in
           let hd : Heads 1 (left (o .acceptor) (s .common) m) (replyMessage s m (random .0)) = heads-reply s m random (ok .role) (ok .own) (a .talk) (front-true (limitRows s) (row 18 (mayWrite s NEGO) ∷ row 18 (s .acceptor) ∷ row 19 (below (s .count) m) ∷ row 17 (someLeft l) ∷ last) g) in
           let same : left (o .acceptor) (s .common) m ≡ reply-of m = ap (λ (k : List Id). left k (s .common) m) (sym (ok .own)) ∙ a .lists in
           record {
             then-ok = record { role = ok .role; own = ok .own; at = acc-open (a .stage) (positive (placeAfter s NEGO) h) m (ask refl) (rw (a .none-yet) (subst (λ (k : List Id). Heads 1 k (replyMessage s m (random .0))) same hd)) };
             then-together = tg;
-            fair = λ z. absurd (omega arith);
+            fair = record {
+              refuses = λ z. absurd (omega arith);
+              answers = λ z. (ap first (sym (a .lists)) ∙ some-first l some-left, ap length (a .lists));
+              none-left = λ z x y. no-true (sym (ap someLeft (a .lists ∙ z)) ∙ some-left);
+            };
           })
 
       -- a NEGO is no message of a later token
@@ -411,7 +433,7 @@ module _ (o : Opening) (Q : ℕ → Type 0)
           (λ n g.
           let h = fails-until (limitRows s) (row 18 (mayChoose s)) more n no g in
           let is : n ≡ 18 = eqb-true _ _ (fails-each (λ k. eqb k 18) (limitRows s ++ (row 18 (mayChoose s) ∷ [])) n refl h) in
-          refusal e AccOk along ok tg (choose m) Barred n 0 (λ z. omega arith) (rw is ((λ z. omega arith), refl, refl)))
+          refusal e AccOk along ok tg (choose m) Barred n 0 (λ z. omega arith) is)
           (λ g. no-true (sym no ∙ true-behind (limitRows s) (row 18 (mayChoose s)) more g))
 
       acc-step : (k : Call) → AskAcc k (act e (f .turn) k .answer) → AccGoal k (AccSays k) (act e (f .turn) k)
@@ -419,9 +441,7 @@ module _ (o : Opening) (Q : ℕ → Type 0)
       acc-step (offer random) q = acc-offer random
       acc-step (reply m random) q = acc-reply m random q
       acc-step (metadata id value) q = metadata-goal e AccOk along ok tg acc-on id value
-      acc-step (exchange value) q = exchange-goal e AccOk along ok tg acc-on value
-      acc-step (verify type value) q = verify-goal e AccOk along ok tg acc-on type value
-      acc-step (alert code) q = alert-goal e AccOk along ok tg acc-on code
+      acc-step (speak s) q = speak-goal e AccOk along ok tg acc-on s
       acc-step read q = read-goal e AccOk along ok tg (f .turn) acc-reads-on
       acc-step (choose m) q = acc-choose m
 
@@ -454,6 +474,32 @@ module _ (o : Opening) (Q : ℕ → Type 0)
 
 -- 6. opened lists
 
+pub each-whole : (l : List Id) → wholeIds l ≡ true → (s : Id) → List·Memᴰ s l → length s ≡ 16
+each-whole [] e s m = absurd (List·Memᴰ·not-nil m)
+each-whole (x ∷ l) e s m = elim (List·Memᴰ·cases-cons m) [
+  | inl q ↦ ap length q ∙ eqb-true _ _ (and-l (eqb (length x) 16) (wholeIds l) e)
+  | inr i ↦ each-whole l (and-r (eqb (length x) 16) (wholeIds l) e) s i
+]
+
+pub sized-at : (l : List Id) → ((s : Id) → List·Memᴰ s l → length s ≡ 16) → (k : ℕ) → k < length l → length (getD l k []) ≡ 16
+sized-at [] h k low = absurd (omega arith)
+sized-at (x ∷ l) h zero low = h x (List·Memᴰ·head refl)
+sized-at (x ∷ l) h (suc k) low = sized-at l (λ s m. h s (List·Memᴰ·tail m)) k (omega arith)
+
+pub left-sized : (l : List Id) (c m : ℕ) → ((s : Id) → List·Memᴰ s l → length s ≡ 16) → ((s : Id) → List·Memᴰ s (left l c m) → length s ≡ 16) × (length (left l c m) ≤ length l)
+unfolding left
+left-sized [] c m h = (h, omega arith)
+left-sized (x ∷ l) c m h =
+    let i = left-sized l (c / 2) (m / 2) (λ s k. h s (List·Memᴰ·tail k)) in
+    go (bit c 0 && not (bit m 0)) i where
+      go : (b : Bool) → ((s : Id) → List·Memᴰ s (left l (c / 2) (m / 2)) → length s ≡ 16) × (length (left l (c / 2) (m / 2)) ≤ length l)
+          → ((s : Id) → List·Memᴰ s (cond b (x ∷ left l (c / 2) (m / 2)) (left l (c / 2) (m / 2))) → length s ≡ 16) × (length (cond b (x ∷ left l (c / 2) (m / 2)) (left l (c / 2) (m / 2))) ≤ length (x ∷ l))
+      go true i = (
+        λ s k. elim (List·Memᴰ·cases-cons k) [ inl e ↦ ap length e ∙ h x (List·Memᴰ·head refl) | inr k′ ↦ i .0 s k′ ],
+        omega (arith, i .1),
+      )
+      go false i = (i .0, omega (arith, i .1))
+
 mem-one : (x : Id) (l : List Id) → List·Memᴰ x (x ∷ l)
 mem-one x l = List·Memᴰ·head refl
 
@@ -475,9 +521,10 @@ pub own-opened : (a : Bool) (l : List Id) (c : List ℕ) → ((s : Id) → List�
 own-opened a l c h = rw (count-joined l h) (cut-joined l _ h)
 
 -- a run's records are those that opening answers
-pub opening-fresh : (a : Bool) (l : List Id) (c : List ℕ) → ((s : Id) → List·Memᴰ s l → length s ≡ 16) → oneTo16 l ≡ true → opening a (joinIds l) c ≡ answered 0 0 (fresh a (joinIds l) (cond a zeroId c))
+pub opening-fresh : OpeningFresh
 unfolding opening listOk
-opening-fresh a l c h ok =
+opening-fresh a l c sized ok =
+    let h = each-whole l sized in
     let n = length-joined l h in
     let whole : length (joinIds l) % 16 ≡ 0 = omega arith in
     let ids : idsOf (joinIds l) ≡ l = rw (count-joined l h) (ap (idsAt (length l)) (sym (append-nil (joinIds l))) ∙ cut-joined l [] h) in

@@ -8,7 +8,6 @@ use mathlib.Core.List.{List, [], _∷_, _++_}
 use native.Mathlib.Omega.{arith}
 use lib.ListN.{length}
 use lib.Dec.{eqb, leb}
-use lib.IntN.{ℤ}
 use borrow.Author.Tests.{eqb-true, ne-eqb}
 use Rattle.octets.proofs.Bools.{which, no-true}
 use Rattle.message.specs.Check.{Row, FirstFails}
@@ -18,11 +17,11 @@ use Rattle.conversation.specs.declared.Record.{Record}
 use Rattle.conversation.specs.declared.Answer.{Answer}
 use Rattle.conversation.specs.declared.Scan.{Scan}
 use Rattle.conversation.specs.State.{limitRows}
-use Rattle.conversation.specs.Turns.{NEGO, METADATA, EXCHANGE, VERIFY, ALERT, afterOpening, afterFurther, after, reads, placeAfter, mayWrite, mayRead}
+use Rattle.conversation.specs.Turns.{NEGO, METADATA, afterOpening, afterFurther, after, reads, placeAfter, mayWrite, mayRead}
 use Rattle.conversation.specs.Outcomes.{Outcome, answered, refused, decide, row, room, WrittenAs, wrote, appended}
-use Rattle.conversation.specs.Writing.{stageRows, thenFits, someLeft, metadataRows, metadataMessage, writingMetadata, namedRows, exchangeMessage, writingExchange, verifyMessage, writingVerify, alertMessage, writingAlert}
+use Rattle.conversation.specs.Writing.{stageRows, thenFits, someLeft, metadataRows, metadataMessage, writingMetadata, namedRows, Speech, request, checksum, alarm, kindIn, spoken, spokenAs, speaking}
 use Rattle.conversation.specs.Reading.{Judged, whole, halted, judged, taken, finish, tokenRows, readingToken}
-use Rattle.conversation.specs.Runs.{Sized, Call, metadata, exchange, verify, alert, read, End, turnAfter, moved}
+use Rattle.conversation.specs.Runs.{Sized, Call, metadata, speak, read, End, turnAfter, moved}
 use Rattle.conversation.proofs.Rows.{decide-out, without, fails-other, true-behind}
 use Rattle.conversation.proofs.Tokens.{judged-number}
 
@@ -50,18 +49,12 @@ metadata-not-first : NotFirst METADATA
 unfolding after afterOpening
 metadata-not-first token v e = rw e
 
-exchange-not-first : NotFirst EXCHANGE
+speech-not-first : (s : Speech) → NotFirst (kindIn s)
 unfolding after afterOpening
-exchange-not-first token v e = rw e
-
-verify-not-first : NotFirst VERIFY
-unfolding after afterOpening
-verify-not-first token true e = refl
-verify-not-first token false e = rw e
-
-alert-not-first : NotFirst ALERT
-unfolding after afterOpening
-alert-not-first token v e = rw e
+speech-not-first (request value) token v e = rw e
+speech-not-first (checksum type value) token true e = refl
+speech-not-first (checksum type value) token false e = rw e
+speech-not-first (alarm code) token v e = rw e
 
 -- a NEGO stands at the start of the first token or of the reply
 pub nego-start : (token position : ℕ) (v : Bool) → not (eqb (after token position v NEGO) 0) ≡ true → (leb token 1 ≡ true) × (position ≡ 0)
@@ -124,20 +117,9 @@ module _ (e : End) (Inv : End → Type 0) (Tog : ℕ → Type 0) where
       metadata-goal id value =
           write (metadata id value) METADATA (metadataRows r (id .0) (length value)) (metadataMessage r (id .0) value) _ metadata-not-first refl refl refl
 
-      pub exchange-goal : (value : List ℕ) → Goal (exchange value) no17 (writingExchange r d value)
-      unfolding writingExchange
-      exchange-goal value =
-          write (exchange value) EXCHANGE (namedRows r) (exchangeMessage r value) _ exchange-not-first refl refl refl
-
-      pub verify-goal : (type : ℤ) (value : List ℕ) → Goal (verify type value) no17 (writingVerify r d type value)
-      unfolding writingVerify
-      verify-goal type value =
-          write (verify type value) VERIFY (namedRows r) (verifyMessage r type value) _ verify-not-first refl refl refl
-
-      pub alert-goal : (code : ℤ) → Goal (alert code) no17 (writingAlert r d code)
-      unfolding writingAlert
-      alert-goal code =
-          write (alert code) ALERT (namedRows r) (alertMessage r code) _ alert-not-first refl refl refl
+      pub speak-goal : (s : Speech) → Goal (speak s) no17 (speaking r d s)
+      unfolding speaking
+      speak-goal s = write (speak s) (kindIn s) (namedRows r) (spoken r s) (spokenAs r s) (speech-not-first s) refl refl refl
 
     -- a reading of the other end's turn so far
     module _ (peer : List ℕ) (reads-on : (n : ℕ) (c : Scan) (d′ : List ℕ) → mayRead r ≡ true → judged r peer ≡ whole n c → Inv (record { record-of = taken r peer n c; transcript = d′; turn = [] }) × Tog (reads r + 1)) where

@@ -14,4 +14,5 @@ pub mod Worked
 pub mod Examples
 pub mod Messages
 pub mod Inside
+pub mod Sends
 pub mod Logs

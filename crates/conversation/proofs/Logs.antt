@@ -9,7 +9,6 @@ use native.Mathlib.Omega.{arith}
 use lib.ListN.{length, take, drop, getD, length-append, length-take, length-drop}
 use lib.Seq.{take-at, length-take-le}
 use lib.Pow.{pow-pos}
-use lib.IntN.{ℤ}
 use lib.Dec.{eqb, leb}
 use borrow.Author.Tests.{leb-true, lt-ltb, ne-eqb, not-true}
 use Rattle.octets.proofs.Bools.{which, and-l, and-r}
@@ -25,15 +24,15 @@ use Rattle.conversation.specs.declared.Scan.{Scan}
 use Rattle.conversation.specs.State.{ownOf, schemeAt, limitRows, fresh}
 use Rattle.conversation.specs.Turns.{FIRST, NEGO, METADATA, EXCHANGE, VERIFY, ALERT, typeOf, reads, placeAfter, mayRead}
 use Rattle.conversation.specs.Outcomes.{Outcome, zeroId, answered, refused, decide, row, room, fits, WrittenAs, unchanged, wrote, appended}
-use Rattle.conversation.specs.Writing.{heading, messageOf, stageRows, thenFits, offerRows, offering, someLeft, replyMessage, naming, replying, metadataAllowed, metadataMessage, metadataRows, writingMetadata, schemeNow, schemeAllowed, namedRows, exchangeMessage, askedBy, writingExchange, verifyMessage, writingVerify, alertMessage, writingAlert}
+use Rattle.conversation.specs.Writing.{heading, messageOf, stageRows, thenFits, offerRows, offering, someLeft, replyMessage, naming, replying, metadataAllowed, metadataMessage, metadataRows, writingMetadata, schemeNow, schemeAllowed, namedRows, askedBy, speaking, spoken, Speech, request, checksum, alarm, kindIn, contentsIn, spokenAs}
 use Rattle.conversation.specs.Reading.{conversationOf, startOf, Judged, whole, halted, chainFor, judged, taken, finish, readingToken}
 use Rattle.conversation.specs.Choosing.{openTo, mayChoose, chose, choosing}
-use Rattle.conversation.specs.Runs.{Sized, Call, offer, reply, metadata, exchange, verify, alert, read, choose, End, act, turnAfter, moved, World, world, next, ends}
+use Rattle.conversation.specs.Runs.{Sized, Call, offer, reply, metadata, speak, read, choose, End, act, turnAfter, moved, World, world, next, ends}
 use Rattle.conversation.specs.Logs.{messagesIn, added, logged, Logs, nextLogs, logsBehind, Counted, InStep, EveryRun}
 use Rattle.conversation.proofs.Decides.{all-first}
 use Rattle.conversation.proofs.Rows.{decide-out, without, fails-other, true-behind}
 use Rattle.conversation.proofs.Tokens.{judged-first, judged-number}
-use Rattle.conversation.proofs.Ends.{ok-distinct, own-opened, count-joined}
+use Rattle.conversation.proofs.Ends.{ok-distinct, each-whole, sized-at, own-opened, count-joined}
 use Rattle.conversation.proofs.Inside.{told-below, ChosenBelow, admit-chosen, limits-wrote, limits-taken, limits-chose, limits-counts, now-below}
 use Rattle.conversation.proofs.Messages.{FramedFrom, Framed, framed-more, framed-behind, framed-long, framed-order, join-append, join-one, same-messages, same-start, written-framed, judge-keeps, Taken, token-taken}
 
@@ -67,44 +66,25 @@ unfolding typeOf
 type-known true kind = small (eqb kind 1) (omega arith) (small (eqb kind 2) (omega arith) (small (eqb kind 3) (omega arith) (small (eqb kind 4) (omega arith) (omega arith))))
 type-known false kind = small (eqb kind 1) (omega arith) (small (eqb kind 2) (omega arith) (small (eqb kind 3) (omega arith) (small (eqb kind 4) (omega arith) (omega arith))))
 
--- 2. a call at the end e, beside the end f
+-- what is said names one scheme, and leaves marks and metadata as they were
+whole-speech : (s : Speech) (id : List ℕ) → length id ≡ 16 → Whole (contentsIn id s)
+whole-speech (request value) id h = h
+whole-speech (checksum type value) id h = h
+whole-speech (alarm code) id h = h
 
-module _ (e f : End) (le lf : List (List ℕ)) (ok : Sound (e .record-of) (e .transcript) le) (ok′ : Sound (f .record-of) (f .transcript) lf) (here : InStep (e .turn) le lf) (there : InStep (f .turn) lf le) where
-  abbrev r : Record
-  r = e .record-of
+spoken-marks : (r : Record) (s : Speech) → (spokenAs r s .marks ≡ r .marks) × (spokenAs r s .told ≡ r .told)
+spoken-marks r (request value) = (refl, refl)
+spoken-marks r (checksum type value) = (refl, refl)
+spoken-marks r (alarm code) = (refl, refl)
 
-  abbrev d : List ℕ
-  d = e .transcript
-
-  record Goal (k : Call) (out : Outcome) : Type 0 where
-    sound : Sound (out .answer .next) (out .transcript) (logged e (f .turn) k out le)
-    here-then : InStep (moved e k out .turn) (logged e (f .turn) k out le) lf
-    there-then : InStep (f .turn) lf (logged e (f .turn) k out le)
-
-  stays : (k : Call) (n p : ℕ) → (n ≡ 0 → ⊥) → Goal k (refused r d n p)
-  stays k n p z = record { sound = rw (ne-eqb n 0 z) ok; here-then = rw (ne-eqb n 0 z) here; there-then = rw (ne-eqb n 0 z) there }
-
-  stopped : (k : Call) (rows : List Row) → without 0 rows ≡ true → (n : ℕ) → FirstFails n rows → Goal k (refused r d n 0)
-  stopped k rows z n g = stays k n 0 (fails-other 0 rows n z g)
-
-  -- the other end's log begins as before
-  more-there : (ms : List (List ℕ)) → InStep (f .turn) lf (le ++ ms)
-  more-there ms = record {
-    shared = there .shared;
-    own = there .own;
-    beyond = there .beyond ++ ms;
-    parts = there .parts;
-    written = there .written;
-    begins = ap (λ (l : List (List ℕ)). l ++ ms) (there .begins) ∙ append-assoc (there .shared) (there .beyond) ms;
-  }
-
+-- a message, written in any record inside its limits that counts its log: `said` is the end's turn so far
+module _ (r : Record) (d said : List ℕ) (le lf : List (List ℕ)) (ok : Sound r d le) (here : InStep said le lf) where
   used-inside : r .used ≤ length d
   used-inside = let a = ok .used in let b = ap length (ok .transcript) in omega (arith, length-take (r .used) d)
 
-  -- a message, written
   record Wrote (position : ℕ) (x : List ℕ) (w : WrittenAs) : Type 0 where
     sound : Sound (wrote r position (length x) w) (put d (r .used) x) (le ++ (x ∷ []))
-    turn : InStep (e .turn ++ x) (le ++ (x ∷ [])) lf
+    turn : InStep (said ++ x) (le ++ (x ∷ [])) lf
 
   writes-message : (kind position : ℕ) (c : Contents) (w : WrittenAs) → Whole c → below (r .count) (w .marks) ≡ true → below (r .count) (w .told) ≡ true → leb (r .used + length (messageOf r kind c)) (room d) ≡ true → Wrote position (messageOf r kind c) w
   writes-message kind position c w ids marks told fit =
@@ -136,6 +116,37 @@ module _ (e f : End) (le lf : List (List ℕ)) (ok : Sound (e .record-of) (e .tr
         };
       }
 
+-- 2. a call at the end e, beside the end f
+
+module _ (e f : End) (le lf : List (List ℕ)) (ok : Sound (e .record-of) (e .transcript) le) (ok′ : Sound (f .record-of) (f .transcript) lf) (here : InStep (e .turn) le lf) (there : InStep (f .turn) lf le) where
+  abbrev r : Record
+  r = e .record-of
+
+  abbrev d : List ℕ
+  d = e .transcript
+
+  record Goal (k : Call) (out : Outcome) : Type 0 where
+    sound : Sound (out .answer .next) (out .transcript) (logged e (f .turn) k out le)
+    here-then : InStep (moved e k out .turn) (logged e (f .turn) k out le) lf
+    there-then : InStep (f .turn) lf (logged e (f .turn) k out le)
+
+  stays : (k : Call) (n p : ℕ) → (n ≡ 0 → ⊥) → Goal k (refused r d n p)
+  stays k n p z = record { sound = rw (ne-eqb n 0 z) ok; here-then = rw (ne-eqb n 0 z) here; there-then = rw (ne-eqb n 0 z) there }
+
+  stopped : (k : Call) (rows : List Row) → without 0 rows ≡ true → (n : ℕ) → FirstFails n rows → Goal k (refused r d n 0)
+  stopped k rows z n g = stays k n 0 (fails-other 0 rows n z g)
+
+  -- the other end's log begins as before
+  more-there : (ms : List (List ℕ)) → InStep (f .turn) lf (le ++ ms)
+  more-there ms = record {
+    shared = there .shared;
+    own = there .own;
+    beyond = there .beyond ++ ms;
+    parts = there .parts;
+    written = there .written;
+    begins = ap (λ (l : List (List ℕ)). l ++ ms) (there .begins) ∙ append-assoc (there .shared) (there .beyond) ms;
+  }
+
   -- what a writer's table has to give
   record Given (c : Contents) (w : WrittenAs) : Type 0 where
     whole : Whole c
@@ -152,7 +163,7 @@ module _ (e f : End) (le lf : List (List ℕ)) (ok : Sound (e .record-of) (e .tr
       decide-out (Goal k) table r d (appended r d (placeAfter r kind) (messageOf r kind c) w) (stopped k table z)
       (λ g.
       let v = given g in
-      let a = writes-message kind (placeAfter r kind) c w (v .whole) (v .marks) (v .told) (true-behind (stageRows r kind ++ rows) (fits r d (length (messageOf r kind c))) [] g) in
+      let a = writes-message r d (e .turn) le lf ok here kind (placeAfter r kind) c w (v .whole) (v .marks) (v .told) (true-behind (stageRows r kind ++ rows) (fits r d (length (messageOf r kind c))) [] g) in
       record { sound = rw adds (a .sound); here-then = rw (adds, turns) (a .turn); there-then = rw adds (more-there (messageOf r kind c ∷ [])) })
 
   -- marks and told as they were
@@ -179,7 +190,7 @@ module _ (e f : End) (le lf : List (List ℕ)) (ok : Sound (e .record-of) (e .tr
       decide-out (Goal (reply m random)) (before ++ (row 19 (below (r .count) m) ∷ last)) r d (naming l (appended r d (placeAfter r NEGO) x w))
       (stopped (reply m random) (before ++ (row 19 (below (r .count) m) ∷ last)) refl)
       (λ g.
-      let a = writes-message NEGO (placeAfter r NEGO) (ofNego (record { random = random .0; schemes = joinIds l })) w (random .1) (true-behind before (row 19 (below (r .count) m)) last g) told-here
+      let a = writes-message r d (e .turn) le lf ok here NEGO (placeAfter r NEGO) (ofNego (record { random = random .0; schemes = joinIds l })) w (random .1) (true-behind before (row 19 (below (r .count) m)) last g) told-here
       (true-behind (before ++ (row 19 (below (r .count) m) ∷ row 17 (someLeft l) ∷ [])) (fits r d (length x)) [] g) in
       record { sound = a .sound; here-then = a .turn; there-then = more-there (x ∷ []) })
 
@@ -198,25 +209,15 @@ module _ (e f : End) (le lf : List (List ℕ)) (ok : Sound (e .record-of) (e .tr
   now-whole : (kind : ℕ) (more : List Row) → AllTrue (stageRows r kind ++ (row 15 (schemeAllowed r) ∷ more)) → length (schemeAt r (schemeNow r)) ≡ 16
   now-whole kind more g = ok .ids (schemeNow r) (now-below r (true-behind (stageRows r kind) (row 15 (schemeAllowed r)) more g))
 
-  exchanges : (value : List ℕ) → Goal (exchange value) (writingExchange r d value)
-  unfolding writingExchange
-  exchanges value =
-      writes-call (exchange value) EXCHANGE (namedRows r) (ofExchange (record { scheme = schemeAt r (schemeNow r); value = value }))
-      (record { marks = r .marks; told = r .told; asked = askedBy r; verified = r .verified }) refl refl refl
-      (λ g. record { whole = now-whole EXCHANGE (fits r d (length (exchangeMessage r value)) ∷ []) g; marks = marks-here; told = told-here })
-
-  verifies : (type : ℤ) (value : List ℕ) → Goal (verify type value) (writingVerify r d type value)
-  unfolding writingVerify
-  verifies type value =
-      writes-call (verify type value) VERIFY (namedRows r) (ofVerify (record { scheme = schemeAt r (schemeNow r); type = type; value = value }))
-      (record { marks = r .marks; told = r .told; asked = r .asked; verified = true }) refl refl refl
-      (λ g. record { whole = now-whole VERIFY (fits r d (length (verifyMessage r type value)) ∷ []) g; marks = marks-here; told = told-here })
-
-  alerts : (code : ℤ) → Goal (alert code) (writingAlert r d code)
-  unfolding writingAlert
-  alerts code =
-      writes-call (alert code) ALERT (namedRows r) (ofAlert (record { scheme = schemeAt r (schemeNow r); code = code })) (unchanged r) refl refl refl
-      (λ g. record { whole = now-whole ALERT (fits r d (length (alertMessage r code)) ∷ []) g; marks = marks-here; told = told-here })
+  speaks : (s : Speech) → Goal (speak s) (speaking r d s)
+  unfolding speaking
+  speaks s =
+      writes-call (speak s) (kindIn s) (namedRows r) (contentsIn (schemeAt r (schemeNow r)) s) (spokenAs r s) refl refl refl
+      (λ g. record {
+        whole = whole-speech s (schemeAt r (schemeNow r)) (now-whole (kindIn s) (fits r d (length (spoken r s)) ∷ []) g);
+        marks = subst (λ (m : ℕ). below (r .count) m ≡ true) (sym (spoken-marks r s .0)) marks-here;
+        told = subst (λ (m : ℕ). below (r .count) m ≡ true) (sym (spoken-marks r s .1)) told-here;
+      })
 
   -- 3. a token, read
 
@@ -270,7 +271,7 @@ module _ (e f : End) (le lf : List (List ℕ)) (ok : Sound (e .record-of) (e .tr
         framed = framed-more 0 le ms (ok .framed) (subst (λ (j : ℕ). FramedFrom j ms) q (k .framed));
         used = let z = length-append (join le) (join ms) in let y = ap length (join-append le ms) in omega arith;
         sequence = let z = length-append le ms in omega arith;
-        transcript = put-end d (r .used) t used-inside ∙ ap (λ (l : List ℕ). l ++ t) (ok .transcript) ∙ ap (λ (l : List ℕ). join le ++ l) (sym (k .joins)) ∙ sym (join-append le ms);
+        transcript = put-end d (r .used) t (used-inside r d (e .turn) le lf ok here) ∙ ap (λ (l : List ℕ). l ++ t) (ok .transcript) ∙ ap (λ (l : List ℕ). join le ++ l) (sym (k .joins)) ∙ sym (join-append le ms);
       }
 
   -- behind it, the two logs are the same
@@ -326,9 +327,7 @@ module _ (e f : End) (le lf : List (List ℕ)) (ok : Sound (e .record-of) (e .tr
   goal (offer random) = offers random
   goal (reply m random) = replies m random
   goal (metadata id value) = tells id value
-  goal (exchange value) = exchanges value
-  goal (verify type value) = verifies type value
-  goal (alert code) = alerts code
+  goal (speak s) = speaks s
   goal read = reading-call
   goal (choose m) = chooses m
 
@@ -351,11 +350,6 @@ both-next w l b true k =
 both-behind : (w : World) (l : Logs) → Both w l → (cs : List (Bool × Call)) → Both (ends w cs) (logsBehind w l cs)
 both-behind w l b [] = b
 both-behind w l b (c ∷ cs) = both-behind (next w (c .0) (c .1)) (nextLogs w (c .0) (c .1) l) (both-next w l b (c .0) (c .1)) cs
-
-sized-at : (l : List Id) → ((s : Id) → List·Memᴰ s l → length s ≡ 16) → (k : ℕ) → k < length l → length (getD l k []) ≡ 16
-sized-at [] h k low = absurd (omega arith)
-sized-at (x ∷ l) h zero low = h x (List·Memᴰ·head refl)
-sized-at (x ∷ l) h (suc k) low = sized-at l (λ s m. h s (List·Memᴰ·tail m)) k (omega arith)
 
 -- a fresh record
 sound-fresh : (a : Bool) (l : List Id) (v d : List ℕ) → ((s : Id) → List·Memᴰ s l → length s ≡ 16) → oneTo16 l ≡ true → length v ≡ 16 → Sound (fresh a (joinIds l) v) d []
@@ -403,8 +397,8 @@ pub every-run : EveryRun
 every-run o cs =
     let b = both-behind (world o) (record { i = []; a = [] })
     (record {
-      i = sound-fresh false (o .initiator) (o .conversation .0) (o .initiator-buffer) (o .initiator-sized) (o .initiator-ok) (o .conversation .1);
-      a = sound-fresh true (o .acceptor) zeroId (o .acceptor-buffer) (o .acceptor-sized) (o .acceptor-ok) refl;
+      i = sound-fresh false (o .initiator) (o .conversation .0) (o .initiator-buffer) (each-whole (o .initiator) (o .initiator-whole)) (o .initiator-ok) (o .conversation .1);
+      a = sound-fresh true (o .acceptor) zeroId (o .acceptor-buffer) (each-whole (o .acceptor) (o .acceptor-whole)) (o .acceptor-ok) refl;
       i-steps = record { shared = []; own = []; beyond = []; parts = refl; written = refl; begins = refl };
       a-steps = record { shared = []; own = []; beyond = []; parts = refl; written = refl; begins = refl };
     }) cs in

@@ -1,18 +1,17 @@
 -- Calls that each end has accepted at most once in a run: the one with marks, so that "its end's accepted call" names one, and the VERIFY.
 -- Assumes nothing.
 use Prim.Native.Nat.{ℕ, _+_, _≤_}
-use mathlib.Core.Path.{_≡_, refl, sym, ap, subst, _∙_}
-use mathlib.Core.Bool.{Bool, true, false, not}
+use mathlib.Core.Path.{_≡_, refl, sym, subst, _∙_}
+use mathlib.Core.Bool.{Bool, true, false, not, _&&_}
 use mathlib.Core.Logic.{_⊎_, inl, inr}
-use mathlib.Core.List.{List, [], _∷_, _++_, List·Memᴰ, List·Memᴰ·cases-cons, List·Memᴰ·not-nil}
-use mathlib.Core.Option.{none, some, Option·some-ne-none, Option·some-injective}
+use mathlib.Core.List.{List, [], _∷_, _++_, List·Memᴰ, List·Memᴰ·head, List·Memᴰ·tail, List·Memᴰ·cases-cons, List·Memᴰ·not-nil}
 use native.Mathlib.Omega.{arith}
 use lib.ListN.{length}
 use lib.Dec.{eqb, leb}
-use borrow.Author.Tests.{eqb-true, ne-eqb}
-use Rattle.octets.proofs.Bools.{which, no-true, and-r}
+use borrow.Author.Tests.{eqb-true, ne-eqb, not-true}
+use Rattle.octets.proofs.Bools.{which, no-true, and-l, and-r}
 use Rattle.message.specs.Check.{Row, FirstFails}
-use Rattle.schemes.specs.Lists.{Id}
+use Rattle.schemes.specs.Lists.{Id, keep}
 use Rattle.schemes.specs.Sets.{left, named, below}
 use Rattle.conversation.specs.declared.Record.{Record}
 use Rattle.conversation.specs.declared.Answer.{Answer}
@@ -20,10 +19,11 @@ use Rattle.conversation.specs.declared.Scan.{Scan}
 use Rattle.conversation.specs.State.{ownOf, limitRows}
 use Rattle.conversation.specs.Turns.{NEGO, METADATA, EXCHANGE, VERIFY, ALERT, writing, reading, after, writes, placeAfter, mayWrite}
 use Rattle.conversation.specs.Outcomes.{Outcome, answered, refused, decide, row, room, fits, WrittenAs, appended, wrote}
-use Rattle.conversation.specs.Writing.{stageRows, thenFits, offered, offerRows, offering, someLeft, replyMessage, replyRows, naming, replying, metadataMessage, metadataRows, writingMetadata, namedRows, exchangeMessage, writingExchange, verifyMessage, writingVerify, alertMessage, writingAlert}
+use Rattle.conversation.specs.Writing.{stageRows, thenFits, offered, offerRows, offering, someLeft, replyMessage, replyRows, naming, replying, metadataMessage, metadataRows, writingMetadata, namedRows, speaking, spoken, Speech, request, checksum, alarm, kindIn, spokenAs}
 use Rattle.conversation.specs.Reading.{Judged, whole, halted, judged, taken, finish, tokenRows, readingToken}
 use Rattle.conversation.specs.Choosing.{openTo, mayChoose, choiceRows, chose, choosing}
-use Rattle.conversation.specs.Runs.{Sized, Call, offer, reply, metadata, exchange, verify, alert, read, choose, End, act, Opening, World, world, outcomeAt, next, Entry, run, marksIn, isAccepted}
+use Rattle.conversation.specs.Runs.{Sized, Call, offer, reply, metadata, speak, read, choose, End, act, Opening, World, world, outcomeAt, next, Entry, run, isAccepted}
+use Rattle.conversation.specs.Claims.{atEnd, acceptedAt, withMarks, isVerify, MarksOnce, VerifyOnce}
 use Rattle.conversation.proofs.Rows.{decide-out, without, fails-other, true-behind}
 use Rattle.conversation.proofs.Goals.{positive, nego-start}
 use Rattle.conversation.proofs.Tokens.{judged-number}
@@ -35,21 +35,11 @@ abbrev Spent : Bool → Record → Type 0
 Spent true r = ((r .stage ≡ 1) × (1 ≤ r .position)) ⊎ (r .stage ≡ 3)
 Spent false r = r .stage ≡ 3
 
-abbrev WithMarks : Call → Type 0
-WithMarks (offer random) = ⊥
-WithMarks (reply m random) = Unit {0}
-WithMarks (metadata id value) = ⊥
-WithMarks (exchange value) = ⊥
-WithMarks (verify type value) = ⊥
-WithMarks (alert code) = ⊥
-WithMarks read = ⊥
-WithMarks (choose m) = Unit {0}
-
 -- behind the call k at an end of the role x: the role is kept, what is spent stays so, and an accepted call with marks spends
 record Behind (x : Bool) (r : Record) (k : Call) (a : Answer) : Type 0 where
   role : a .next .acceptor ≡ x
   stays : Spent x r → Spent x (a .next)
-  spends : WithMarks k → isAccepted a ≡ true → (Spent x r → ⊥) × Spent x (a .next)
+  spends : withMarks k ≡ true → isAccepted a ≡ true → (Spent x r → ⊥) × Spent x (a .next)
 
 -- the acceptor writes its NEGO at stage 1 only
 reply-stage : (stage : ℕ) → leb (writing true stage) 1 ≡ true → stage ≡ 1
@@ -75,14 +65,14 @@ module _ (x : Bool) (r : Record) (d : List ℕ) (role : r .acceptor ≡ x) where
   wrote-stays true kind n w h (inr s) = inr s
   wrote-stays false kind n w h s = s
 
-  write : (k : Call) (kind : ℕ) (rows : List Row) (m : List ℕ) (w : WrittenAs) → (WithMarks k → ⊥) → without 0 (thenFits rows r d m) ≡ true → Goes k (decide (stageRows r kind ++ thenFits rows r d m) r d (appended r d (placeAfter r kind) m w))
+  write : (k : Call) (kind : ℕ) (rows : List Row) (m : List ℕ) (w : WrittenAs) → withMarks k ≡ false → without 0 (thenFits rows r d m) ≡ true → Goes k (decide (stageRows r kind ++ thenFits rows r d m) r d (appended r d (placeAfter r kind) m w))
   write k kind rows m w plain z =
       let table : List Row = stageRows r kind ++ thenFits rows r d m in
       decide-out (Goes k) table r d (appended r d (placeAfter r kind) m w) (stopped k table z)
       (λ g. record {
         role = role;
         stays = wrote-stays x kind (length m) w (true-behind (limitRows r) (row 18 (mayWrite r kind)) (thenFits rows r d m) g);
-        spends = λ m a. absurd (plain m);
+        spends = λ m a. no-true (sym plain ∙ m);
       })
 
   replied : (b : Bool) → r .acceptor ≡ b → r .acceptor ≡ true → mayWrite r NEGO ≡ true → (n : ℕ) (w : WrittenAs) → (Spent b r → ⊥) × Spent b (wrote r (placeAfter r NEGO) n w)
@@ -141,28 +131,22 @@ module _ (x : Bool) (r : Record) (d : List ℕ) (role : r .acceptor ≡ x) where
         token : (j : Judged) → judged r t ≡ j → Goes read (finish r d t j)
         token (halted n p) w = unfold finish in refusal read n p (judged-number r t n p w .0)
         token (whole n c) w = unfold finish in elim (which (leb (r .used + length t) (room d))) [
-          | inl b ↦ rw b (record { role = role; stays = taken-stays x role t n c; spends = λ m a. absurd m })
+          | inl b ↦ rw b (record { role = role; stays = taken-stays x role t n c; spends = λ m a. no-true m })
           | inr b ↦ rw b (refusal read 16 0 (λ z. omega arith))
         ]
 
 behind : (x : Bool) (e : End) (peer : List ℕ) (k : Call) → e .record-of .acceptor ≡ x → Behind x (e .record-of) k (act e peer k .answer)
-unfolding act offering writingMetadata writingExchange writingVerify writingAlert
+unfolding act offering writingMetadata speaking
 behind x e peer (offer random) h =
     write x (e .record-of) (e .transcript) h (offer random) NEGO
-    (offerRows (e .record-of)) (offered (e .record-of) (random .0)) _ (λ m. m) refl
+    (offerRows (e .record-of)) (offered (e .record-of) (random .0)) _ refl refl
 behind x e peer (reply m random) h = write-reply x (e .record-of) (e .transcript) h m random
 behind x e peer (metadata id value) h =
     write x (e .record-of) (e .transcript) h (metadata id value) METADATA
-    (metadataRows (e .record-of) (id .0) (length value)) (metadataMessage (e .record-of) (id .0) value) _ (λ m. m) refl
-behind x e peer (exchange value) h =
-    write x (e .record-of) (e .transcript) h (exchange value) EXCHANGE
-    (namedRows (e .record-of)) (exchangeMessage (e .record-of) value) _ (λ m. m) refl
-behind x e peer (verify type value) h =
-    write x (e .record-of) (e .transcript) h (verify type value) VERIFY
-    (namedRows (e .record-of)) (verifyMessage (e .record-of) type value) _ (λ m. m) refl
-behind x e peer (alert code) h =
-    write x (e .record-of) (e .transcript) h (alert code) ALERT
-    (namedRows (e .record-of)) (alertMessage (e .record-of) code) _ (λ m. m) refl
+    (metadataRows (e .record-of) (id .0) (length value)) (metadataMessage (e .record-of) (id .0) value) _ refl refl
+behind x e peer (speak s) h =
+    write x (e .record-of) (e .transcript) h (speak s) (kindIn s)
+    (namedRows (e .record-of)) (spoken (e .record-of) s) (spokenAs (e .record-of) s) refl refl
 behind x e peer read h = read-goes x (e .record-of) (e .transcript) h peer
 behind x e peer (choose m) h = choose-goes x (e .record-of) (e .transcript) h m
 
@@ -180,15 +164,13 @@ roles-kept : (w : World) (y : Bool) (k : Call) → Roles w → Roles (next w y k
 roles-kept w false k h = (behind false (w .i) (w .a .turn) k (h .0) .role, h .1)
 roles-kept w true k h = (h .0, behind true (w .a) (w .i .turn) k (h .1) .role)
 
--- an accepted call of a sort at the end x
-pub record At (Sort : Call → Type 0) (x : Bool) (y : Entry) : Type 0 where
-  pub end : y .acceptor ≡ x
-  pub sort : Sort (y .call)
-  pub accepted : isAccepted (y .said) ≡ true
+at-end : (x : Bool) (y : Entry) → atEnd x y ≡ true → y .acceptor ≡ x
+at-end true y e = e
+at-end false y e = not-true (y .acceptor) e
 
-module _ (Gone : Bool → Record → Type 0) (Sort : Call → Type 0)
+module _ (Gone : Bool → Record → Type 0) (sort : Call → Bool)
     (stays : (x : Bool) (e : End) (peer : List ℕ) (k : Call) → e .record-of .acceptor ≡ x → Gone x (e .record-of) → Gone x (act e peer k .answer .next))
-    (spends : (x : Bool) (e : End) (peer : List ℕ) (k : Call) → e .record-of .acceptor ≡ x → Sort k → isAccepted (act e peer k .answer) ≡ true → (Gone x (e .record-of) → ⊥) × Gone x (act e peer k .answer .next)) where
+    (spends : (x : Bool) (e : End) (peer : List ℕ) (k : Call) → e .record-of .acceptor ≡ x → sort k ≡ true → isAccepted (act e peer k .answer) ≡ true → (Gone x (e .record-of) → ⊥) × Gone x (act e peer k .answer .next)) where
   -- what is gone at the end x stays so, whichever end the call is at
   gone-kept : (w : World) (x y : Bool) (k : Call) → Roles w → Gone x (endOf x w .record-of) → Gone x (endOf x (next w y k) .record-of)
   gone-kept w false false k h s = stays false (w .i) (w .a .turn) k (h .0) s
@@ -196,82 +178,64 @@ module _ (Gone : Bool → Record → Type 0) (Sort : Call → Type 0)
   gone-kept w true false k h s = s
   gone-kept w true true k h s = stays true (w .a) (w .i .turn) k (h .1) s
 
-  spends-at : (w : World) (x : Bool) (k : Call) → Roles w → Sort k → isAccepted (outcomeAt w x k .answer) ≡ true → (Gone x (endOf x w .record-of) → ⊥) × Gone x (endOf x (next w x k) .record-of)
+  spends-at : (w : World) (x : Bool) (k : Call) → Roles w → sort k ≡ true → isAccepted (outcomeAt w x k .answer) ≡ true → (Gone x (endOf x w .record-of) → ⊥) × Gone x (endOf x (next w x k) .record-of)
   spends-at w false k h c a = spends false (w .i) (w .a .turn) k (h .0) c a
   spends-at w true k h c a = spends true (w .a) (w .i .turn) k (h .1) c a
 
-  -- none behind one
-  none-behind : (x : Bool) (w : World) (cs : List (Bool × Call)) → Roles w → Gone x (endOf x w .record-of) → (y : Entry) → List·Memᴰ y (run w cs) → At Sort x y → ⊥
-  none-behind x w [] h s y i k = List·Memᴰ·not-nil i
-  none-behind x w (c ∷ cs) h s y i k = elim (List·Memᴰ·cases-cons i) [
-    | inl e ↦
-        let k′ : At Sort x (record { acceptor = c .0; call = c .1; said = outcomeAt w (c .0) (c .1) .answer }) = subst (λ (z : Entry). At Sort x z) e k in
-        spends-at w (c .0) (c .1) h (k′ .sort) (k′ .accepted) .0 (subst (λ (z : Bool). Gone z (endOf z w .record-of)) (sym (k′ .end)) s)
-    | inr i′ ↦ none-behind x (next w (c .0) (c .1)) cs (roles-kept w (c .0) (c .1) h) (gone-kept w x (c .0) (c .1) h s) y i′ k
+  -- the first call of a list, where it is one of them: not before, and then gone
+  first-spends : (x : Bool) (w : World) (y : Bool) (k : Call) → Roles w → acceptedAt x sort (record { acceptor = y; call = k; said = outcomeAt w y k .answer }) ≡ true
+      → (Gone x (endOf x w .record-of) → ⊥) × Gone x (endOf x (next w y k) .record-of)
+  first-spends x w y k h e =
+      let first : Entry = record { acceptor = y; call = k; said = outcomeAt w y k .answer } in
+      let rest = and-r (atEnd x first) (isAccepted (first .said) && sort k) e in
+      let g = spends-at w y k h (and-r (isAccepted (first .said)) (sort k) rest) (and-l (isAccepted (first .said)) (sort k) rest) in
+      subst (λ (z : Bool). (Gone z (endOf z w .record-of) → ⊥) × Gone z (endOf z (next w y k) .record-of)) (at-end x first (and-l (atEnd x first) (isAccepted (first .said) && sort k) e)) g
+
+  none-behind : (x : Bool) (w : World) (cs : List (Bool × Call)) → Roles w → Gone x (endOf x w .record-of) → keep (acceptedAt x sort) (run w cs) ≡ []
+  none-behind x w [] h s = refl
+  none-behind x w (c ∷ cs) h s = elim (which (acceptedAt x sort (record { acceptor = c .0; call = c .1; said = outcomeAt w (c .0) (c .1) .answer }))) [
+    | inl e ↦ absurd (first-spends x w (c .0) (c .1) h e .0 s)
+    | inr e ↦ rw e (none-behind x (next w (c .0) (c .1)) cs (roles-kept w (c .0) (c .1) h) (gone-kept w x (c .0) (c .1) h s))
   ]
 
-  once : (x : Bool) (w : World) (cs : List (Bool × Call)) → Roles w → (y z : Entry) → List·Memᴰ y (run w cs) → List·Memᴰ z (run w cs) → At Sort x y → At Sort x z → y ≡ z
-  once x w [] h y z i j k l = absurd (List·Memᴰ·not-nil i)
-  once x w (c ∷ cs) h y z i j k l = go (List·Memᴰ·cases-cons i) (List·Memᴰ·cases-cons j) (λ i′ j′. once x (next w (c .0) (c .1)) cs (roles-kept w (c .0) (c .1) h) y z i′ j′ k l) where
-    first : Entry
-    first = record { acceptor = c .0; call = c .1; said = outcomeAt w (c .0) (c .1) .answer }
+  once : (x : Bool) (w : World) (cs : List (Bool × Call)) → Roles w → length (keep (acceptedAt x sort) (run w cs)) ≤ 1
+  once x w [] h = omega arith
+  once x w (c ∷ cs) h =
+      let roles = roles-kept w (c .0) (c .1) h in
+      elim (which (acceptedAt x sort (record { acceptor = c .0; call = c .1; said = outcomeAt w (c .0) (c .1) .answer }))) [
+        | inl e ↦ rw (e, none-behind x (next w (c .0) (c .1)) cs roles (first-spends x w (c .0) (c .1) h e .1)) (omega arith)
+        | inr e ↦ rw e (once x (next w (c .0) (c .1)) cs roles)
+      ]
 
-    rest : List Entry
-    rest = run (next w (c .0) (c .1)) cs
+-- 3. an end's accepted call with marks is one
 
-    gone : (u : Entry) → u ≡ first → At Sort x u → Gone x (endOf x (next w (c .0) (c .1)) .record-of)
-    gone u e a =
-        let a′ : At Sort x first = subst (λ (v : Entry). At Sort x v) e a in
-        subst (λ (v : Bool). Gone v (endOf v (next w (c .0) (c .1)) .record-of)) (a′ .end) (spends-at w (c .0) (c .1) h (a′ .sort) (a′ .accepted) .1)
+pub marks-once : MarksOnce
+marks-once o cs x =
+    once Spent withMarks (λ b e p c h. behind b e p c h .stays) (λ b e p c h. behind b e p c h .spends) x (world o) cs (refl, refl)
 
-    none : (u v : Entry) → u ≡ first → At Sort x u → List·Memᴰ v rest → At Sort x v → ⊥
-    none u v e a m b = none-behind x (next w (c .0) (c .1)) cs (roles-kept w (c .0) (c .1) h) (gone u e a) v m b
+-- two that are kept, where at most one is, are the same
+kept-in : {A : Type 0} (p : A → Bool) (l : List A) (y : A) → List·Memᴰ y l → p y ≡ true → List·Memᴰ y (keep p l)
+kept-in p [] y m h = absurd (List·Memᴰ·not-nil m)
+kept-in p (x ∷ l) y m h = elim (List·Memᴰ·cases-cons m) [
+  | inl e ↦ let k : p x ≡ true = subst (λ z. p z ≡ true) e h in rw k (List·Memᴰ·head e)
+  | inr i ↦ elim (which (p x)) [ inl k ↦ rw k (List·Memᴰ·tail (kept-in p l y i h)) | inr k ↦ rw k (kept-in p l y i h) ]
+]
 
-    go : (y ≡ first) ⊎ List·Memᴰ y rest → (z ≡ first) ⊎ List·Memᴰ z rest → (List·Memᴰ y rest → List·Memᴰ z rest → y ≡ z) → y ≡ z
-    go (inl e) (inl f) later = e ∙ sym f
-    go (inl e) (inr j′) later = absurd (none y z e k j′ l)
-    go (inr i′) (inl f) later = absurd (none z y f l i′ k)
-    go (inr i′) (inr j′) later = later i′ j′
+only : {A : Type 0} (a u : A) → List·Memᴰ u (a ∷ []) → u ≡ a
+only a u m = elim (List·Memᴰ·cases-cons m) [ inl e ↦ e | inr i ↦ absurd (List·Memᴰ·not-nil i) ]
 
--- 3. an end's accepted call with marks is one, and its marks are one set
+same-one : {A : Type 0} (l : List A) (y z : A) → length l ≤ 1 → List·Memᴰ y l → List·Memᴰ z l → y ≡ z
+same-one [] y z n i j = absurd (List·Memᴰ·not-nil i)
+same-one (a ∷ []) y z n i j = only a y i ∙ sym (only a z j)
+same-one (a ∷ b ∷ l) y z n i j = absurd (omega arith)
 
-with-marks : (k : Call) (m : ℕ) → marksIn k ≡ some m → WithMarks k
-with-marks (offer random) m e = Option·some-ne-none m (sym e)
-with-marks (reply n random) m e = tt
-with-marks (metadata id value) m e = Option·some-ne-none m (sym e)
-with-marks (exchange value) m e = Option·some-ne-none m (sym e)
-with-marks (verify type value) m e = Option·some-ne-none m (sym e)
-with-marks (alert code) m e = Option·some-ne-none m (sym e)
-with-marks read m e = Option·some-ne-none m (sym e)
-with-marks (choose n) m e = tt
-
--- an accepted call with the marks m at the end x
-pub record Marking (x : Bool) (y : Entry) (m : ℕ) : Type 0 where
-  pub at : y .acceptor ≡ x
-  pub marks : marksIn (y .call) ≡ some m
-  pub accepted : isAccepted (y .said) ≡ true
-
-pub marks-once : (o : Opening) (cs : List (Bool × Call)) (x : Bool) (y z : Entry) (m n : ℕ) → List·Memᴰ y (run (world o) cs) → List·Memᴰ z (run (world o) cs) → Marking x y m → Marking x z n → (y ≡ z) × (m ≡ n)
-marks-once o cs x y z m n i j k l =
-    let e = once Spent WithMarks (λ b e p c h. behind b e p c h .stays) (λ b e p c h. behind b e p c h .spends) x (world o) cs (refl, refl) y z i j
-    (record { end = k .at; sort = with-marks (y .call) m (k .marks); accepted = k .accepted })
-    (record { end = l .at; sort = with-marks (z .call) n (l .marks); accepted = l .accepted }) in
-    (e, Option·some-injective m n (sym (k .marks) ∙ ap (λ (u : Entry). marksIn (u .call)) e ∙ l .marks))
+pub same-kept : {A : Type 0} (p : A → Bool) (l : List A) (y z : A) → length (keep p l) ≤ 1 → List·Memᴰ y l → List·Memᴰ z l → p y ≡ true → p z ≡ true → y ≡ z
+same-kept p l y z n i j g h = same-one (keep p l) y z n (kept-in p l y i g) (kept-in p l z j h)
 
 -- 4. "Each end sends at most one VERIFY in a conversation."
 
 abbrev Verified : Bool → Record → Type 0
 Verified x r = r .verified ≡ true
-
-abbrev pub IsVerify : Call → Type 0
-IsVerify (offer random) = ⊥
-IsVerify (reply m random) = ⊥
-IsVerify (metadata id value) = ⊥
-IsVerify (exchange value) = ⊥
-IsVerify (verify type value) = Unit {0}
-IsVerify (alert code) = ⊥
-IsVerify read = ⊥
-IsVerify (choose m) = ⊥
 
 module _ (e : End) (peer : List ℕ) where
   abbrev r : Record
@@ -289,25 +253,35 @@ module _ (e : End) (peer : List ℕ) where
   finish-verified (halted n p) h = h
   finish-verified (whole n c) h = elim (which (leb (r .used + length peer) (room d))) [ inl b ↦ rw b h | inr b ↦ rw b h ]
 
+  still-verified : (q : Record) (s : Speech) → q .verified ≡ true → spokenAs q s .verified ≡ true
+  still-verified q (request value) h = h
+  still-verified q (checksum type value) h = refl
+  still-verified q (alarm code) h = h
+
   verified-stays : (k : Call) → r .verified ≡ true → act e peer k .answer .next .verified ≡ true
-  unfolding act offering replying writingMetadata writingExchange writingVerify writingAlert readingToken choosing
+  unfolding act offering replying writingMetadata speaking readingToken choosing
   verified-stays (offer random) h = marked-behind (stageRows r NEGO ++ thenFits (offerRows r) r d (offered r (random .0))) _ h h
   verified-stays (reply m random) h = marked-behind (stageRows r NEGO ++ thenFits (replyRows r m) r d (replyMessage r m (random .0))) _ h h
   verified-stays (metadata id value) h = marked-behind (stageRows r METADATA ++ thenFits (metadataRows r (id .0) (length value)) r d (metadataMessage r (id .0) value)) _ h h
-  verified-stays (exchange value) h = marked-behind (stageRows r EXCHANGE ++ thenFits (namedRows r) r d (exchangeMessage r value)) _ h h
-  verified-stays (verify type value) h = marked-behind (stageRows r VERIFY ++ thenFits (namedRows r) r d (verifyMessage r type value)) _ h refl
-  verified-stays (alert code) h = marked-behind (stageRows r ALERT ++ thenFits (namedRows r) r d (alertMessage r code)) _ h h
+  verified-stays (speak s) h = marked-behind (stageRows r (kindIn s) ++ thenFits (namedRows r) r d (spoken r s)) _ h (still-verified r s h)
   verified-stays read h = marked-behind (limitRows r ++ tokenRows r (length peer)) _ h (finish-verified (judged r peer) h)
   verified-stays (choose m) h = marked-behind (limitRows r ++ choiceRows r m) _ h h
 
   -- a VERIFY is written where none was, and is then one
-  verify-spends : (k : Call) → IsVerify k → isAccepted (act e peer k .answer) ≡ true → (r .verified ≡ true → ⊥) × (act e peer k .answer .next .verified ≡ true)
-  unfolding act writingVerify after
-  verify-spends (verify type value) s =
-      decide-out (λ out. isAccepted (out .answer) ≡ true → (r .verified ≡ true → ⊥) × (out .answer .next .verified ≡ true)) (stageRows r VERIFY ++ thenFits (namedRows r) r d (verifyMessage r type value)) r d _
-      (λ n f a. no-true (sym (ne-eqb n 0 (fails-other 0 (stageRows r VERIFY ++ thenFits (namedRows r) r d (verifyMessage r type value)) n refl f)) ∙ a))
-      (λ g a. ((λ v. no-true (rw v at (true-behind (limitRows r) (row 18 (mayWrite r VERIFY)) (thenFits (namedRows r) r d (verifyMessage r type value)) g))), refl))
+  verify-spends : (k : Call) → isVerify k ≡ true → isAccepted (act e peer k .answer) ≡ true → (r .verified ≡ true → ⊥) × (act e peer k .answer .next .verified ≡ true)
+  unfolding act speaking after
+  verify-spends (offer random) s = no-true s
+  verify-spends (reply m random) s = no-true s
+  verify-spends (metadata id value) s = no-true s
+  verify-spends (speak (request value)) s = no-true s
+  verify-spends (speak (alarm code)) s = no-true s
+  verify-spends read s = no-true s
+  verify-spends (choose m) s = no-true s
+  verify-spends (speak (checksum type value)) s =
+      decide-out (λ out. isAccepted (out .answer) ≡ true → (r .verified ≡ true → ⊥) × (out .answer .next .verified ≡ true)) (stageRows r VERIFY ++ thenFits (namedRows r) r d (spoken r (checksum type value))) r d _
+      (λ n f a. no-true (sym (ne-eqb n 0 (fails-other 0 (stageRows r VERIFY ++ thenFits (namedRows r) r d (spoken r (checksum type value))) n refl f)) ∙ a))
+      (λ g a. ((λ v. no-true (rw v at (true-behind (limitRows r) (row 18 (mayWrite r VERIFY)) (thenFits (namedRows r) r d (spoken r (checksum type value))) g))), refl))
 
-pub verify-once : (o : Opening) (cs : List (Bool × Call)) (x : Bool) (y z : Entry) → List·Memᴰ y (run (world o) cs) → List·Memᴰ z (run (world o) cs) → At IsVerify x y → At IsVerify x z → y ≡ z
-verify-once o cs x y z =
-    once Verified IsVerify (λ b e p c h. verified-stays e p c) (λ b e p c h. verify-spends e p c) x (world o) cs (refl, refl) y z
+pub verify-once : VerifyOnce
+verify-once o cs x =
+    once Verified isVerify (λ b e p c h. verified-stays e p c) (λ b e p c h. verify-spends e p c) x (world o) cs (refl, refl)

@@ -3,7 +3,7 @@
 use Prim.Native.Nat.{ℕ}
 use mathlib.Core.Path.{_≡_, refl, sym, ap, _∙_}
 use mathlib.Core.Bool.{Bool, true, false, cond, not, _&&_}
-use mathlib.Core.Logic.{inl, inr}
+use mathlib.Core.Logic.{_⊎_, inl, inr}
 use mathlib.Core.List.{List, [], _∷_, _++_}
 use lib.Dec.{eqb}
 use borrow.Author.Tests.{eq-eqb}
@@ -42,6 +42,12 @@ fails-one k (x ∷ xs) b ys n w v (inr f) e =
     let i = fails-one k xs b ys n (and-r (not (eqb (x .number) k)) (without k xs) w) v (f .1) e in
     ((f .0, i .0), i .1)
 
+-- the number of two tables is the first's, or the second's where the first passes
+pub fails-parts : (xs ys : List Row) (n : ℕ) → FirstFails n (xs ++ ys) → FirstFails n xs ⊎ (AllTrue xs × FirstFails n ys)
+fails-parts [] ys n f = inr (tt, f)
+fails-parts (x ∷ xs) ys n (inl f) = inl (inl f)
+fails-parts (x ∷ xs) ys n (inr f) = elim (fails-parts xs ys n (f .1)) [ inl g ↦ inl (inr (f .0, g)) | inr g ↦ inr ((f .0, g .0), g .1) ]
+
 -- what every number of the table has, the one that is given has
 abbrev pub eachNumber : (ℕ → Bool) → List Row → Bool
 eachNumber p [] = true
@@ -67,3 +73,7 @@ fails-until (y ∷ xs) x ys n e (inr f) = inr (f .0, fails-until xs x ys n e (f 
 pub front-true : (xs ys : List Row) → AllTrue (xs ++ ys) → AllTrue xs
 front-true [] ys h = tt
 front-true (x ∷ xs) ys h = (h .0, front-true xs ys (h .1))
+
+pub back-true : (xs ys : List Row) → AllTrue (xs ++ ys) → AllTrue ys
+back-true [] ys h = h
+back-true (x ∷ xs) ys h = back-true xs ys (h .1)

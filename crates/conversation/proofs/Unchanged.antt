@@ -13,15 +13,12 @@ use Rattle.schemes.specs.Sets.{left, named}
 use Rattle.conversation.specs.State.{ownOf, limitRows}
 use Rattle.conversation.specs.Turns.{NEGO, METADATA, EXCHANGE, VERIFY, ALERT, placeAfter}
 use Rattle.conversation.specs.Outcomes.{Outcome, answered, decide, room, WrittenAs, unchanged, appended}
-use Rattle.conversation.specs.Writing.{stageRows, thenFits, offered, offerRows, replyMessage, replyRows, naming, metadataMessage, metadataRows, namedRows, exchangeMessage, askedBy, verifyMessage, alertMessage, offering, replying, writingMetadata, writingExchange, writingVerify, writingAlert}
+use Rattle.conversation.specs.Writing.{stageRows, thenFits, offered, offerRows, replyMessage, replyRows, naming, metadataMessage, metadataRows, namedRows, askedBy, offering, replying, writingMetadata, speaking, spoken, kindIn, spokenAs}
 use Rattle.conversation.specs.Reading.{Judged, whole, halted, judged, finish, tokenRows, readingToken}
 use Rattle.conversation.specs.Choosing.{openTo, choiceRows, chose, choosing}
-use Rattle.conversation.specs.Runs.{Call, offer, reply, metadata, exchange, verify, alert, read, choose, End, act}
+use Rattle.conversation.specs.Runs.{Call, offer, reply, metadata, speak, read, choose, End, act}
+use Rattle.conversation.specs.Claims.{Unchanged, RefusedUnchanged}
 use Rattle.conversation.proofs.Rows.{decide-out}
-
--- "Record and lent octets are unchanged."
-abbrev pub Unchanged : Record → List ℕ → Outcome → Type 0
-Unchanged r d o = (o .answer .refusal ≡ 0 → ⊥) → (o .answer .next ≡ r) × (o .transcript ≡ d)
 
 -- a call whose action is never a refusal
 decided : (rows : List Row) (r : Record) (d : List ℕ) (action : Outcome) → Unchanged r d action → Unchanged r d (decide rows r d action)
@@ -49,26 +46,23 @@ module _ (e : End) (peer : List ℕ) where
   abbrev d : List ℕ
   d = e .transcript
 
-  pub refused-unchanged : (k : Call) → Unchanged r d (act e peer k)
-  unfolding act offering replying writingMetadata writingExchange writingVerify writingAlert readingToken choosing
-  refused-unchanged (offer random) =
+  unchanged-behind : (k : Call) → Unchanged r d (act e peer k)
+  unfolding act offering replying writingMetadata speaking readingToken choosing
+  unchanged-behind (offer random) =
       wrote-unchanged (stageRows r NEGO ++ thenFits (offerRows r) r d (offered r (random .0))) r d (placeAfter r NEGO) (offered r (random .0)) (unchanged r)
-  refused-unchanged (reply m random) =
+  unchanged-behind (reply m random) =
       named-unchanged (stageRows r NEGO ++ thenFits (replyRows r m) r d (replyMessage r m (random .0))) r d
       (left (ownOf r) (r .common) m) (appended r d (placeAfter r NEGO) (replyMessage r m (random .0)) (record { marks = m; told = r .told; asked = r .asked; verified = r .verified })) refl
-  refused-unchanged (metadata id value) =
+  unchanged-behind (metadata id value) =
       wrote-unchanged (stageRows r METADATA ++ thenFits (metadataRows r (id .0) (length value)) r d (metadataMessage r (id .0) value)) r d (placeAfter r METADATA) (metadataMessage r (id .0) value)
       (record { marks = r .marks; told = r .told + 2 ^ place (ownOf r) (id .0); asked = r .asked; verified = r .verified })
-  refused-unchanged (exchange value) =
-      wrote-unchanged (stageRows r EXCHANGE ++ thenFits (namedRows r) r d (exchangeMessage r value)) r d (placeAfter r EXCHANGE) (exchangeMessage r value)
-      (record { marks = r .marks; told = r .told; asked = askedBy r; verified = r .verified })
-  refused-unchanged (verify type value) =
-      wrote-unchanged (stageRows r VERIFY ++ thenFits (namedRows r) r d (verifyMessage r type value)) r d (placeAfter r VERIFY) (verifyMessage r type value)
-      (record { marks = r .marks; told = r .told; asked = r .asked; verified = true })
-  refused-unchanged (alert code) =
-      wrote-unchanged (stageRows r ALERT ++ thenFits (namedRows r) r d (alertMessage r code)) r d (placeAfter r ALERT) (alertMessage r code) (unchanged r)
-  refused-unchanged read =
+  unchanged-behind (speak s) =
+      wrote-unchanged (stageRows r (kindIn s) ++ thenFits (namedRows r) r d (spoken r s)) r d (placeAfter r (kindIn s)) (spoken r s) (spokenAs r s)
+  unchanged-behind read =
       decided (limitRows r ++ tokenRows r (length peer)) r d (finish r d peer (judged r peer)) (finished r d peer (judged r peer))
-  refused-unchanged (choose m) =
+  unchanged-behind (choose m) =
       named-unchanged (limitRows r ++ choiceRows r m) r d
       (named (ownOf r) (openTo r m)) (record { answer = answered 0 0 (chose r m); transcript = d }) refl
+
+pub refused-unchanged : RefusedUnchanged
+refused-unchanged e peer k = unchanged-behind e peer k

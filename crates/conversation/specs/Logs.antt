@@ -23,9 +23,9 @@ use Rattle.token.specs.Split.{join}
 use Rattle.conversation.specs.declared.Record.{Record}
 use Rattle.conversation.specs.State.{limitRows}
 use Rattle.conversation.specs.Outcomes.{Outcome}
-use Rattle.conversation.specs.Writing.{offered, replyMessage, metadataMessage, exchangeMessage, verifyMessage, alertMessage}
+use Rattle.conversation.specs.Writing.{offered, replyMessage, metadataMessage, spoken}
 use Rattle.conversation.specs.Reading.{chainFor}
-use Rattle.conversation.specs.Runs.{Call, offer, reply, metadata, exchange, verify, alert, read, choose, End, Opening, World, world, outcomeAt, next, ends, isAccepted}
+use Rattle.conversation.specs.Runs.{Call, offer, reply, metadata, speak, read, choose, End, Opening, World, world, outcomeAt, next, ends, isAccepted}
 
 unfoldable pub messagesIn : Chain → List (List ℕ)
 messagesIn end = []
@@ -37,9 +37,7 @@ abbrev pub added : End → List ℕ → Call → List (List ℕ)
 added e peer (offer random) = offered (e .record-of) (random .0) ∷ []
 added e peer (reply m random) = replyMessage (e .record-of) m (random .0) ∷ []
 added e peer (metadata id value) = metadataMessage (e .record-of) (id .0) value ∷ []
-added e peer (exchange value) = exchangeMessage (e .record-of) value ∷ []
-added e peer (verify type value) = verifyMessage (e .record-of) type value ∷ []
-added e peer (alert code) = alertMessage (e .record-of) code ∷ []
+added e peer (speak s) = spoken (e .record-of) s ∷ []
 added e peer read = messagesIn (chainFor (e .record-of) peer)
 added e peer (choose m) = []
 

@@ -10,29 +10,27 @@
 --   Opening, World   what a run starts with; the two ends; world: the two ends, fresh from opening
 --   outcomeAt, next  a call at one of two ends: its outcome, and the two ends behind it; ends: those behind a list of calls
 --   Entry, run       a call with its end and its answer; those of a list of calls
---   marksIn          the marks of a call that has some
 --   isAccepted       an answer that is no refusal
 --   isLawful         "none of 15, 16, 18, 19 applies"
---   listOf o x       the own list of an end
+--   Replied          the marks with which the acceptor's NEGO was written in a run; ChoseWith: those with which the initiator chose
 --   MarksKept        the marks of the second run are those of the first, for the schemes that both ends listed there
---   Replied          the marks with which the acceptor's NEGO was written in a run
 --   Choice           what a lawful choosing call answers behind a longer offer
+--   NotLost          what holds of a call behind a longer offer, the first run's choice being c
 --   Demand3          the demand, over any two runs
 use Prim.Native.Nat.{ℕ, _+_}
 use mathlib.Core.Path.{_≡_}
 use mathlib.Core.Bool.{Bool, true, false, cond, not, _||_}
 use mathlib.Core.List.{List, [], _∷_, _++_, List·Memᴰ}
-use mathlib.Core.Option.{Option, none, some}
+use mathlib.Core.Option.{some}
 use lib.ListN.{length}
 use lib.Dec.{eqb}
-use lib.IntN.{ℤ}
-use Rattle.schemes.specs.Lists.{Id, oneTo16, joinIds, rule2}
+use Rattle.schemes.specs.Lists.{Id, oneTo16, wholeIds, joinIds, rule2}
 use Rattle.schemes.specs.Longer.{Longer, SameMarks, NoLater}
 use Rattle.conversation.specs.declared.Record.{Record}
 use Rattle.conversation.specs.declared.Answer.{Answer}
 use Rattle.conversation.specs.State.{fresh}
 use Rattle.conversation.specs.Outcomes.{Outcome, zeroId}
-use Rattle.conversation.specs.Writing.{offering, replying, writingMetadata, writingExchange, writingVerify, writingAlert, offered, replyMessage, metadataMessage, exchangeMessage, verifyMessage, alertMessage}
+use Rattle.conversation.specs.Writing.{offering, replying, writingMetadata, offered, replyMessage, metadataMessage, Speech, spoken, speaking}
 use Rattle.conversation.specs.Reading.{readingToken}
 use Rattle.conversation.specs.Choosing.{choosing}
 
@@ -43,9 +41,7 @@ pub data Call : Type 0 where
   offer : Sized 32 → Call
   reply : (marks : ℕ) → Sized 32 → Call
   metadata : Sized 16 → (value : List ℕ) → Call
-  exchange : (value : List ℕ) → Call
-  verify : (type : ℤ) (value : List ℕ) → Call
-  alert : (code : ℤ) → Call
+  speak : Speech → Call
   read : Call
   choose : (marks : ℕ) → Call
 
@@ -59,9 +55,7 @@ unfoldable pub act : End → List ℕ → Call → Outcome
 act e peer (offer random) = offering (e .record-of) (e .transcript) (random .0)
 act e peer (reply m random) = replying (e .record-of) (e .transcript) m (random .0)
 act e peer (metadata id value) = writingMetadata (e .record-of) (e .transcript) (id .0) value
-act e peer (exchange value) = writingExchange (e .record-of) (e .transcript) value
-act e peer (verify type value) = writingVerify (e .record-of) (e .transcript) type value
-act e peer (alert code) = writingAlert (e .record-of) (e .transcript) code
+act e peer (speak s) = speaking (e .record-of) (e .transcript) s
 act e peer read = readingToken (e .record-of) (e .transcript) peer
 act e peer (choose m) = choosing (e .record-of) (e .transcript) m
 
@@ -70,9 +64,7 @@ abbrev pub turnAfter : End → Call → List ℕ
 turnAfter e (offer random) = e .turn ++ offered (e .record-of) (random .0)
 turnAfter e (reply m random) = e .turn ++ replyMessage (e .record-of) m (random .0)
 turnAfter e (metadata id value) = e .turn ++ metadataMessage (e .record-of) (id .0) value
-turnAfter e (exchange value) = e .turn ++ exchangeMessage (e .record-of) value
-turnAfter e (verify type value) = e .turn ++ verifyMessage (e .record-of) type value
-turnAfter e (alert code) = e .turn ++ alertMessage (e .record-of) code
+turnAfter e (speak s) = e .turn ++ spoken (e .record-of) s
 turnAfter e read = []
 turnAfter e (choose m) = e .turn
 
@@ -90,8 +82,8 @@ pub record Opening : Type 0 where
   pub conversation : Sized 16
   pub initiator-buffer : List ℕ
   pub acceptor-buffer : List ℕ
-  pub initiator-sized : (s : Id) → List·Memᴰ s initiator → length s ≡ 16
-  pub acceptor-sized : (s : Id) → List·Memᴰ s acceptor → length s ≡ 16
+  pub initiator-whole : wholeIds initiator ≡ true
+  pub acceptor-whole : wholeIds acceptor ≡ true
   pub initiator-ok : oneTo16 initiator ≡ true
   pub acceptor-ok : oneTo16 acceptor ≡ true
 
@@ -127,16 +119,6 @@ abbrev pub ends : World → List (Bool × Call) → World
 ends w [] = w
 ends w (c ∷ cs) = ends (next w (c .0) (c .1)) cs
 
-abbrev pub marksIn : Call → Option ℕ
-marksIn (offer random) = none
-marksIn (reply m random) = some m
-marksIn (metadata id value) = none
-marksIn (exchange value) = none
-marksIn (verify type value) = none
-marksIn (alert code) = none
-marksIn read = none
-marksIn (choose m) = some m
-
 abbrev pub isAccepted : Answer → Bool
 isAccepted a = eqb (a .refusal) 0
 
@@ -144,38 +126,43 @@ isAccepted a = eqb (a .refusal) 0
 abbrev pub isLawful : Answer → Bool
 isLawful a = not (eqb (a .refusal) 15 || (eqb (a .refusal) 16 || (eqb (a .refusal) 18 || eqb (a .refusal) 19)))
 
-abbrev pub listOf : Opening → Bool → List Id
-listOf o false = o .initiator
-listOf o true = o .acceptor
-
--- "In demand 3's second run a call with marks has, for the schemes that both ends listed in the first, exactly the marks that its end's accepted call
--- had there"
-abbrev pub MarksKept : Opening → List (Bool × Call) → Opening → List (Bool × Call) → Type 0
-MarksKept o cs o′ cs′ =
-    (x : Entry) (m : ℕ) → List·Memᴰ x (run (world o) cs) → isAccepted (x .said) ≡ true → marksIn (x .call) ≡ some m
-    → (k : Call) (m′ : ℕ) → List·Memᴰ (x .acceptor, k) cs′ → marksIn k ≡ some m′
-    → SameMarks (o .acceptor) (o .initiator) (listOf o (x .acceptor)) m (listOf o′ (x .acceptor)) m′
-
 pub record Replied (o : Opening) (cs : List (Bool × Call)) (m : ℕ) : Type 0 where
   pub random : Sized 32
   pub answered : Answer
   pub accepted : isAccepted answered ≡ true
   pub entry : List·Memᴰ (record { acceptor = true; call = reply m random; said = answered }) (run (world o) cs)
 
+pub record ChoseWith (o : Opening) (cs : List (Bool × Call)) (m : ℕ) : Type 0 where
+  pub answered : Answer
+  pub accepted : isAccepted answered ≡ true
+  pub entry : List·Memᴰ (record { acceptor = false; call = choose m; said = answered }) (run (world o) cs)
+
+-- "In demand 3's second run a call with marks has, for the schemes that both ends listed in the first, exactly the marks that its end's accepted call
+-- had there": refused calls too. Asked of the acceptor's NEGO and of the initiator's choice; at the other end either call is 18, whatever its marks.
+pub record MarksKept (o : Opening) (cs : List (Bool × Call)) (o′ : Opening) (cs′ : List (Bool × Call)) : Type 0 where
+  pub acceptor-marks : (m m′ : ℕ) (random : Sized 32) → Replied o cs m → List·Memᴰ (true, reply m′ random) cs′
+      → SameMarks (o .acceptor) (o .initiator) (o .acceptor) m (o′ .acceptor) m′
+  pub initiator-marks : (m m′ : ℕ) → ChoseWith o cs m → List·Memᴰ (false, choose m′) cs′
+      → SameMarks (o .acceptor) (o .initiator) (o .initiator) m (o′ .initiator) m′
+
 pub record Choice (o o′ : Opening) (cs′ : List (Bool × Call)) (m′ : ℕ) (c : Id) (a : Answer) : Type 0 where
   pub accepted : isAccepted a ≡ true
   pub ma : ℕ
   pub replied : Replied o′ cs′ ma
-  pub by-rule2 : rule2 (o′ .acceptor) (o′ .initiator) ma m′ ≡ some (a .choice)
+  pub chosen : rule2 (o′ .acceptor) (o′ .initiator) ma m′ ≡ some (a .choice)
   pub no-later : NoLater (o .acceptor) (o .initiator) (o′ .acceptor) c (a .choice)
 
--- demand 3, one claim about any two lists of calls: in the second run no call is refused with 17, and every lawful choosing call answers a choice by
--- rule 2 that stands no later in the second acceptor's list; if it is another, not both ends listed it before
+-- no call is refused with 17, and every lawful choosing call answers a choice by rule 2 that stands no later in the second acceptor's list; if it is
+-- another, not both ends listed it before
+abbrev pub NotLost : Opening → Opening → List (Bool × Call) → Id → Entry → Type 0
+NotLost o o′ cs′ c y =
+    (y .said .refusal ≡ 17 → ⊥)
+    × ((m′ : ℕ) → y .call ≡ choose m′ → isLawful (y .said) ≡ true → Choice o o′ cs′ m′ c (y .said))
+
+-- demand 3, one claim about any two lists of calls, and every call of the second
 abbrev pub Demand3 : Type 0
 Demand3 =
     (o : Opening) (cs : List (Bool × Call)) (o′ : Opening) (cs′ : List (Bool × Call))
     (x : Entry) (m : ℕ) → List·Memᴰ x (run (world o) cs) → x .call ≡ choose m → isAccepted (x .said) ≡ true
     → Longer (o .acceptor) (o .initiator) (o′ .acceptor) (o′ .initiator) → MarksKept o cs o′ cs′
-    → (y : Entry) → List·Memᴰ y (run (world o′) cs′)
-    → (y .said .refusal ≡ 17 → ⊥)
-    × ((m′ : ℕ) → y .call ≡ choose m′ → isLawful (y .said) ≡ true → Choice o o′ cs′ m′ (x .said .choice) (y .said))
+    → (y : Entry) → List·Memᴰ y (run (world o′) cs′) → NotLost o o′ cs′ (x .said .choice) y

@@ -4,9 +4,9 @@
 --
 -- Glossary
 --   Contents             what is written besides, one value a layout: an Offer, a Payload, a Checksum or a Pulse
+--   negoOf, exchangeOf, verifyOf, alertOf   the contents of a layout, by their parts
 --   Whole c              the ids of the contents have 16 octets and random has 32
 --   sizeOf c             the length of a message with the contents c
---   signature            the first field of every message
 --   headFields h n       the fields of the common header of a message of n octets
 --   octetVectorFields, vectorFields   the fields of a vector of octets, and of one of elements
 --   bodyFields c         the fields behind the common header; pulseFields: those of a written alert
@@ -23,7 +23,7 @@ use mathlib.Core.List.{List, [], _∷_, _++_}
 use lib.ListN.{length}
 use lib.Dec.{leb, eqb}
 use lib.IntN.{ℤ}
-use Rattle.message.specs.Layout.{shapeOf, headerOf}
+use Rattle.message.specs.Layout.{shapeOf, headerOf, signature}
 use Rattle.put.specs.Put.{put, octetsOf, unsigned32, joined}
 use Rattle.encode.specs.declared.Heading.{Heading}
 use Rattle.encode.specs.declared.Stored.{Stored}
@@ -56,6 +56,18 @@ pub data Contents : Type 0 where
   ofVerify : Checksum → Contents
   ofAlert : Pulse → Contents
 
+abbrev pub negoOf : (random schemes : List ℕ) → Contents
+negoOf random schemes = ofNego (record { random = random; schemes = schemes })
+
+abbrev pub exchangeOf : (scheme value : List ℕ) → Contents
+exchangeOf scheme value = ofExchange (record { scheme = scheme; value = value })
+
+abbrev pub verifyOf : (scheme : List ℕ) (type : ℤ) (value : List ℕ) → Contents
+verifyOf scheme type value = ofVerify (record { scheme = scheme; type = type; value = value })
+
+abbrev pub alertOf : (scheme : List ℕ) (code : ℤ) → Contents
+alertOf scheme code = ofAlert (record { scheme = scheme; code = code })
+
 abbrev pub Whole : Contents → Type 0
 Whole (ofNego o) = length (o .random) ≡ 32
 Whole (ofExchange p) = length (p .scheme) ≡ 16
@@ -67,10 +79,6 @@ sizeOf (ofNego o) = 96 + length (o .schemes)
 sizeOf (ofExchange p) = 64 + length (p .value)
 sizeOf (ofVerify k) = 80 + length (k .value)
 sizeOf (ofAlert p) = 92
-
--- "signature 0 (`4E 45 47 4F 45 58 54 53`, "NEGOEXTS")"
-abbrev pub signature : List ℕ
-signature = 0x4E ∷ 0x45 ∷ 0x47 ∷ 0x4F ∷ 0x45 ∷ 0x58 ∷ 0x54 ∷ 0x53 ∷ []
 
 -- "Common header, 40 octets: signature 0 .., type 8, sequence 12, header length 16, message length 20, conversation 24."
 abbrev pub headFields : Heading → ℕ → List (List ℕ)

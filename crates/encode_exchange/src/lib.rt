@@ -3,7 +3,7 @@ ghost use mathlib.Core.Path.{_≡_};
 ghost use Prim.Native.Nat.{_+_, _≤_};
 ghost use lib.ListN.{length};
 ghost use Rattle.put.specs.Put.{Written};
-ghost use Rattle.encode.specs.Encode.{encoded, ofExchange, told, storing};
+ghost use Rattle.encode.specs.Encode.{encoded, exchangeOf, told, storing};
 use encode::Heading;
 use encode::Stored;
 use encode::has_room;
@@ -13,21 +13,24 @@ use message::Kind;
 use put::put_octets;
 use vector::MessageOffset;
 
+// The most octets that an exchange can have, so that the message's length is a number of 32 bits.
+const MOST: usize = 4294967295 - Kind::EXCHANGE_HEADER_LEN;
+
 // The message, where it has room.
 fn put_exchange(d: &mut [u8], at: usize, heading: Heading, scheme: [u8; 16], value: &[u8]) -> usize
     requires { ⌜ (at + (64 + length (now value)) ≤ length (now d)) × (length (now value) ≤ 4294967231) ⌝ }
-    ensures { λ r. ⌜ Written (now (d .entry)) at (64 + length (now (value .entry))) (encoded heading (ofExchange (record { scheme = scheme; value = now (value .entry) }))) (now (d .exit)) r ⌝ }
+    ensures { λ r. ⌜ Written (now (d .entry)) at (64 + length (now (value .entry))) (encoded heading (exchangeOf scheme (now (value .entry)))) (now (d .exit)) r ⌝ }
 {
     let n = value.len();
-    let a = put_head(d, at, heading, (64 + n) as u32);
-    let b = put_octets(d, a, &scheme);
-    let e = put_octet_vector(d, b, MessageOffset(Kind::EXCHANGE_HEADER), n as u32);
-    put_octets(d, e, value)
+    let scheme_at = put_head(d, at, heading, (Kind::EXCHANGE_HEADER_LEN + n) as u32);
+    let vector_at = put_octets(d, scheme_at, &scheme);
+    let value_at = put_octet_vector(d, vector_at, MessageOffset(Kind::EXCHANGE_HEADER), n as u32);
+    put_octets(d, value_at, value)
 }
 
 // Writes a message that carries an exchange or metadata at a place.
 pub fn write(d: &mut [u8], at: usize, heading: Heading, scheme: [u8; 16], value: &[u8]) -> Stored
-    ensures { λ r. ⌜ told r (now (d .exit)) ≡ storing (now (d .entry)) at heading (ofExchange (record { scheme = scheme; value = now (value .entry) })) ⌝ }
+    ensures { λ r. ⌜ told r (now (d .exit)) ≡ storing (now (d .entry)) at heading (exchangeOf scheme (now (value .entry))) ⌝ }
 {
     if heading.kind.0 < Kind::INITIATOR_META_DATA {
         return Stored::Nothing;
@@ -36,10 +39,10 @@ pub fn write(d: &mut [u8], at: usize, heading: Heading, scheme: [u8; 16], value:
         return Stored::Nothing;
     }
     let n = value.len();
-    if 4294967231 < n {
+    if MOST < n {
         return Stored::Nothing;
     }
-    if has_room(d.len(), at, 64 + n) {
+    if has_room(d.len(), at, Kind::EXCHANGE_HEADER_LEN + n) {
         Stored::Next(put_exchange(d, at, heading, scheme, value))
     } else {
         Stored::Nothing

@@ -7,11 +7,13 @@ use mathlib.Core.List.{List, [], _∷_, _++_, append-assoc, append-nil}
 use native.Mathlib.Numerals.{add-one}
 use native.Mathlib.Omega.{arith}
 use lib.ListN.{length, take, drop, getD, set, length-append, drop-of-length-le}
-use lib.Seq.{drop-cons, take-all, take-suc-set, length-take-le}
+use lib.Seq.{drop-cons, drop-set-lt, take-all, take-suc-set, length-take-le}
 use lib.Dec.{eqb, ltb}
 use borrow.Author.Tests.{eq-eqb, ne-eqb, lt-ltb, le-ltb, le-leb, lt-leb}
 use Rattle.octets.specs.Octets.{sameOctets}
-use Rattle.fields.specs.Fields.{pairOf, Octets, of, none, behindAll, Front, front, bad, fit, pairsOf, octetsOf, randomOf, octetsAt, dashed, idOf, idPlaces}
+use Rattle.fields.specs.declared.hex.Decoded.{Decoded}
+use Rattle.fields.specs.declared.hex.Decoded.the-variants as decoded
+use Rattle.fields.specs.Fields.{pairOf, Octets, of, none, behindAll, front, bad, fit, pairsOf, octetsOf, randomOf, decodedAs, Decodes, octetsAt, dashed, idOf, idPlaces}
 
 pub getD-past : (l : List ℕ) (i : ℕ) → length l ≤ i → 0 ≡ getD l i 0
 getD-past [] i h = refl
@@ -64,13 +66,17 @@ fit-half room n none h g = refl
 fit-half room n (of o) h g = too-long room o (omega arith)
 
 module _ (s d : List ℕ) where
-  pub pairs-short : length d < length s / 2 → bad ≡ fit (length d) (pairsOf s)
-  pairs-short h = fit-half (length d) (length s) (pairsOf s) (halves s) h
+  pub pairs-short : length d < length s / 2 → Decodes s d (pairsOf s) decoded.Bad d
+  pairs-short h = record { says = fit-half (length d) (length s) (pairsOf s) (halves s) h; behind = refl }
 
   pub pairs-start : pairsOf s ≡ behindAll (take 0 d) (pairsOf (drop 0 s))
   pairs-start = behind-none (pairsOf s)
 
-module _ (s d : List ℕ) (room n i : ℕ) (half : n ≡ length s / 2) (x : Octets) (inv : x ≡ behindAll (take i d) (pairsOf (drop (2 * i) s))) where
+module _ (s d d₀ : List ℕ) (n i : ℕ) (half : n ≡ length s / 2) (sized : length d ≡ length d₀) (rest : drop n d ≡ drop n d₀) (inv : pairsOf s ≡ behindAll (take i d) (pairsOf (drop (2 * i) s))) where
+  -- d afterwards, where it is not written any more
+  left : (r : Decoded) → decodedAs r d ≡ fit (length d₀) (pairsOf s) → Decodes s d₀ (pairsOf s) r d
+  left r e = record { says = e; behind = rw (← half) rest }
+
   module _ (more : i < n) (v : ℕ) (v-is : v ≡ pairOf (getD s (2 * i) 0) (getD s (2 * i + 1) 0)) where
     next : pairsOf (drop (2 * i) s) ≡ cond (ltb 255 v) none (behindAll (v ∷ []) (pairsOf (drop (2 * (i + 1)) s)))
     unfolding pairsOf
@@ -80,50 +86,57 @@ module _ (s d : List ℕ) (room n i : ℕ) (half : n ≡ length s / 2) (x : Octe
         let e : 2 * (i + 1) ≡ suc (suc (2 * i)) = omega arith in
         rw (drop-cons s (2 * i) 0 a, drop-cons s (suc (2 * i)) 0 b, e, v-is, add-one)
 
-    pub pairs-bad : 255 < v → bad ≡ fit room x
-    pairs-bad h = fits-not room x (inv ∙ rw (next, lt-ltb _ _ h))
+    pub pairs-bad : 255 < v → Decodes s d₀ (pairsOf s) decoded.Bad d
+    pairs-bad h = left decoded.Bad (fits-not (length d₀) (pairsOf s) (inv ∙ rw (next, lt-ltb _ _ h)))
 
-    pub pairs-more : v ≤ 255 → n ≤ length d → x ≡ behindAll (take (i + 1) (set d i v)) (pairsOf (drop (2 * (i + 1)) s))
+    pub pairs-more : v ≤ 255 → n ≤ length d → pairsOf s ≡ behindAll (take (i + 1) (set d i v)) (pairsOf (drop (2 * (i + 1)) s))
     pairs-more h enough =
         let a : i < length d = omega arith in
         inv ∙ rw (next, le-ltb _ _ h) (stored d i v (pairsOf (drop (2 * (i + 1)) s)) a)
 
+  pub pairs-behind : i < n → (v : ℕ) → drop n (set d i v) ≡ drop n d₀
+  pairs-behind more v = drop-set-lt n d i v more ∙ rest
+
   module _ (low : i ≤ n) (high : n ≤ i) where
-    pub pairs-odd : length s % 2 ≡ 1 → bad ≡ fit room x
+    pub pairs-odd : length s % 2 ≡ 1 → Decodes s d₀ (pairsOf s) decoded.Bad d
     unfolding pairsOf
     pairs-odd h =
         let a : 2 * i < length s = omega arith in
         let b : length s ≤ suc (2 * i) = omega arith in
-        fits-not room x (inv ∙ rw (drop-cons s (2 * i) 0 a, drop-of-length-le s b))
+        left decoded.Bad (fits-not (length d₀) (pairsOf s) (inv ∙ rw (drop-cons s (2 * i) 0 a, drop-of-length-le s b)))
 
-    pub pairs-even : (length s % 2 ≡ 1 → ⊥) → n ≤ length d → length d ≡ room → front n (take n d) ≡ fit room x
+    pub pairs-even : (length s % 2 ≡ 1 → ⊥) → n ≤ length d → Decodes s d₀ (pairsOf s) (decoded.Octets n) d
     unfolding pairsOf
-    pairs-even h enough sized =
+    pairs-even h enough =
         let a : length s ≤ 2 * i = omega arith in
         let e : n ≡ i = omega arith in
-        fits room n x (take n d) (inv ∙ rw (drop-of-length-le s a, e) (ap of (append-nil (take i d)))) (length-take-le n d enough) (omega arith)
+        left (decoded.Octets n) (fits (length d₀) n (pairsOf s) (take n d) (inv ∙ rw (drop-of-length-le s a, e) (ap of (append-nil (take i d)))) (length-take-le n d enough) (omega arith))
 
-module _ (s : List ℕ) (room : ℕ) where
-  pub octets-empty : length s ≡ 0 → bad ≡ fit room (octetsOf s)
+module _ (s d : List ℕ) where
+  -- a field that says what another does, of as many digits
+  other : (o x : Octets) (r : Decoded) (d' : List ℕ) → o ≡ x → Decodes s d o r d' → Decodes s d x r d'
+  other o x r d' e h = record { says = h .says ∙ ap (fit (length d)) e; behind = h .behind }
+
+  pub octets-empty : length s ≡ 0 → Decodes s d (octetsOf s) decoded.Bad d
   unfolding octetsOf
-  octets-empty h = rw (eq-eqb _ _ h)
+  octets-empty h = record { says = rw (eq-eqb _ _ h); behind = refl }
 
   module _ (some : length s ≡ 0 → ⊥) (b : Bool) (b-is : b ≡ sameOctets s (45 ∷ [])) where
-    pub octets-dash : b ≡ true → front 0 [] ≡ fit room (octetsOf s)
+    pub octets-dash : b ≡ true → Decodes s d (octetsOf s) (decoded.Octets 0) d
     unfolding octetsOf
-    octets-dash h = rw (ne-eqb _ _ some, ← b-is, h) (fits room 0 (of []) [] refl refl (omega arith))
+    octets-dash h = record { says = rw (ne-eqb _ _ some, ← b-is, h) (fits (length d) 0 (of []) [] refl refl (omega arith)); behind = refl }
 
-    pub octets-pairs : b ≡ false → (x : Front) → x ≡ fit room (pairsOf s) → x ≡ fit room (octetsOf s)
+    pub octets-pairs : b ≡ false → (r : Decoded) (d' : List ℕ) → Decodes s d (pairsOf s) r d' → Decodes s d (octetsOf s) r d'
     unfolding octetsOf
-    octets-pairs h x e = rw (ne-eqb _ _ some, ← b-is, h) e
+    octets-pairs h r d' e = other (pairsOf s) (octetsOf s) r d' (rw (ne-eqb _ _ some, ← b-is, h)) e
 
-  pub random-size : (length s ≡ 64 → ⊥) → bad ≡ fit room (randomOf s)
+  pub random-size : (length s ≡ 64 → ⊥) → Decodes s d (randomOf s) decoded.Bad d
   unfolding randomOf
-  random-size h = rw (ne-eqb _ _ h)
+  random-size h = record { says = rw (ne-eqb _ _ h); behind = refl }
 
-  pub random-pairs : length s ≡ 64 → (x : Front) → x ≡ fit room (pairsOf s) → x ≡ fit room (randomOf s)
+  pub random-pairs : length s ≡ 64 → (r : Decoded) (d' : List ℕ) → Decodes s d (pairsOf s) r d' → Decodes s d (randomOf s) r d'
   unfolding randomOf
-  random-pairs h x e = rw (eq-eqb _ _ h) e
+  random-pairs h r d' e = other (pairsOf s) (randomOf s) r d' (rw (eq-eqb _ _ h)) e
 
 module _ (s : List ℕ) (a : ℕ) (a-is : a ≡ getD s 8 0) where
   pub dash-first : (a ≡ 45 → ⊥) → false ≡ dashed s
@@ -176,6 +189,6 @@ module _ (s : List ℕ) where
     unfolding idOf
     id-octets h x e = rw (eq-eqb _ _ sized, ← b-is, h) e
 
-pub ruleset pair-octets = (pairs-short, pairs-start, pairs-bad, pairs-more, pairs-odd, pairs-even, octets-empty, octets-dash, octets-pairs, random-size, random-pairs)
+pub ruleset pair-octets = (pairs-short, pairs-start, pairs-bad, pairs-more, pairs-behind, pairs-odd, pairs-even, octets-empty, octets-dash, octets-pairs, random-size, random-pairs)
 
 pub ruleset ids = (dash-first, dash-second, dash-third, dash-last, at-bad, at-more, at-end, at-start, id-size, id-dashes, id-octets)

@@ -15,10 +15,12 @@
 --   pairsOf s        the octets that the digits s stand for, two an octet
 --   octetsOf s       what a field OCTETS says; randomOf s: what a field RANDOM says
 --   decodedAs r d    what the answer's enum says of the slice d
+--   Decodes s d o r d'   the field s, decoded into d, is answered by r as the octets o; d' is d afterwards, which is left open where a bad field wrote
 --   idOf s           the id with the usual text s; idAs: what the answer says
 --   idPlaces         where the digits of an id's octets stand in its text; octetsAt s ks: the octets whose digits stand at places of s
 --   dashed s         the four dashes of an id's text are there
-use Prim.Native.Nat.{ℕ, _+_, _*_, _-_}
+use Prim.Native.Nat.{ℕ, _+_, _*_, _-_, _/_}
+use mathlib.Core.Path.{_≡_}
 use mathlib.Core.Bool.{Bool, cond, _&&_}
 use mathlib.Core.List.{List, [], _∷_, _++_}
 use lib.ListN.{length, take, drop, getD}
@@ -105,6 +107,12 @@ randomOf s = cond (eqb (length s) 64) (pairsOf s) none
 abbrev pub decodedAs : Decoded → List ℕ → Front
 decodedAs (decoded.Octets n) d = front n (take n d)
 decodedAs decoded.Bad d = bad
+
+-- A field of `length s` digits writes no octet from place `length s / 2` on. In front of that place stand the octets, where the field is good; where it is
+-- bad, what stands there is left to the program.
+pub record Decodes (s d : List ℕ) (o : Octets) (r : Decoded) (d' : List ℕ) : Type 0 where
+  pub says : decodedAs r d' ≡ fit (length d) o
+  pub behind : drop (length s / 2) d' ≡ drop (length s / 2) d
 
 -- an id's usual text: where the digits of each octet stand, and the four dashes
 abbrev pub idPlaces : List ℕ

@@ -2,7 +2,7 @@
 ghost use mathlib.Core.Path.{_≡_};
 ghost use Prim.Native.Nat.{_+_, _<_};
 ghost use lib.ListN.{length, getD};
-ghost use Rattle.fields.specs.Fields.{pairOf, fit, pairsOf, octetsOf, randomOf, decodedAs, octetsAt, dashed, idOf, idAs};
+ghost use Rattle.fields.specs.Fields.{pairOf, pairsOf, octetsOf, randomOf, Decodes, octetsAt, dashed, idOf, idAs};
 use super::is_word;
 use super::number::digit;
 use super::octet;
@@ -44,7 +44,7 @@ fn pair_at(s: &[u8], at: usize) -> u16
 
 // Two digits for each octet, in order.
 fn decode(s: &[u8], d: &mut [u8]) -> Decoded
-    ensures { λ r. ⌜ decodedAs r (now (d .exit)) ≡ fit (length (now (d .entry))) (pairsOf (now (s .entry))) ⌝ }
+    ensures { λ r. ⌜ Decodes (now (s .entry)) (now (d .entry)) (pairsOf (now (s .entry))) r (now (d .exit)) ⌝ }
 {
     let n = s.len() / 2;
     if d.len() < n {
@@ -65,9 +65,9 @@ fn decode(s: &[u8], d: &mut [u8]) -> Decoded
     Decoded::Octets(n)
 }
 
-// OCTETS, at the front of d.
+// OCTETS, at the front of d. What d holds there is left open where they are bad; behind them it stays as it was.
 pub fn octets(s: &[u8], d: &mut [u8]) -> Decoded
-    ensures { λ r. ⌜ decodedAs r (now (d .exit)) ≡ fit (length (now (d .entry))) (octetsOf (now (s .entry))) ⌝ }
+    ensures { λ r. ⌜ Decodes (now (s .entry)) (now (d .entry)) (octetsOf (now (s .entry))) r (now (d .exit)) ⌝ }
 {
     if s.len() == 0 {
         return Decoded::Bad;
@@ -132,9 +132,9 @@ pub fn id(s: &[u8]) -> IdText
     octets_at(s, places)
 }
 
-// RANDOM, at the front of d.
+// RANDOM, at the front of d, likewise.
 pub fn random(s: &[u8], d: &mut [u8]) -> Decoded
-    ensures { λ r. ⌜ decodedAs r (now (d .exit)) ≡ fit (length (now (d .entry))) (randomOf (now (s .entry))) ⌝ }
+    ensures { λ r. ⌜ Decodes (now (s .entry)) (now (d .entry)) (randomOf (now (s .entry))) r (now (d .exit)) ⌝ }
 {
     if s.len() != 64 {
         return Decoded::Bad;

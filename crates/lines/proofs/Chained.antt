@@ -1,11 +1,18 @@
 -- Each form of line as the calls that write it, one behind the other, in the words of the code: t is the text before, u the text after.
 -- Assumes nothing.
-use Prim.Native.Nat.{ℕ, _+_}
+use Prim.Native.Nat.{ℕ, _+_, _≤_}
 use mathlib.Core.Path.{_≡_, ap, _∙_}
 use mathlib.Core.List.{List, [], _∷_}
+use lib.ListN.{length}
+use lib.IntN.{ℤ}
+use borrow.Author.Tests.{le-leb}
+use mir.Syntax.{w32}
+use mir.Val.{SFits, toZ, ofZ}
+use mir.Facts.{toZ-ofZ}
 use Rattle.octets.specs.Octets.{le, signed32}
 use Rattle.vector.specs.declared.Vector.{Vector}
 use Rattle.message.specs.Layout.{headOf, octetVector, elementAt, exchangeVector, checksumVector}
+use Rattle.message.specs.Show.{signedIn, checksumType, errorCode}
 use Rattle.text.specs.Text.{quoted, decimal, decimal64, signed, idText, Text, written}
 use Rattle.text.proofs.Pieces.{then}
 use Rattle.lines.specs.Lines.{lengths, messageLine, schemeLine, span, extensionLine, exchangeLine, checksumLine, errorLine, alertLine}
@@ -14,6 +21,15 @@ use Rattle.lines.specs.Lines.{endLine, refusedLine}
 -- a number or a vector that a call read
 read : {A : Type 0} (f : A → List (List ℕ)) (x y : A) (t u : Text) → x ≡ y → u ≡ written (f x) t → u ≡ written (f y) t
 read f x y t u e h = h ∙ ap (λ (z : _). written (f z) t) e
+
+-- a signed number that a call read, as the machine holds it
+signed-text : (z y : ℤ) (t u : Text) → SFits w32 z → z ≡ y → u ≡ written (signed (toZ w32 (ofZ w32 z))) t → u ≡ written (signed y) t
+signed-text z y t u f e h = read signed _ y t u (toZ-ofZ {w = w32} f ∙ e) h
+
+-- where there is room for the header, a field is the signed number in its octets
+field-is : (n : ℕ) (m : List ℕ) (at : ℕ) (z : ℤ) → n ≤ length m → z ≡ signedIn n m at → z ≡ signed32 (le 4 m at)
+unfolding signedIn
+field-is n m at z h e = e ∙ simp (le-leb _ _ h)
 
 abbrev field : List ℕ → ℕ → List (List ℕ)
 field p n = p ∷ decimal n ∷ []
@@ -50,16 +66,16 @@ module _ (t u : Text) where
   unfolding span
   span-text a b v f₁ f₂ f₃ = then t b u _ _ (then t a b _ _ f₁ f₂) f₃
 
-  pub extension-text : (a b c : Text) (k at : ℕ) (array : List ℕ) (x : ℕ) (v : Vector) → x ≡ le 4 array at → v ≡ octetVector array (at + 4)
+  pub extension-text : (a b c : Text) (k at : ℕ) (array : List ℕ) (z : ℤ) (f : SFits w32 z) (v : Vector) → z ≡ signed32 (le 4 array at) → v ≡ octetVector array (at + 4)
       → a ≡ written (quoted "extension " ∷ decimal64 k ∷ []) t
       → b ≡ written (quoted " type=" ∷ []) a
-      → c ≡ written (signed (signed32 x)) b
+      → c ≡ written (signed (toZ w32 (ofZ w32 z))) b
       → u ≡ written (span v) c
       → u ≡ written (extensionLine k (elementAt array at)) t
   unfolding extensionLine
-  extension-text a b c k at array x v x-is v-is f₁ f₂ f₃ f₄ =
+  extension-text a b c k at array z f v z-is v-is f₁ f₂ f₃ f₄ =
       then t b u _ _ (then t a b _ _ f₁ f₂)
-      (then b c u _ _ (read (λ (n : ℕ). signed (signed32 n)) x _ b c x-is f₃) (read span v _ c u v-is f₄))
+      (then b c u _ _ (signed-text z _ b c f z-is f₃) (read span v _ c u v-is f₄))
 
   pub alert-text : (a b : Text) (k at : ℕ) (array : List ℕ) (x : ℕ) (v : Vector) → x ≡ le 4 array at → v ≡ octetVector array (at + 4)
       → a ≡ written (quoted "alert " ∷ decimal64 k ∷ []) t
@@ -75,15 +91,15 @@ module _ (t u : Text) where
     unfolding exchangeLine
     exchange-text v v-is f₁ f₂ = then t a u _ _ f₁ (read span v _ a u v-is f₂)
 
-    module _ (b : Text) (x : ℕ) where
-      pub checksum-text : (v : Vector) → x ≡ le 4 m 64 → v ≡ checksumVector m → a ≡ written (quoted "checksum type=" ∷ []) t → b ≡ written (signed (signed32 x)) a → u ≡ written (span v) b → u ≡ written (checksumLine (le 4 m 64) (checksumVector m)) t
+    module _ (b : Text) (z : ℤ) (f : SFits w32 z) where
+      pub checksum-text : 80 ≤ length m → (v : Vector) → z ≡ checksumType m → v ≡ checksumVector m → a ≡ written (quoted "checksum type=" ∷ []) t → b ≡ written (signed (toZ w32 (ofZ w32 z))) a → u ≡ written (span v) b → u ≡ written (checksumLine (le 4 m 64) (checksumVector m)) t
       unfolding checksumLine
-      checksum-text v x-is v-is f₁ f₂ f₃ =
-          then t a u _ _ f₁ (then a b u _ _ (read (λ (n : ℕ). signed (signed32 n)) x _ a b x-is f₂) (read span v _ b u v-is f₃))
+      checksum-text h v z-is v-is f₁ f₂ f₃ =
+          then t a u _ _ f₁ (then a b u _ _ (signed-text z _ a b f (field-is 80 m 64 z h z-is) f₂) (read span v _ b u v-is f₃))
 
-      pub error-text : x ≡ le 4 m 56 → a ≡ written (quoted "error code=" ∷ []) t → b ≡ written (signed (signed32 x)) a → u ≡ written (quoted "\n" ∷ []) b → u ≡ written (errorLine (le 4 m 56)) t
+      pub error-text : 72 ≤ length m → z ≡ errorCode m → a ≡ written (quoted "error code=" ∷ []) t → b ≡ written (signed (toZ w32 (ofZ w32 z))) a → u ≡ written (quoted "\n" ∷ []) b → u ≡ written (errorLine (le 4 m 56)) t
       unfolding errorLine
-      error-text x-is f₁ f₂ f₃ = then t a u _ _ f₁ (then a b u _ _ (read (λ (n : ℕ). signed (signed32 n)) x _ a b x-is f₂) f₃)
+      error-text h z-is f₁ f₂ f₃ = then t a u _ _ f₁ (then a b u _ _ (signed-text z _ a b f (field-is 72 m 56 z h z-is) f₂) f₃)
 
   module _ (a b : Text) (n k : ℕ) where
     pub end-text : a ≡ written (quoted "end messages=" ∷ decimal n ∷ []) t → b ≡ written (quoted " octets=" ∷ decimal64 k ∷ []) a → u ≡ written (quoted "\n" ∷ []) b → u ≡ written (endLine n k) t

@@ -12,7 +12,7 @@ use Rattle.message.specs.Show.{idsOf}
 use Rattle.message.specs.Layout.{Head, headOf, shapeOf, Element, Content, Nego, Exchange, Verify, Alert, contentOf}
 use Rattle.put.specs.Put.{joined}
 use Rattle.text.specs.Text.{idOrder, text, written}
-use Rattle.text.proofs.Pieces.{length-glyphs, length-joined, front-is, same-room}
+use Rattle.text.proofs.Pieces.{length-glyphs, length-joined, front-is, front-put, same-room}
 use Rattle.text.proofs.Digits.{length-decimal, length-signed}
 use Rattle.lines.specs.Lines.{lengths, messageLine, schemeLine, span, extensionLine, exchangeLine, checksumLine, errorLine, alertLine, numberedFrom, numbered, contentLines, messageLines, endLine, refusedLine}
 use Rattle.lines.specs.Fit.{LineIs}
@@ -96,18 +96,18 @@ short-at (l ∷ ls) zero h = h .0
 short-at (l ∷ ls) (suc i) h = short-at ls i (h .1)
 
 -- a line in an array of 128 octets
-line-is : (l : List (List ℕ)) (d d' : List ℕ) (r : ℕ) → Short l → length d ≡ 128 → text d' r ≡ written l (text d 0) → LineIs r d' l
+line-is : (l : List (List ℕ)) (d d' : List ℕ) (r : ℕ) → Short l → length d ≡ 128 → text d' r ≡ written l (text d 0) → LineIs r d d' l
 line-is l d d' r s h e =
     let f = front-is l d d' r (omega arith) e in
     let n = same-room d d' 0 r l e in
-    record { counts = (omega (arith, f, n), f .0 ∙ sym (ap length (f .1))); is = f .1 }
+    record { counts = (omega (arith, f, n), f .0 ∙ sym (ap length (f .1))); is = f .1; holds = front-put l d d' r (omega arith) e }
 
 module _ (d d' : List ℕ) (r : ℕ) (h : length d ≡ 128) where
-  pub message-line : (place : ℕ) (m : List ℕ) (index : ℕ) → text d' r ≡ written (getD (messageLines place m) index []) (text d 0) → LineIs r d' (getD (messageLines place m) index [])
+  pub message-line : (place : ℕ) (m : List ℕ) (index : ℕ) → text d' r ≡ written (getD (messageLines place m) index []) (text d 0) → LineIs r d d' (getD (messageLines place m) index [])
   message-line place m index e = line-is _ d d' r (short-at (messageLines place m) index (shorts-message place m)) h e
 
-  pub end-line : (n k : ℕ) → text d' r ≡ written (endLine n k) (text d 0) → LineIs r d' (endLine n k)
+  pub end-line : (n k : ℕ) → text d' r ≡ written (endLine n k) (text d 0) → LineIs r d d' (endLine n k)
   end-line n k e = line-is _ d d' r (short-end n k) h e
 
-  pub refused-line : (n k : ℕ) → text d' r ≡ written (refusedLine n k) (text d 0) → LineIs r d' (refusedLine n k)
+  pub refused-line : (n k : ℕ) → text d' r ≡ written (refusedLine n k) (text d 0) → LineIs r d d' (refusedLine n k)
   refused-line n k e = line-is _ d d' r (short-refused n k) h e

@@ -8,6 +8,7 @@ ghost use Rattle.lines.specs.Lines.{messageLines};
 ghost use Rattle.lines.specs.Fit.{Fit, shapeIn, linesIn};
 use super::line;
 use message::Kind;
+use message::field;
 use octets::le_u32;
 use parts::alerts;
 use parts::extensions;
@@ -21,15 +22,15 @@ fn nego_line(d: &mut [u8], m: &[u8], index: usize) -> usize
     ensures { λ r. ⌜ text (now (d .exit)) r ≡ written (getD (linesIn nego (now (m .entry))) index []) (text (now (d .entry)) 0) ⌝ }
 {
     let ids = schemes(m);
-    let n = ids.len() / 16;
+    let n = ids.len() / field::ID;
     if index < n {
-        let at = 16 * index;
-        return line::scheme(d, index, &ids[at..at + 16]);
+        let at = field::ID * index;
+        return line::scheme(d, index, &ids[at..at + field::ID]);
     }
     let array = extensions(m);
     let k = index - n;
-    if k < array.len() / 12 {
-        return line::extension(d, k, array, 12 * k);
+    if k < array.len() / field::ELEMENT {
+        return line::extension(d, k, array, field::ELEMENT * k);
     }
     0
 }
@@ -48,6 +49,7 @@ fn exchange_line(d: &mut [u8], m: &[u8], index: usize) -> usize
     0
 }
 
+// The scheme of a VERIFY, then its checksum.
 fn verify_line(d: &mut [u8], m: &[u8], index: usize) -> usize
     requires { ⌜ Fit verify (now m) ⌝ }
     ensures { λ r. ⌜ text (now (d .exit)) r ≡ written (getD (linesIn verify (now (m .entry))) index []) (text (now (d .entry)) 0) ⌝ }
@@ -61,6 +63,7 @@ fn verify_line(d: &mut [u8], m: &[u8], index: usize) -> usize
     0
 }
 
+// The scheme of an ALERT, its error code, then its alerts.
 fn alert_line(d: &mut [u8], m: &[u8], index: usize) -> usize
     requires { ⌜ Fit alert (now m) ⌝ }
     ensures { λ r. ⌜ text (now (d .exit)) r ≡ written (getD (linesIn alert (now (m .entry))) index []) (text (now (d .entry)) 0) ⌝ }
@@ -73,8 +76,8 @@ fn alert_line(d: &mut [u8], m: &[u8], index: usize) -> usize
     }
     let array = alerts(m);
     let k = index - 2;
-    if k < array.len() / 12 {
-        return line::alert(d, k, array, 12 * k);
+    if k < array.len() / field::ELEMENT {
+        return line::alert(d, k, array, field::ELEMENT * k);
     }
     0
 }
@@ -87,7 +90,7 @@ pub(crate) fn line_at(d: &mut [u8], place: TokenPlace, m: &[u8], index: usize) -
     if index == 0 {
         return line::message(d, place, m);
     }
-    let kind = le_u32(m, 8);
+    let kind = le_u32(m, field::TYPE);
     let behind = index - 1;
     if kind <= Kind::ACCEPTOR_NEGO {
         return nego_line(d, m, behind);

@@ -14,8 +14,8 @@ use Rattle.lines.specs.Lines.{messageLines}
 use Rattle.lines.specs.Fit.{shapeIn, linesIn, LineIs}
 
 -- a line that stands in an array
-pub line-put : (x : State) (t : State) (k : ℕ) (out : List ℕ) (l : List (List ℕ)) → LineIs k out l → x ≡ step t (take k out) → x ≡ step t (joined l)
-line-put x t k out l i e = e ∙ ap (step t) (i .is)
+pub line-put : (x : State) (t : State) (k : ℕ) (lent out : List ℕ) (l : List (List ℕ)) → LineIs k lent out l → x ≡ step t (take k out) → x ≡ step t (joined l)
+line-put x t k lent out l i e = e ∙ ap (step t) (i .is)
 
 -- the lines of one message, in the words of `show_message` and `show_lines`: n is their number, x what they come to
 module _ (place : ℕ) (m : List ℕ) (n : ℕ) (count : n ≡ 1 + length (linesIn (shapeIn m) m)) where

@@ -2,7 +2,7 @@
 -- result, or what a test says.
 -- Assumes nothing.
 use Prim.Native.Nat.{ℕ, _≤_, _<_}
-use mathlib.Core.Path.{_≡_, refl, subst}
+use mathlib.Core.Path.{_≡_, refl, ap, _∙_, subst}
 use mathlib.Core.Bool.{true}
 use mathlib.Core.List.{List}
 use native.Mathlib.Omega.{arith}
@@ -10,6 +10,7 @@ use lib.ListN.{length}
 use borrow.Author.Tests.{le-leb, lt-leb, eq-eqb, ne-eqb, leb-true, eqb-true}
 use Rattle.octets.specs.Octets.{le}
 use Rattle.message.specs.declared.Header.{Header}
+use Rattle.message.specs.declared.Kind.{Kind}
 use Rattle.message.specs.Layout.{Head, shapeOf, headerOf, headOf}
 use Rattle.message.specs.Check.{SIGNATURE, read, refused, commonRows, allPass, headerVerdict, fieldsOf, Passed, HeaderPassed}
 use Rattle.message.proofs.Shapes.{header-least}
@@ -38,39 +39,47 @@ common-sized n h e =
       within = leb-true _ _ r6';
     }
 
+-- the code's constant
+signature-is : SIGNATURE ≡ 0x535458454F47454E
+unfolding le
+signature-is = refl
+
 module _ (s : List ℕ) where
   pub header-2 : length s < 40 → refused 2 ≡ headerVerdict s
   unfolding headerVerdict commonRows headOf
   header-2 h = simp (lt-leb _ _ h)
 
   module _ (sized : 40 ≤ length s) (sig : ℕ) (sig-is : sig ≡ le 8 s 0) where
-    pub header-3 : (sig ≡ SIGNATURE → ⊥) → refused 3 ≡ headerVerdict s
+    pub header-3 : (sig ≡ 0x535458454F47454E → ⊥) → refused 3 ≡ headerVerdict s
     unfolding headerVerdict commonRows headOf
-    header-3 h = simp (le-leb _ _ sized, ← sig-is, ne-eqb _ _ h)
+    header-3 h = simp (le-leb _ _ sized, ← sig-is, signature-is, ne-eqb _ _ h)
 
-    module _ (signed : sig ≡ SIGNATURE) (kind : ℕ) (kind-is : kind ≡ le 4 s 8) where
+    module _ (signed : sig ≡ 0x535458454F47454E) (kind : ℕ) (kind-is : kind ≡ le 4 s 8) where
       pub header-4 : 7 < kind → refused 4 ≡ headerVerdict s
       unfolding headerVerdict commonRows headOf
-      header-4 h = simp (le-leb _ _ sized, ← sig-is, eq-eqb _ _ signed, ← kind-is, lt-leb _ _ h)
+      header-4 h = simp (le-leb _ _ sized, ← sig-is, signature-is, eq-eqb _ _ signed, ← kind-is, lt-leb _ _ h)
 
-      module _ (known : kind ≤ 7) (header fixed : ℕ) (header-is : header ≡ le 4 s 16) (fixed-is : fixed ≡ headerOf (shapeOf kind)) where
+      module _ (known : kind ≤ 7) (header fixed : ℕ) (header-is : header ≡ le 4 s 16) (k : Kind) (k-is : k .0 ≡ kind) (fixed-is : fixed ≡ headerOf (shapeOf (k .0))) where
+        fixed-here : fixed ≡ headerOf (shapeOf kind)
+        fixed-here = fixed-is ∙ ap (λ (x : ℕ). headerOf (shapeOf x)) k-is
+
         pub header-5 : (header ≡ fixed → ⊥) → refused 5 ≡ headerVerdict s
         unfolding headerVerdict commonRows headOf
-        header-5 h = simp (le-leb _ _ sized, ← sig-is, eq-eqb _ _ signed, ← kind-is, le-leb _ _ known, ← header-is, ← fixed-is, ne-eqb _ _ h)
+        header-5 h = simp (le-leb _ _ sized, ← sig-is, signature-is, eq-eqb _ _ signed, ← kind-is, le-leb _ _ known, ← header-is, ← fixed-here, ne-eqb _ _ h)
 
         module _ (right : header ≡ fixed) (len : ℕ) (len-is : len ≡ le 4 s 20) where
           pub header-6 : len < header → refused 6 ≡ headerVerdict s
           unfolding headerVerdict commonRows headOf
-          header-6 h = simp (le-leb _ _ sized, ← sig-is, eq-eqb _ _ signed, ← kind-is, le-leb _ _ known, ← header-is, ← fixed-is, eq-eqb _ _ right, ← len-is, lt-leb _ _ h)
+          header-6 h = simp (le-leb _ _ sized, ← sig-is, signature-is, eq-eqb _ _ signed, ← kind-is, le-leb _ _ known, ← header-is, ← fixed-here, eq-eqb _ _ right, ← len-is, lt-leb _ _ h)
 
           module _ (whole : header ≤ len) where
             pub header-6-past : length s < len → refused 6 ≡ headerVerdict s
             unfolding headerVerdict commonRows headOf
-            header-6-past h = simp (le-leb _ _ sized, ← sig-is, eq-eqb _ _ signed, ← kind-is, le-leb _ _ known, ← header-is, ← fixed-is, eq-eqb _ _ right, ← len-is, le-leb _ _ whole, lt-leb _ _ h)
+            header-6-past h = simp (le-leb _ _ sized, ← sig-is, signature-is, eq-eqb _ _ signed, ← kind-is, le-leb _ _ known, ← header-is, ← fixed-here, eq-eqb _ _ right, ← len-is, le-leb _ _ whole, lt-leb _ _ h)
 
-            pub header-read : len ≤ length s → (sequence : ℕ) → sequence ≡ le 4 s 12 → read (record { kind = record { 0 = kind }; sequence = sequence; header = header; length = len }) ≡ headerVerdict s
+            pub header-read : len ≤ length s → (sequence : ℕ) → sequence ≡ le 4 s 12 → read (record { kind = k; sequence = sequence; header = header; length = len }) ≡ headerVerdict s
             unfolding headerVerdict commonRows headOf
-            header-read h sequence sequence-is = simp (le-leb _ _ sized, ← sig-is, eq-eqb _ _ signed, ← kind-is, le-leb _ _ known, ← header-is, ← fixed-is, eq-eqb _ _ right, ← len-is, le-leb _ _ whole, le-leb _ _ h, ← sequence-is)
+            header-read h sequence sequence-is = simp (le-leb _ _ sized, ← sig-is, signature-is, eq-eqb _ _ signed, ← kind-is, le-leb _ _ known, ← header-is, ← fixed-is, eq-eqb _ _ right, ← len-is, le-leb _ _ whole, le-leb _ _ h, ← sequence-is, ← k-is)
 
 pub ruleset headers = (header-2, header-3, header-4, header-5, header-6, header-6-past, header-read)
 

@@ -25,6 +25,16 @@ module _ (kind : ℕ) where
   unfolding shapeOf
   shape-alert p q e = simp (lt-leb _ _ p, lt-leb _ _ q, ne-eqb _ _ e)
 
+-- the type number that is none of the first seven
+above-three : (n : ℕ) → (n ≡ 0 → ⊥) → (n ≡ 1 → ⊥) → (n ≡ 2 → ⊥) → (n ≡ 3 → ⊥) → 4 ≤ n
+above-three n a b c d = omega arith
+
+above-six : (n : ℕ) → 4 ≤ n → n ≤ 7 → (n ≡ 4 → ⊥) → (n ≡ 5 → ⊥) → (n ≡ 6 → ⊥) → 7 ≡ n
+above-six n l h a b c = omega arith
+
+pub last-kind : (n : ℕ) → n ≤ 7 → (n ≡ 0 → ⊥) → (n ≡ 1 → ⊥) → (n ≡ 2 → ⊥) → (n ≡ 3 → ⊥) → (n ≡ 4 → ⊥) → (n ≡ 5 → ⊥) → (n ≡ 6 → ⊥) → 7 ≡ n
+last-kind n h a b c d e f g = above-six n (above-three n a b c d) h e f g
+
 -- every header has at least 64 octets
 pub header-least : (shape : Shape) → 64 ≤ headerOf shape
 header-least nego = omega arith

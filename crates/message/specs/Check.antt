@@ -23,13 +23,13 @@ use mathlib.Core.Logic.{_⊎_}
 use mathlib.Core.List.{List, [], _∷_, _++_}
 use lib.ListN.{length, getD}
 use lib.Dec.{leb, eqb}
-use Rattle.octets.specs.Octets.{signed32, negative}
+use Rattle.octets.specs.Octets.{le, signed32, negative}
 use Rattle.vector.specs.declared.Vector.{Vector}
 use Rattle.vector.specs.Vector.{keepsRule}
 use Rattle.message.specs.declared.Header.{Header}
 use Rattle.message.specs.declared.Read.{Read}
 use Rattle.message.specs.declared.Read.the-variants as answer
-use Rattle.message.specs.Layout.{Shape, shapeOf, headerOf, Pad, padsOf, Head, headOf, Element, Content, Nego, Exchange, Verify, Alert, contentOf, vectorsOf, size, front}
+use Rattle.message.specs.Layout.{Shape, shapeOf, headerOf, Pad, padsOf, signature, Head, headOf, Element, Content, Nego, Exchange, Verify, Alert, contentOf, vectorsOf, size, front}
 
 pub record Row : Type 0 where
   pub number : ℕ
@@ -54,9 +54,9 @@ RefusesFirst = (rs : List Row) → allPass rs ≡ false → FirstFails (firstFai
 abbrev pub FirstRefuses : Type 0
 FirstRefuses = (n : ℕ) (rs : List Row) → FirstFails n rs → (allPass rs ≡ false) × (firstFailing rs ≡ n)
 
--- "NEGOEXTS", as a little-endian number
+-- 3: "signature differs"; the signature as the number that its octets are
 abbrev pub SIGNATURE : ℕ
-SIGNATURE = 6004521257897772366
+SIGNATURE = le 8 signature 0
 
 unfoldable pub commonRows : ℕ → Head → List Row
 commonRows n h =

@@ -43,6 +43,15 @@ impl Kind {
 
     pub const ALERT_HEADER: u32 = 72;
 
+    // The header sizes, as lengths of a slice.
+    pub const NEGO_HEADER_LEN: usize = Kind::NEGO_HEADER as usize;
+
+    pub const EXCHANGE_HEADER_LEN: usize = Kind::EXCHANGE_HEADER as usize;
+
+    pub const VERIFY_HEADER_LEN: usize = Kind::VERIFY_HEADER as usize;
+
+    pub const ALERT_HEADER_LEN: usize = Kind::ALERT_HEADER as usize;
+
     pub fn initiator_nego() -> Kind
         ensures { λ r. ⌜ r .0 ≡ 0 ⌝ }
     {
@@ -91,6 +100,23 @@ impl Kind {
         Kind(Kind::ALERT)
     }
 
+    // The kind with a type number that passed check 4.
+    pub fn of(number: u32) -> Kind
+        requires { ⌜ number ≤ 7 ⌝ }
+        ensures { λ r. ⌜ r .0 ≡ number ⌝ }
+    {
+        match number {
+            Kind::INITIATOR_NEGO => Kind::initiator_nego(),
+            Kind::ACCEPTOR_NEGO => Kind::acceptor_nego(),
+            Kind::INITIATOR_META_DATA => Kind::initiator_meta_data(),
+            Kind::ACCEPTOR_META_DATA => Kind::acceptor_meta_data(),
+            Kind::CHALLENGE => Kind::challenge(),
+            Kind::AP_REQUEST => Kind::ap_request(),
+            Kind::VERIFY => Kind::verify(),
+            _ => Kind::alert(),
+        }
+    }
+
     // The kind's header length.
     pub fn header(self) -> u32
         ensures { λ r. ⌜ r ≡ headerOf (shapeOf (self .0)) ⌝ }
@@ -122,28 +148,29 @@ pub enum Read {
     Refused(u32),
 }
 
-const SIGNATURE: u64 = 6004521257897772366;
+// "NEGOEXTS", the octets 4E 45 47 4F 45 58 54 53, as a little-endian number.
+const SIGNATURE: u64 = 0x5354_5845_4F47_454E;
 
 // Checks 2 to 6 of the message at the front of `rest`.
 pub fn read_header(rest: &[u8]) -> Read
     ensures { λ r. ⌜ said r ≡ headerVerdict (now (rest .entry)) ⌝ }
 {
-    if rest.len() < 40 {
+    if rest.len() < field::COMMON_HEADER {
         return Read::Refused(2);
     }
-    if le_u64(rest, 0) != SIGNATURE {
+    if le_u64(rest, field::SIGNATURE) != SIGNATURE {
         return Read::Refused(3);
     }
-    let number = le_u32(rest, 8);
+    let number = le_u32(rest, field::TYPE);
     if Kind::ALERT < number {
         return Read::Refused(4);
     }
-    let kind = Kind(number);
-    let header = le_u32(rest, 16);
+    let kind = Kind::of(number);
+    let header = le_u32(rest, field::HEADER_LENGTH);
     if header != kind.header() {
         return Read::Refused(5);
     }
-    let length = le_u32(rest, 20);
+    let length = le_u32(rest, field::MESSAGE_LENGTH);
     if length < header {
         return Read::Refused(6);
     }
@@ -152,7 +179,7 @@ pub fn read_header(rest: &[u8]) -> Read
     }
     Read::Message(Header {
         kind,
-        sequence: le_u32(rest, 12),
+        sequence: le_u32(rest, field::SEQUENCE),
         header,
         length,
     })

@@ -8,12 +8,17 @@ use mathlib.Core.List.{List, []}
 use native.Mathlib.Omega.{arith}
 use lib.ListN.{length, take, drop}
 use borrow.Author.Tests.{le-leb, lt-leb}
+use lib.IntN.{ℤ, pos}
+use mir.Syntax.{w32}
+use mir.Val.{SFits, toZ, ofZ}
+use mir.Facts.{toZ-ofZ}
+use Rattle.octets.specs.Octets.{le, signed32}
 use Rattle.octets.proofs.Bools.{which}
 use Rattle.vector.specs.declared.Vector.{Vector}
 use Rattle.vector.specs.Vector.{extent, keepsRule, shown}
 use Rattle.vector.proofs.Rule.{rule-inside, shown-empty, shown-none}
-use Rattle.message.specs.Layout.{octetVector}
-use Rattle.message.specs.Show.{idAt, nestedOf}
+use Rattle.message.specs.Layout.{octetVector, extensionVector}
+use Rattle.message.specs.Show.{idAt, nestedOf, signedIn, extensionType}
 
 -- a slice that has no room for the header shows nothing
 pub shown-short : (header : ℕ) (m : List ℕ) (v : Vector) → length m < header → [] ≡ shown header m v
@@ -54,5 +59,22 @@ module _ (m : List ℕ) (at : ℕ) where
   pub id-read : at + 16 ≤ length m → take 16 (drop at m) ≡ idAt m at
   unfolding idAt
   id-read h = simp (le-leb _ _ h)
+
+-- the signed numbers: what was read is `z`, as the machine holds it
+module _ (n : ℕ) (m : List ℕ) (at : ℕ) where
+  pub signed-none : length m < n → pos 0 ≡ signedIn n m at
+  unfolding signedIn
+  signed-none h = simp (lt-leb _ _ h)
+
+  pub signed-read : n ≤ length m → (z : ℤ) → SFits w32 z → z ≡ signed32 (le 4 m at) → toZ w32 (ofZ w32 z) ≡ signedIn n m at
+  unfolding signedIn
+  signed-read h z f e = toZ-ofZ {w = w32} f ∙ e ∙ simp (le-leb _ _ h)
+
+pub signed-same : (n : ℕ) (m : List ℕ) (at : ℕ) (z : ℤ) → SFits w32 z → z ≡ signedIn n m at → toZ w32 (ofZ w32 z) ≡ signedIn n m at
+signed-same n m at z f e = toZ-ofZ {w = w32} f ∙ e
+
+pub type-read : (m : List ℕ) (k : ℕ) (a : List ℕ) → a ≡ shown 96 m (extensionVector m) → (z : ℤ) → SFits w32 z → z ≡ signedIn (12 * k + 12) a (12 * k) → toZ w32 (ofZ w32 z) ≡ extensionType m k
+unfolding extensionType
+type-read m k a a-is z f e = rw (← a-is) (signed-same (12 * k + 12) a (12 * k) z f e)
 
 pub ruleset shows = (shown-short, shown-read, nested-none, nested-read, nested-short, nested-same, id-none, id-read)

@@ -1,10 +1,10 @@
 -- The machine's -1 - z, for z below zero, and z itself otherwise, as two's complement has them.
 -- Assumes nothing.
-use Prim.Native.Nat.{ℕ, suc, _-_, _<_, _≤_, _^_}
+use Prim.Native.Nat.{ℕ, suc, _+_, _-_, _<_, _^_}
 use mathlib.Core.Path.{_≡_, refl, sym, ap, _∙_}
 use mathlib.Core.Bool.{true, false}
 use native.Mathlib.Omega.{arith}
-use lib.IntN.{ℤ, pos, negsuc, _-ℤ_}
+use lib.IntN.{ℤ, pos, negsuc, natAbs, _-ℤ_}
 use lib.Signed.{ltZ, mag}
 use borrow.Author.Tests.{le-ltb, ltb-true}
 use mir.Syntax.{w32}
@@ -17,22 +17,24 @@ minus n = let e : suc n - 1 ≡ n = omega arith in simp (le-ltb (suc n) 1 (omega
 
 -- a signed number below zero, and any other
 pub record Below (z : ℤ) : Type 0 where
-  pub low : unsigned32 z ≤ 4294967295
-  pub small : 4294967295 - unsigned32 z < 2 ^ 31
-  pub minus-is : negsuc 0 -ℤ z ≡ pos (4294967295 - unsigned32 z)
+  pub small : mag z < 2 ^ 31
+  pub minus-is : negsuc 0 -ℤ z ≡ pos (mag z)
+  pub unsigned-is : unsigned32 z ≡ 4294967295 - mag z
+  pub abs-is : natAbs z ≡ mag z + 1
+  pub is : z ≡ negsuc (mag z)
 
 pub record Above (z : ℤ) : Type 0 where
-  pub small : unsigned32 z < 2 ^ 31
-  pub is : z ≡ pos (unsigned32 z)
+  pub small : mag z < 2 ^ 31
+  pub unsigned-is : unsigned32 z ≡ mag z
+  pub abs-is : natAbs z ≡ mag z
+  pub is : z ≡ pos (mag z)
 
 below : (z : ℤ) → mag z < 2 ^ 31 → ltZ z (pos 0) ≡ true → Below z
 below (pos n) f t = absurd (omega (arith, ltb-true n 0 t))
-below (negsuc n) f t =
-    let e : 4294967295 - (4294967295 - n) ≡ n = omega arith in
-    record { low = omega arith; small = omega arith; minus-is = minus n ∙ ap pos (sym e) }
+below (negsuc n) f t = record { small = f; minus-is = minus n; unsigned-is = refl; abs-is = omega arith; is = refl }
 
 above : (z : ℤ) → mag z < 2 ^ 31 → ltZ z (pos 0) ≡ false → Above z
-above (pos n) f t = record { small = f; is = refl }
+above (pos n) f t = record { small = f; unsigned-is = refl; abs-is = refl; is = refl }
 above (negsuc n) f t = let z : _≡_ {A = ℕ} 0 1 = cc in absurd (omega arith)
 
 -- in the words of the code
@@ -43,11 +45,11 @@ module _ (z : ℤ) (f : SFits w32 z) where
   pub is-above : ltZ (toZ w32 (ofZ w32 z)) (pos 0) ≡ false → Above z
   is-above t = above z (f .sfits) (ap (λ (y : ℤ). ltZ y (pos 0)) (sym (toZ-ofZ f)) ∙ t)
 
-  pub differs : Below z → negsuc 0 -ℤ toZ w32 (ofZ w32 z) ≡ pos (4294967295 - unsigned32 z)
+  pub differs : Below z → negsuc 0 -ℤ toZ w32 (ofZ w32 z) ≡ pos (mag z)
   differs b = ap (λ (y : ℤ). negsuc 0 -ℤ y) (toZ-ofZ f) ∙ b .minus-is
 
-  pub differs-here : Below z → toZ w32 (ofZ w32 (negsuc 0 -ℤ toZ w32 (ofZ w32 z))) ≡ pos (4294967295 - unsigned32 z)
-  differs-here b = ap (λ (y : ℤ). toZ w32 (ofZ w32 y)) (differs b) ∙ toZ-ofZ {w = w32} {z = pos (4294967295 - unsigned32 z)} (record { sfits = b .small })
+  pub differs-here : Below z → toZ w32 (ofZ w32 (negsuc 0 -ℤ toZ w32 (ofZ w32 z))) ≡ pos (mag z)
+  differs-here b = ap (λ (y : ℤ). toZ w32 (ofZ w32 y)) (differs b) ∙ toZ-ofZ {w = w32} {z = pos (mag z)} (record { sfits = b .small })
 
-  pub stays : Above z → toZ w32 (ofZ w32 z) ≡ pos (unsigned32 z)
+  pub stays : Above z → toZ w32 (ofZ w32 z) ≡ pos (mag z)
   stays a = toZ-ofZ f ∙ a .is

@@ -76,10 +76,10 @@ copy-step d at v i h k = rw add-one (paste-suc d at v i 0 (omega arith) k)
 pub as-number : {d d' : List ℕ} {at x y next : ℕ} (k : ℕ) → x ≡ y → Written d at k (octetsOf k x) d' next → Written d at k (octetsOf k y) d' next
 as-number {x} {y} k e w = rw (← e) w
 
--- the room that is left behind the fields put so far
-pub wrote-room : {d d2 : List ℕ} {vs : List (List ℕ)} {at a2 : ℕ} (n m : ℕ) → Wrote d at vs d2 a2 → length (joined vs) ≡ n → at + (n + m) ≤ length d → a2 + m ≤ length d2
-wrote-room {d} {d2} {vs} {at} n m w e h =
-    let a = wrote-after w in
-    let k : at + length (joined vs) ≤ length d = omega arith in
-    let l : length d2 ≡ length d = ap length (wrote-holds w k) ∙ length-put d at (joined vs) k in
+-- of the room for k octets, what is left behind n of them that one writer put
+pub room-behind : {d d1 v : List ℕ} {at n a1 k : ℕ} (m : ℕ) → Written d at n v d1 a1 → at + k ≤ length d → n + m ≤ k → a1 + m ≤ length d1
+room-behind {d} {d1} {v} {at} {n} {a1} {k} m w h e =
+    let s : length v ≡ n = w .size in
+    let a : a1 ≡ at + n = w .after in
+    let l : length d1 ≡ length d = ap length (w .holds) ∙ length-put d at v (omega arith) in
     omega arith

@@ -10,12 +10,13 @@ use lib.ListN.{length, take, drop, take-append-drop}
 use lib.Seq.{getD-drop, take-at, drop-at}
 use lib.IntN.{ℤ, pos, negsuc}
 use lib.Signed.{mag}
-use borrow.Author.Tests.{lt-ltb, le-ltb}
+use borrow.Author.Tests.{lt-ltb, le-ltb, le-leb}
 use Rattle.octets.specs.Octets.{le, octets, signed32}
 use Rattle.octets.proofs.Le.{le-add}
 use Rattle.vector.specs.declared.Vector.{Vector}
 use Rattle.vector.specs.Vector.{extent, keepsRule, shown}
 use Rattle.vector.proofs.Rule.{inside-rule}
+use Rattle.message.specs.Show.{signedIn}
 use Rattle.put.specs.Put.{octetsOf, unsigned32, joined}
 use Rattle.put.proofs.Laws.{joined-append}
 use Rattle.roundtrip.specs.ReadBack.{LeOctets, SignedBack}
@@ -84,6 +85,11 @@ signed-back (negsuc n) f =
     let a : 2147483648 ≤ 4294967295 - n = omega arith in
     let b : 4294967295 - (4294967295 - n) ≡ n = omega arith in
     simp (le-ltb _ _ a) (ap negsuc b)
+
+-- what the reader of a signed number hands back of a message in which one was written
+pub signed-shown : (least : ℕ) (m : List ℕ) (at : ℕ) (z : ℤ) → least ≤ length m → le 4 m at ≡ unsigned32 z → mag z < 2147483648 → signedIn least m at ≡ z
+unfolding signedIn
+signed-shown least m at z h e r = simp (le-leb _ _ h) (ap signed32 e ∙ signed-back z r)
 
 pub unsigned-small : (z : ℤ) → mag z < 2147483648 → unsigned32 z < 4294967296
 unsigned-small (pos n) f = omega arith

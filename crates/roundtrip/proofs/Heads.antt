@@ -5,13 +5,14 @@ use mathlib.Core.Path.{_≡_, refl, sym, ap, _∙_}
 use mathlib.Core.Bool.{true}
 use mathlib.Core.List.{List, [], _∷_, _++_, append-nil}
 use native.Mathlib.Omega.{arith}
-use lib.ListN.{length, take, length-append}
+use lib.ListN.{length, take, drop, length-append}
 use lib.Seq.{take-at}
 use lib.Dec.{leb, eqb}
 use borrow.Author.Tests.{le-leb, eq-eqb, leb-true, eqb-true}
+use Rattle.octets.specs.Octets.{le}
 use Rattle.octets.proofs.Bools.{both}
 use Rattle.octets.proofs.Same.{id-refl}
-use Rattle.message.specs.Layout.{Shape, nego, exchange, verify, alert, shapeOf, headerOf, padsOf, Head, headOf, front, Content, contentOf, vectorsOf}
+use Rattle.message.specs.Layout.{Shape, nego, exchange, verify, alert, shapeOf, headerOf, padsOf, signature, Head, headOf, front, Content, contentOf, vectorsOf}
 use Rattle.message.specs.Check.{allPass, SIGNATURE, commonRows, padsZero, allKeepRule, contentRows, bodyRows, frontRows, messageRows, padRows, versionOk, criticalOk, checksumOk, noneCritical, read, fieldsOf, messageVerdict}
 use Rattle.message.proofs.Tables.{giving, pass-append, verdict-is}
 use Rattle.message.proofs.Shapes.{header-least, shape-nego, shape-exchange, shape-verify, shape-alert}
@@ -62,12 +63,16 @@ header-small exchange = omega arith
 header-small verify = omega arith
 header-small alert = omega arith
 
+signature-first : (t : List ℕ) → le 8 (signature ++ t) 0 ≡ SIGNATURE
+unfolding le
+signature-first t = refl
+
 -- the common header, whatever fields are behind it
 module _ (h : Heading) (n : ℕ) (fs : List (List ℕ)) (known : h .kind .0 ≤ 7) (number : h .sequence < 4294967296) (small : n < 4294967296) (id : length (h .conversation) ≡ 16) where
   pub head-fields : headOf (joined (headFields h n ++ fs)) ≡ record { signature = SIGNATURE; kind = h .kind .0; sequence = h .sequence; header = headerOf (shapeOf (h .kind .0)); length = n; conversation = h .conversation }
   unfolding headOf
   head-fields =
-      let s = number-at 0 0 (headFields h n ++ fs) refl 8 SIGNATURE _ refl (omega arith) in
+      let s = signature-first (joined (drop 1 (headFields h n) ++ fs)) in
       let k = number-at 1 8 (headFields h n ++ fs) refl 4 (h .kind .0) _ refl (omega arith) in
       let q = number-at 2 12 (headFields h n ++ fs) refl 4 (h .sequence) _ refl number in
       let l = number-at 3 16 (headFields h n ++ fs) refl 4 (headerOf (shapeOf (h .kind .0))) _ refl (header-small (shapeOf (h .kind .0))) in

@@ -20,7 +20,7 @@ use Rattle.encode.specs.declared.Heading.{Heading}
 use Rattle.encode.specs.Encode.{Offer, Payload, Checksum, Pulse, Contents, ofNego, ofExchange, ofVerify, ofAlert, sizeOf, headFields, bodyFields, octetVectorFields, encoded}
 use Rattle.roundtrip.specs.ReadBack.{contentRead, Shows}
 use Rattle.encode.proofs.Sizes.{length-encoded}
-use Rattle.roundtrip.proofs.Fields.{number-at, octets-at, drop-joined, shown-field, behindHeader, payload-rule, payload-shown, signed-back, unsigned-small}
+use Rattle.roundtrip.proofs.Fields.{number-at, octets-at, drop-joined, shown-field, behindHeader, payload-rule, payload-shown, signed-shown, unsigned-small}
 
 module _ (h : Heading) (id : length (h .conversation) ≡ 16) where
   abbrev fields : Contents → List (List ℕ)
@@ -173,7 +173,7 @@ module _ (h : Heading) (id : length (h .conversation) ≡ 16) where
     pub verify-shows : Shows (ofVerify k) (encoded h (ofVerify k))
     verify-shows =
         let v : checksumVector (encoded h (ofVerify k)) ≡ behindHeader 1 80 (length (k .value)) = simp (verify-offset, verify-length) in
-        (rw v (payload-shown 1 80 (length (k .value)) (k .value) (omega arith) (encoded h (ofVerify k)) (length-encoded h id (ofVerify k) whole) verify-value), signed-back (k .type) range)
+        (rw v (payload-shown 1 80 (length (k .value)) (k .value) (omega arith) (encoded h (ofVerify k)) (length-encoded h id (ofVerify k) whole) verify-value), signed-shown 80 _ 64 (k .type) (omega (arith, length-encoded h id (ofVerify k) whole)) verify-type range)
 
   -- ALERT, whose array and value are the same in every message
   module _ (p : Pulse) (whole : length (p .scheme) ≡ 16) (range : mag (p .code) < 2147483648) where
@@ -234,4 +234,4 @@ module _ (h : Heading) (id : length (h .conversation) ≡ 16) where
         let n = length-encoded h id (ofAlert p) whole in
         let e : shown 72 (encoded h (ofAlert p)) (alertVector (encoded h (ofAlert p))) ≡ joined (octetsOf 4 1 ∷ octetVectorFields 84 8) =
         rw alert-vector (shown-field 72 (encoded h (ofAlert p)) _ _ (rw n) alert-array) in
-        (e, (simp e (shown-field 72 (encoded h (ofAlert p)) _ _ (rw n) alert-value), signed-back (p .code) range))
+        (e, (simp e (shown-field 72 (encoded h (ofAlert p)) _ _ (rw n) alert-value), signed-shown 72 _ 56 (p .code) (omega (arith, n)) alert-code range))

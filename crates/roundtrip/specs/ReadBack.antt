@@ -5,7 +5,7 @@
 --   Sent h c             a message that can be written: encodable, with a sequence number and signed numbers of 32 bits and whole ids
 --   shapeFor c           the layout of the contents
 --   headRead, contentRead   the header and the content that reading finds; vectorOf: a vector with its stored offset
---   Shows c m            what the vector readers hand back of the message m is what was written
+--   Shows c m            what the readers of vectors and signed numbers hand back of the message m is what was written
 --   ReadsBack h c r      the written message, followed by any octets r, reads as what was written
 --   Stands d at h c next d'   the written message stands at `at` in d', which else is d; `next` is the place behind it
 --   Outgoing             a message to write; octetsOfAll gives the written messages of a list
@@ -27,7 +27,7 @@ use Rattle.vector.specs.declared.Vector.{Vector}
 use Rattle.vector.specs.Vector.{shown}
 use Rattle.message.specs.Layout.{Shape, nego, exchange, verify, alert, headerOf, Head, headOf, front, Content, Nego, Exchange, Verify, Alert, contentOf, schemeVector, exchangeVector, checksumVector, alertVector}
 use Rattle.message.specs.Check.{SIGNATURE, read, fieldsOf, messageVerdict}
-use Rattle.message.specs.Show.{idsOf, schemesIn, nestedOf}
+use Rattle.message.specs.Show.{idsOf, schemesIn, nestedOf, checksumType, errorCode}
 use Rattle.put.specs.Put.{octetsOf, unsigned32, joined}
 use Rattle.encode.specs.declared.Heading.{Heading}
 use Rattle.token.specs.Token.{Accepted, tokenOf}
@@ -76,11 +76,11 @@ contentRead (ofAlert p) =
 abbrev pub Shows : Contents → List ℕ → Type 0
 Shows (ofNego o) m = (shown 96 m (schemeVector m) ≡ o .schemes) × (schemesIn m ≡ idsOf (o .schemes))
 Shows (ofExchange p) m = shown 64 m (exchangeVector m) ≡ p .value
-Shows (ofVerify k) m = (shown 80 m (checksumVector m) ≡ k .value) × (signed32 (unsigned32 (k .type)) ≡ k .type)
+Shows (ofVerify k) m = (shown 80 m (checksumVector m) ≡ k .value) × (checksumType m ≡ k .type)
 Shows (ofAlert p) m =
     (shown 72 m (alertVector m) ≡ joined (octetsOf 4 1 ∷ octetVectorFields 84 8))
     × ((nestedOf 72 m (alertVector m) 0 ≡ joined (octetsOf 4 8 ∷ octetsOf 4 1 ∷ []))
-    × (signed32 (unsigned32 (p .code)) ≡ p .code))
+    × (errorCode m ≡ p .code))
 
 pub record ReadsBack (h : Heading) (c : Contents) (r : List ℕ) : Type 0 where
   pub size : length (encoded h c) ≡ sizeOf c

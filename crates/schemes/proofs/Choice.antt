@@ -10,8 +10,8 @@ use native.Mathlib.Omega.{arith}
 use Rattle.octets.proofs.Bools.{which, no-true, and-l, and-r, and-i}
 use Rattle.octets.specs.Octets.{sameOctets}
 use Rattle.octets.proofs.Same.{same-refl, same-eq}
-use Rattle.schemes.specs.Lists.{Id, mem, place, distinct, keep, first, marked, usable, leftOver, rule2}
-use Rattle.schemes.specs.Longer.{Within, none-left, kept, gained, Longer, SameMarks, NoLater}
+use Rattle.schemes.specs.Lists.{Id, mem, place, distinct, keep, first, marked, usable, leftOver, rule2, replyOf}
+use Rattle.schemes.specs.Longer.{Within, none-left, kept, gained, Longer, SameMarks, NoLater, LongerOffer}
 
 -- keep
 
@@ -171,7 +171,7 @@ module _ (acc ini acc′ ini′ : List Id) (up : Longer acc ini acc′ ini′) (
 
   -- the acceptor's reply is not empty
   pub still-common : (ma′ : ℕ) → SameMarks acc ini acc ma acc′ ma′
-      → mem c (keep (λ s. mem s ini′ && not (marked acc′ ma′ s)) acc′) ≡ true
+      → mem c (replyOf acc′ ini′ ma′) ≡ true
   still-common ma′ sa =
       keep-mem (λ s. mem s ini′ && not (marked acc′ ma′ s)) acc′ c
       (rw (sa c (chosen .1) listed, up .gains c listed)
@@ -179,9 +179,9 @@ module _ (acc ini acc′ ini′ : List Id) (up : Longer acc ini acc′ ini′) (
       (within-mem (up .in-order) c (chosen .1))
 
   -- the new choice stands no later, and is new if it is another
-  pub longer : (ma′ mi′ : ℕ) → SameMarks acc ini acc ma acc′ ma′ → SameMarks acc ini ini mi ini′ mi′
+  stands : (ma′ mi′ : ℕ) → SameMarks acc ini acc ma acc′ ma′ → SameMarks acc ini ini mi ini′ mi′
       → (c′ : Id) → rule2 acc′ ini′ ma′ mi′ ≡ some c′ → NoLater acc ini acc′ c c′
-  longer ma′ mi′ sa si c′ after =
+  stands ma′ mi′ sa si c′ after =
       let u′ : Id → Bool = usable acc′ ini′ ma′ mi′ in
       let mc : mem c acc′ ≡ true = within-mem (up .in-order) c (chosen .1) in
       let h : (u′ c′ ≡ true) × (mem c′ acc′ ≡ true) = mem-keep u′ acc′ c′ (first-mem (keep u′ acc′) c′ after) in
@@ -196,3 +196,6 @@ module _ (acc ini acc′ ini′ : List Id) (up : Longer acc ini acc′ ini′) (
             first-place v acc′ c c′ (ap first e ∙ before) (and-i (mem c′ acc) (usable acc ini ma mi c′) a (sym (carried ma′ mi′ sa si c′ a i) ∙ h .0)) (h .1) in
             ne (place-inj acc′ c′ c (h .1) mc (omega arith));
       }
+
+pub longer : LongerOffer
+longer acc ini acc′ ini′ up d ma mi c before = stands acc ini acc′ ini′ up d ma mi c before

@@ -12,8 +12,8 @@ use borrow.Author.Tests.{eq-eqb, ne-eqb, lt-ltb}
 use Rattle.octets.proofs.Bools.{which, no-true, and-l, and-r}
 use Rattle.octets.specs.Octets.{sameOctets}
 use Rattle.octets.proofs.Same.{same-refl, same-eq}
-use Rattle.schemes.specs.Lists.{Id, mem, place, distinct, keep, bit, marked, leftOver}
-use Rattle.schemes.specs.Sets.{setOf, commonSet, left, has, noted, mentions, keptPlaces, ones, openPlaces, named, padTo}
+use Rattle.schemes.specs.Lists.{Id, mem, place, distinct, keep, bit, marked, leftOver, replyOf}
+use Rattle.schemes.specs.Sets.{setOf, commonSet, left, has, noted, mentions, keptPlaces, ones, openPlaces, named, leftIn, AcceptorLeft, InitiatorLeft}
 use Rattle.schemes.proofs.Choice.{mem-head, mem-tail, keep-ext, keep-keep, keep-distinct, mem-keep, not-mem-same, place-inj}
 
 even-bit : (n : ℕ) → (bit (0 + 2 * n) 0 ≡ false) × ((0 + 2 * n) / 2 ≡ n)
@@ -23,7 +23,7 @@ pub odd-bit : (n : ℕ) → (bit (1 + 2 * n) 0 ≡ true) × ((1 + 2 * n) / 2 ≡
 odd-bit n = (eq-eqb ((1 + 2 * n) % 2) 1 (omega arith), omega arith)
 
 -- the acceptor: the common schemes less its marks, in its own order
-pub left-keep : (l peer : List Id) (m : ℕ) → distinct l ≡ true → left l (commonSet l peer) m ≡ keep (λ s. mem s peer && not (marked l m s)) l
+pub left-keep : AcceptorLeft
 unfolding left setOf distinct place
 left-keep [] peer m d = refl
 left-keep (x ∷ l) peer m d =
@@ -37,10 +37,6 @@ left-keep (x ∷ l) peer m d =
       | inl e ↦ rw (e, odd-bit c .0, odd-bit c .1, same-refl x, j, i)
       | inr e ↦ rw (e, even-bit c .0, even-bit c .1, j, i)
     ]
-
--- the reply that the acceptor writes
-abbrev pub replyOf : List Id → List Id → ℕ → List Id
-replyOf acceptor initiator m = keep (λ s. mem s initiator && not (marked acceptor m s)) acceptor
 
 pub place-below : (l : List Id) (s : Id) → mem s l ≡ true → place l s < length l
 unfolding mem place
@@ -116,8 +112,11 @@ module _ (acc ini : List Id) (ma : ℕ) (d : distinct acc ≡ true) where
   unfolding has
   kept-reply = mentions-all ini (replyOf acc ini ma) [] (keep-distinct (λ s. mem s ini && not (marked acc ma s)) acc d) in-ini (λ s m. refl)
 
-  pub left-of-reply : (mi : ℕ) → let ks : List ℕ = keptPlaces ini (replyOf acc ini ma) in named ini (openPlaces (padTo 16 ks) (ones (length ks)) mi) ≡ leftOver acc ini ma mi
-  left-of-reply mi =
+  left-then : (mi : ℕ) → leftIn ini (replyOf acc ini ma) mi ≡ leftOver acc ini ma mi
+  left-then mi =
       rw (kept-reply, length-map-place ini (replyOf acc ini ma))
       (open-names ini (replyOf acc ini ma) (replicate (16 - length (replyOf acc ini ma)) 0) mi in-ini
       ∙ keep-keep (λ s. not (marked ini mi s)) (λ s. mem s ini && not (marked acc ma s)) acc)
+
+pub left-of-reply : InitiatorLeft
+left-of-reply acc ini ma d mi = left-then acc ini ma d mi

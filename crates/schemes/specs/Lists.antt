@@ -4,12 +4,13 @@
 --   Id                a scheme id: its octets
 --   mem s l           l mentions s; place l s: the place of the first mention, from 0, or l's length where there is none
 --   distinct l        no scheme stands in l twice
---   keep p l          the schemes of l with p, in l's order; first l: the first of l
+--   keep p l          those of l with p, in l's order; first l: the first of a list of schemes
 --   bit m k           bit k of the set m
 --   marked own m s    the own list's marks m have s: bit k for place k of the own list
 --   usable, leftOver  listed by both ends and marked by neither; the acceptor's list, with those only
 --   rule2             the choice: the first of them
---   oneTo16 l         1 to 16 different schemes
+--   replyOf           the reply's list: the acceptor's list, with the schemes that the initiator lists and the acceptor has not marked
+--   oneTo16 l         1 to 16 different schemes; wholeIds l: each has 16 octets
 --   joinIds l         the octets of the schemes, one behind the other
 --   listOk octets     what 19 asks of an own list, handed over as octets
 use Prim.Native.Nat.{ℕ, zero, suc, _+_, _/_, _%_}
@@ -36,7 +37,7 @@ unfoldable pub distinct : List Id → Bool
 distinct [] = true
 distinct (x ∷ l) = not (mem x l) && distinct l
 
-abbrev pub keep : (Id → Bool) → List Id → List Id
+abbrev pub keep : {A : Type 0} → (A → Bool) → List A → List A
 keep p [] = []
 keep p (x ∷ l) = cond (p x) (x ∷ keep p l) (keep p l)
 
@@ -63,9 +64,18 @@ leftOver acceptor initiator acceptorMarks initiatorMarks = keep (usable acceptor
 abbrev pub rule2 : List Id → List Id → ℕ → ℕ → Option Id
 rule2 acceptor initiator acceptorMarks initiatorMarks = first (leftOver acceptor initiator acceptorMarks initiatorMarks)
 
+-- "the acceptor into its own the common schemes less its marks, in its own order"
+abbrev pub replyOf : List Id → List Id → ℕ → List Id
+replyOf acceptor initiator acceptorMarks = keep (λ s. mem s initiator && not (marked acceptor acceptorMarks s)) acceptor
+
 -- "Own lists have 1 to 16 different schemes."
 abbrev pub oneTo16 : List Id → Bool
 oneTo16 l = leb 1 (length l) && leb (length l) 16 && distinct l
+
+-- "Scheme and conversation ids are 16 octets"
+abbrev pub wholeIds : List Id → Bool
+wholeIds [] = true
+wholeIds (x ∷ l) = eqb (length x) 16 && wholeIds l
 
 -- the ids, one behind the other
 abbrev pub joinIds : List Id → List ℕ

@@ -5,11 +5,13 @@
 --   Longer         the acceptor's list gains schemes; the initiator's gains some and may be reordered
 --   SameMarks      the marks m' by the list own' are, for the schemes that both ends listed before, the marks m by the list own
 --   NoLater        the choice c' stands no later than c in the new acceptor's list; if it is another, not both old lists had it
+--   LongerOffer    demand 3 on lists: behind a longer offer with the same marks, what rule 2 chooses stands no later
 use Prim.Native.Nat.{ℕ, _≤_}
 use mathlib.Core.Path.{_≡_}
 use mathlib.Core.Bool.{true}
 use mathlib.Core.List.{List, [], _∷_}
-use Rattle.schemes.specs.Lists.{Id, mem, place, marked}
+use mathlib.Core.Option.{some}
+use Rattle.schemes.specs.Lists.{Id, mem, place, distinct, marked, rule2}
 
 pub data Within : List Id → List Id → Type 0 where
   none-left : Within [] []
@@ -27,3 +29,11 @@ SameMarks acceptor initiator own m own′ m′ =
 pub record NoLater (acceptor initiator acceptor′ : List Id) (c c′ : Id) : Type 0 where
   pub no-later : place acceptor′ c′ ≤ place acceptor′ c
   pub new : (c′ ≡ c → ⊥) → mem c′ acceptor ≡ true → mem c′ initiator ≡ true → ⊥
+
+-- demand 3, "A longer offer never loses a choice", where both conversations have one
+abbrev pub LongerOffer : Type 0
+LongerOffer =
+    (acceptor initiator acceptor′ initiator′ : List Id) → Longer acceptor initiator acceptor′ initiator′ → distinct acceptor′ ≡ true
+    → (ma mi : ℕ) (c : Id) → rule2 acceptor initiator ma mi ≡ some c
+    → (ma′ mi′ : ℕ) → SameMarks acceptor initiator acceptor ma acceptor′ ma′ → SameMarks acceptor initiator initiator mi initiator′ mi′
+    → (c′ : Id) → rule2 acceptor′ initiator′ ma′ mi′ ≡ some c′ → NoLater acceptor initiator acceptor′ c c′

@@ -12,12 +12,16 @@
 --   named own ks        the schemes at places of the own list
 --   below n m           the set m has no bit from n on; keptBelow: no kept place at a bit of c is n or more
 --   padTo n l           l with zeros behind it, n numbers in all
+--   leftIn own l m      of the reply l, what the initiator has left by its own list and marks, by way of kept places and sets
+--   AcceptorLeft        what the acceptor has left by its sets is the reply's list
+--   InitiatorLeft       what the initiator has left of that reply by its sets is what rule 2 has left
 use Prim.Native.Nat.{ℕ, zero, suc, _+_, _*_, _-_, _/_, _^_}
+use mathlib.Core.Path.{_≡_}
 use mathlib.Core.Bool.{Bool, true, false, cond, not, _&&_, _||_}
 use mathlib.Core.List.{List, [], _∷_, _++_, map}
 use lib.ListN.{length, getD, replicate}
 use lib.Dec.{eqb, ltb}
-use Rattle.schemes.specs.Lists.{Id, mem, place, bit}
+use Rattle.schemes.specs.Lists.{Id, mem, place, distinct, bit, leftOver, replyOf}
 
 -- bit k for the k-th of a list, where it has p
 unfoldable pub setOf : {A : Type 0} → (A → Bool) → List A → ℕ
@@ -72,3 +76,18 @@ keptBelow n (k ∷ ks) c = (not (bit c 0) || ltb k n) && keptBelow n ks (c / 2)
 
 abbrev pub padTo : ℕ → List ℕ → List ℕ
 padTo n l = l ++ replicate (n - length l) 0
+
+abbrev pub leftIn : List Id → List Id → ℕ → List Id
+leftIn own reply m = named own (openPlaces (padTo 16 (keptPlaces own reply)) (ones (length (keptPlaces own reply))) m)
+
+-- "the acceptor into its own the common schemes less its marks, in its own order"
+abbrev pub AcceptorLeft : Type 0
+AcceptorLeft =
+    (acceptor initiator : List Id) (m : ℕ) → distinct acceptor ≡ true
+    → left acceptor (commonSet acceptor initiator) m ≡ replyOf acceptor initiator m
+
+-- "The initiator, given its marks, chooses the first scheme of the reply that it lists and hasn't marked."
+abbrev pub InitiatorLeft : Type 0
+InitiatorLeft =
+    (acceptor initiator : List Id) (ma : ℕ) → distinct acceptor ≡ true
+    → (mi : ℕ) → leftIn initiator (replyOf acceptor initiator ma) mi ≡ leftOver acceptor initiator ma mi

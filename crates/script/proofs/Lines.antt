@@ -16,7 +16,7 @@ use Rattle.fields.specs.declared.hex.Decoded.the-variants as decoded
 use Rattle.fields.specs.declared.hex.IdText.{IdText}
 use Rattle.fields.specs.declared.number.Number.{Number}
 use Rattle.fields.specs.declared.number.Number.the-variants as number
-use Rattle.fields.specs.Fields.{numberOf, decodedAs, idAs, Numeral, is, hexadecimalOf, roomOf, Octets, of, Front, front, bad, fit, octetsOf, randomOf, idOf}
+use Rattle.fields.specs.Fields.{numberOf, decodedAs, Decodes, idAs, Numeral, is, hexadecimalOf, roomOf, Octets, of, Front, front, bad, fit, octetsOf, randomOf, idOf}
 use Rattle.script.specs.Grammar.{fieldsOf, first, others, only, idsOf, Form, forms, form, formOf, past, numberIn, hasId, idIn, restIn, Line, lineAs, line, badLine, numberThen, idThen, frontThen, rested, named, numbered, called, ends, verbs, placeFrom, placeOf, verbOf, fieldsLine, commandOf}
 use Rattle.script.specs.Steps.{fieldsFrom}
 use Rattle.script.proofs.Places.{past-none, from-start, field-there}
@@ -73,15 +73,6 @@ module _ (s : List ℕ) (from room kind : ℕ) where
   unfolding restIn
   rest-ids h x e = rw (eq-eqb _ _ h) e
 
-  module _ (no-ids : kind ≡ 8 → ⊥) (f : List ℕ) (f-is : f ≡ only (fieldsFrom s from)) (x : Front) where
-    pub rest-octets : kind ≡ 7 → x ≡ fit room (octetsOf f) → x ≡ fit room (restIn kind (fieldsFrom s from))
-    unfolding restIn
-    rest-octets h e = rw (ne-eqb _ _ no-ids, eq-eqb _ _ h, ← f-is) e
-
-    pub rest-random : (kind ≡ 7 → ⊥) → kind ≡ 6 → x ≡ fit room (randomOf f) → x ≡ fit room (restIn kind (fieldsFrom s from))
-    unfolding restIn
-    rest-random g h e = rw (ne-eqb _ _ no-ids, ne-eqb _ _ g, eq-eqb _ _ h, ← f-is) e
-
   module _ (no-ids : kind ≡ 8 → ⊥) (no-octets : kind ≡ 7 → ⊥) (no-random : kind ≡ 6 → ⊥) where
     pub rest-more : from ≤ length s → bad ≡ fit room (restIn kind (fieldsFrom s from))
     unfolding restIn
@@ -90,6 +81,15 @@ module _ (s : List ℕ) (from room kind : ℕ) where
     pub rest-none : length s < from → front 0 [] ≡ fit room (restIn kind (fieldsFrom s from))
     unfolding restIn
     rest-none h = rw (ne-eqb _ _ no-ids, ne-eqb _ _ no-octets, ne-eqb _ _ no-random, past-none s from h) (fits room 0 (of []) [] refl refl (omega arith))
+
+module _ (s : List ℕ) (from kind : ℕ) (no-ids : kind ≡ 8 → ⊥) (f : List ℕ) (f-is : f ≡ only (fieldsFrom s from)) (d : List ℕ) (r : Decoded) (d' : List ℕ) where
+  pub rest-octets : kind ≡ 7 → Decodes f d (octetsOf f) r d' → decodedAs r d' ≡ fit (length d) (restIn kind (fieldsFrom s from))
+  unfolding restIn
+  rest-octets h e = rw (ne-eqb _ _ no-ids, eq-eqb _ _ h, ← f-is) (e .says)
+
+  pub rest-random : (kind ≡ 7 → ⊥) → kind ≡ 6 → Decodes f d (randomOf f) r d' → decodedAs r d' ≡ fit (length d) (restIn kind (fieldsFrom s from))
+  unfolding restIn
+  rest-random g h e = rw (ne-eqb _ _ no-ids, ne-eqb _ _ g, eq-eqb _ _ h, ← f-is) (e .says)
 
 -- the columns of the table, as the code has them
 abbrev column : (Form → ℕ) → List ℕ

@@ -16,7 +16,7 @@ use Rattle.conversation.specs.Writing.{messageOf, schemeNow, schemeAllowed, nam
 use Rattle.conversation.proofs.Inside.{now-below}
 use Rattle.calls.specs.Calls.{roomFor, stageRefusal, writeRefusal, Inside, Appended}
 use Rattle.calls.proofs.Refusals.{write-stage, write-on, passed-inside, passed-own}
-use Rattle.calls.proofs.Sizes.{Sized}
+use Rattle.conversation.specs.Claims.{Arrays}
 use Rattle.calls.proofs.Writes.{changed, called, write-refused, write-written}
 use Rattle.sending.proofs.Schemes.{own-id}
 
@@ -38,7 +38,7 @@ pub named-inside : (r : Record) (kind size len n : ℕ) → n ≡ writeRefusal r
 named-inside r kind size len n n-is z =
     (passed-inside r kind (namedRows r) size len n n-is z refl .few, now-below r (passed-own r kind (namedRows r) size len n n-is z refl .0))
 
-module _ (r : Record) (arrays : Sized r) (d : List ℕ) (kind : ℕ) (of : List ℕ → Contents) (whole-of : (s : List ℕ) → length s ≡ 16 → Whole (of s)) (n : ℕ)
+module _ (r : Record) (arrays : Arrays r) (d : List ℕ) (kind : ℕ) (of : List ℕ → Contents) (whole-of : (s : List ℕ) → length s ≡ 16 → Whole (of s)) (n : ℕ)
     (n-is : n ≡ writeRefusal r kind (namedRows r) (sizeOf (of (schemeAt r (schemeNow r)))) (length d)) where
   abbrev contents : Contents
   contents = of (schemeAt r (schemeNow r))

@@ -22,7 +22,8 @@ use Rattle.conversation.specs.State.{ownOf, schemeAt, replied}
 use Rattle.conversation.specs.Turns.{writing}
 use Rattle.conversation.specs.Writing.{someLeft, startsWith, schemeNow, firstOfReply, schemeAllowed}
 use Rattle.calls.specs.Calls.{Inside}
-use Rattle.calls.proofs.Sizes.{Sized, own-sized}
+use Rattle.conversation.specs.Claims.{Arrays}
+use Rattle.calls.proofs.Sizes.{own-sized}
 use Rattle.calls.proofs.Lefts.{own-none, own-some, own-place, own-starts}
 
 module _ (r : Record) (t : ℕ) (t-is : t ≡ writing (r .acceptor) (r .stage)) where
@@ -48,7 +49,7 @@ module _ (r : Record) (t : ℕ) (t-is : t ≡ writing (r .acceptor) (r .stage)) 
 pub ruleset nows = (now-first, now-answer, now-later, allowed-answer, allowed-other)
 
 -- an id of the own list has 16 octets
-pub own-id : (r : Record) → Sized r → r .count ≤ 16 → (k : ℕ) → k < r .count → length (schemeAt r k) ≡ 16
+pub own-id : (r : Record) → Arrays r → r .count ≤ 16 → (k : ℕ) → k < r .count → length (schemeAt r k) ≡ 16
 own-id r z few k h = ap length (id-at (r .count) (r .list) k h) ∙ own-sized r z k (omega arith)
 
 pub scheme-named : (r : Record) (k : ℕ) → k < r .count → (p : ℕ) → p ≡ k → (id : List ℕ) → id ≡ octets 16 (r .list) (16 * p) → id ≡ schemeAt r k

@@ -3,7 +3,7 @@ ghost use mathlib.Core.Path.{_≡_};
 ghost use Rattle.encode.specs.Encode.{ofAlert};
 ghost use Rattle.conversation.specs.Turns.{ALERT};
 ghost use Rattle.conversation.specs.Outcomes.{Outcome};
-ghost use Rattle.conversation.specs.Writing.{writingAlert};
+ghost use Rattle.conversation.specs.Writing.{alarm, speaking};
 ghost use Rattle.calls.specs.Calls.{Ready, Appended};
 use calls::ALERT;
 use calls::answer;
@@ -12,9 +12,19 @@ use calls::next::heading_of;
 use conversation::Answer;
 use conversation::Record;
 use encode_alert::write;
+use message::Kind;
 use sending::named_refusal;
 use sending::scheme_id;
 use vector::TokenPlace;
+
+// An alert: its type, and the vector of its value.
+const ELEMENT: usize = 12;
+
+// A pulse's value: its length, and its reason.
+const PULSE: usize = 8;
+
+// A written ALERT has one alert, a pulse.
+const LENGTH: usize = Kind::ALERT_HEADER as usize + ELEMENT + PULSE;
 
 // An ALERT at the transcript's end.
 fn append_alert(r: Record, transcript: &mut [u8], id: [u8; 16], code: i32) -> Record
@@ -23,14 +33,14 @@ fn append_alert(r: Record, transcript: &mut [u8], id: [u8; 16], code: i32) -> Re
 {
     let heading = heading_of(r, ALERT);
     write(transcript, r.used, heading, id, code);
-    after_message(r, ALERT, 92)
+    after_message(r, ALERT, LENGTH)
 }
 
 // Writes an ALERT of the chosen scheme: an error code, with a pulse.
 pub fn write_alert(r: Record, transcript: &mut [u8], code: i32) -> Answer
-    ensures { λ a. ⌜ _≡_ {A = Outcome} (record { answer = a; transcript = now (transcript .exit) }) (writingAlert r (now (transcript .entry)) code) ⌝ }
+    ensures { λ a. ⌜ _≡_ {A = Outcome} (record { answer = a; transcript = now (transcript .exit) }) (speaking r (now (transcript .entry)) (alarm code)) ⌝ }
 {
-    let n = named_refusal(r, ALERT, 92, 0, transcript.len());
+    let n = named_refusal(r, ALERT, LENGTH, 0, transcript.len());
     if n != 0 {
         return answer(n, TokenPlace(0), r);
     }

@@ -11,9 +11,9 @@ use Rattle.conversation.specs.declared.Answer.{Answer}
 use Rattle.conversation.specs.State.{schemeAt}
 use Rattle.conversation.specs.Turns.{typeOf, writing}
 use Rattle.conversation.specs.Outcomes.{Outcome, answered}
-use Rattle.conversation.specs.Writing.{schemeNow, namedRows, askedBy, writingExchange}
+use Rattle.conversation.specs.Writing.{schemeNow, namedRows, request, askedBy, speaking}
 use Rattle.calls.specs.Calls.{writeRefusal, Ready, Appended}
-use Rattle.calls.proofs.Sizes.{Sized}
+use Rattle.conversation.specs.Claims.{Arrays}
 use Rattle.calls.proofs.Writes.{changed, write-ready}
 use Rattle.sending.proofs.Named.{named-refused, named-written}
 
@@ -27,12 +27,12 @@ module _ (r : Record) (t : ℕ) (t-is : t ≡ writing (r .acceptor) (r .stage)) 
 pub ruleset askeds = (asked-first, asked-later)
 
 -- ---- the call, by its refusal
-module _ (r : Record) (arrays : Sized r) (d value : List ℕ) (n : ℕ) (n-is : n ≡ writeRefusal r 3 (namedRows r) (64 + length value) (length d)) where
+module _ (r : Record) (arrays : Arrays r) (d value : List ℕ) (n : ℕ) (n-is : n ≡ writeRefusal r 3 (namedRows r) (64 + length value) (length d)) where
   abbrev exchange : List ℕ → Contents
   exchange s = ofExchange (record { scheme = s; value = value })
 
-  pub exchange-refused : (n ≡ 0 → ⊥) → (a : Answer) → a ≡ answered n 0 r → _≡_ {A = Outcome} (record { answer = a; transcript = d }) (writingExchange r d value)
-  unfolding writingExchange
+  pub exchange-refused : (n ≡ 0 → ⊥) → (a : Answer) → a ≡ answered n 0 r → _≡_ {A = Outcome} (record { answer = a; transcript = d }) (speaking r d (request value))
+  unfolding speaking
   exchange-refused h a a-is = named-refused r arrays d 3 exchange (λ s l. l) n n-is h a a-is _
 
   module _ (z : n ≡ 0) where
@@ -43,7 +43,7 @@ module _ (r : Record) (arrays : Sized r) (d value : List ℕ) (n : ℕ) (n-is : 
     module _ (s : List ℕ) (s-is : s ≡ schemeAt r (schemeNow r)) where
       pub exchange-written : (k : ℕ) → k ≡ askedBy r → (d' : List ℕ) (next : Record) → Appended r d 3 (exchange s) d' next → (a : Answer)
           → a ≡ answered 0 0 (changed next (record { marks = next .marks; told = next .told; asked = k; verified = next .verified }))
-          → _≡_ {A = Outcome} (record { answer = a; transcript = d' }) (writingExchange r d value)
-      unfolding writingExchange
+          → _≡_ {A = Outcome} (record { answer = a; transcript = d' }) (speaking r d (request value))
+      unfolding speaking
       exchange-written k k-is d' next y a a-is =
           named-written r arrays d 3 exchange (λ s l. l) n n-is z (λ q. record { marks = q .marks; told = q .told; asked = askedBy r; verified = q .verified }) s s-is (exchange s) refl d' next y a (a-is ∙ rw k-is)

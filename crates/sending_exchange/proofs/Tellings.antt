@@ -25,7 +25,7 @@ use Rattle.conversation.specs.Writing.{metadataAllowed, metadataRows, writingMe
 use Rattle.conversation.proofs.Inside.{place-own, allowed-own, allowed-untold}
 use Rattle.calls.specs.Calls.{roomFor, stageRefusal, writeRefusal, Inside, Ready, Appended}
 use Rattle.calls.proofs.Refusals.{write-stage, write-on, passed-inside, passed-own}
-use Rattle.calls.proofs.Sizes.{Sized}
+use Rattle.conversation.specs.Claims.{Arrays}
 use Rattle.calls.proofs.Writes.{changed, write-refused, write-ready, write-written}
 
 -- ---- where a scheme stands
@@ -109,7 +109,7 @@ module _ (r : Record) (id : Id) (v len n : ℕ) (n-is : n ≡ writeRefusal r 2 (
   unfolding withBit
   metadata-told p p-is = ap (withBit (r .told)) p-is ∙ rw (allowed-untold r id allowed)
 
-module _ (r : Record) (arrays : Sized r) (d : List ℕ) (id : Id) (full : length id ≡ 16) (value : List ℕ) (n : ℕ) (n-is : n ≡ writeRefusal r 2 (metadataRows r id (length value)) (64 + length value) (length d)) where
+module _ (r : Record) (arrays : Arrays r) (d : List ℕ) (id : Id) (full : length id ≡ 16) (value : List ℕ) (n : ℕ) (n-is : n ≡ writeRefusal r 2 (metadataRows r id (length value)) (64 + length value) (length d)) where
   abbrev contents : Contents
   contents = ofExchange (record { scheme = id; value = value })
 

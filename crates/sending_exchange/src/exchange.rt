@@ -2,7 +2,7 @@
 ghost use mathlib.Core.Path.{_≡_};
 ghost use Rattle.encode.specs.Encode.{ofExchange};
 ghost use Rattle.conversation.specs.Outcomes.{Outcome};
-ghost use Rattle.conversation.specs.Writing.{askedBy, writingExchange};
+ghost use Rattle.conversation.specs.Writing.{request, askedBy, speaking};
 ghost use Rattle.calls.specs.Calls.{Ready, Appended};
 use calls::EXCHANGE;
 use calls::answer;
@@ -12,9 +12,13 @@ use conversation::Answer;
 use conversation::Record;
 use conversation::turns::writing_token;
 use encode_exchange::write;
+use message::Kind;
 use sending::named_refusal;
 use sending::scheme_id;
 use vector::TokenPlace;
+
+// The header of an exchange and of metadata.
+pub(crate) const HEADER: usize = Kind::EXCHANGE_HEADER as usize;
 
 // An exchange or metadata at the transcript's end.
 pub(crate) fn append_payload(
@@ -30,7 +34,7 @@ pub(crate) fn append_payload(
     let heading = heading_of(r, kind);
     let n = value.len();
     write(transcript, r.used, heading, id, value);
-    after_message(r, kind, 64 + n)
+    after_message(r, kind, HEADER + n)
 }
 
 // Where an initiator's AP_REQUEST of the first token is kept: it has named place 0.
@@ -45,9 +49,9 @@ fn asked_by(r: Record) -> usize
 
 // Writes an exchange of the rule's scheme.
 pub fn write_exchange(r: Record, transcript: &mut [u8], value: &[u8]) -> Answer
-    ensures { λ a. ⌜ _≡_ {A = Outcome} (record { answer = a; transcript = now (transcript .exit) }) (writingExchange r (now (transcript .entry)) (now (value .entry))) ⌝ }
+    ensures { λ a. ⌜ _≡_ {A = Outcome} (record { answer = a; transcript = now (transcript .exit) }) (speaking r (now (transcript .entry)) (request (now (value .entry)))) ⌝ }
 {
-    let n = named_refusal(r, EXCHANGE, 64, value.len(), transcript.len());
+    let n = named_refusal(r, EXCHANGE, HEADER, value.len(), transcript.len());
     if n != 0 {
         return answer(n, TokenPlace(0), r);
     }

@@ -5,6 +5,7 @@ ghost use Rattle.conversation.specs.Turns.{METADATA};
 ghost use Rattle.conversation.specs.Outcomes.{Outcome};
 ghost use Rattle.conversation.specs.Writing.{metadataAllowed, metadataRows, writingMetadata};
 ghost use Rattle.calls.specs.Calls.{writeRefusal, Inside};
+use super::exchange::HEADER;
 use super::exchange::append_payload;
 use calls::METADATA;
 use calls::answer;
@@ -46,7 +47,7 @@ fn metadata_refusal(r: Record, id: [u8; 16], n: usize, len: usize) -> u32
     if metadata_allowed(r, id) {} else {
         return 15;
     }
-    if has_room(r.used, 64, n, len) {} else {
+    if has_room(r.used, HEADER, n, len) {} else {
         return 16;
     }
     0

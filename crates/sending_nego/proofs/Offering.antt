@@ -16,7 +16,7 @@ use Rattle.conversation.specs.Outcomes.{Outcome, answered, unchanged}
 use Rattle.conversation.specs.Writing.{offerRows, offering}
 use Rattle.calls.specs.Calls.{roomFor, stageRefusal, writeRefusal, Inside, Ready, Appended}
 use Rattle.calls.proofs.Refusals.{stage-inside, write-stage, write-on, passed-inside}
-use Rattle.calls.proofs.Sizes.{Sized}
+use Rattle.conversation.specs.Claims.{Arrays}
 use Rattle.calls.proofs.Writes.{write-refused, write-ready, write-written}
 
 module _ (r : Record) (len n : ℕ) (n-is : n ≡ stageRefusal r 1) (z : n ≡ 0) where
@@ -36,7 +36,7 @@ module _ (r : Record) (len n : ℕ) (n-is : n ≡ stageRefusal r 1) (z : n ≡ 0
 pub ruleset offer-refusals = (write-stage, offer-size, offer-role, offer-crowded, offer-fits)
 
 -- ---- the call, by its refusal
-module _ (r : Record) (arrays : Sized r) (len n : ℕ) (n-is : n ≡ writeRefusal r 1 (offerRows r) (96 + 16 * r .count) len) (z : n ≡ 0) where
+module _ (r : Record) (arrays : Arrays r) (len n : ℕ) (n-is : n ≡ writeRefusal r 1 (offerRows r) (96 + 16 * r .count) len) (z : n ≡ 0) where
   few : r .count ≤ 16
   few = passed-inside r 1 (offerRows r) (96 + 16 * r .count) len n n-is z refl .few
 
@@ -49,7 +49,7 @@ module _ (r : Record) (arrays : Sized r) (len n : ℕ) (n-is : n ≡ writeRefusa
   pub offer-part : 16 * r .count ≡ length (take (16 * r .count) (r .list))
   offer-part = sym (length-take-le (16 * r .count) (r .list) offer-list)
 
-module _ (r : Record) (arrays : Sized r) (d random : List ℕ) (full : length random ≡ 32) (n : ℕ) (n-is : n ≡ writeRefusal r 1 (offerRows r) (96 + 16 * r .count) (length d)) where
+module _ (r : Record) (arrays : Arrays r) (d random : List ℕ) (full : length random ≡ 32) (n : ℕ) (n-is : n ≡ writeRefusal r 1 (offerRows r) (96 + 16 * r .count) (length d)) where
   abbrev offer : Contents
   offer = ofNego (record { random = random; schemes = take (16 * r .count) (r .list) })
 

@@ -27,7 +27,7 @@ use Rattle.conversation.specs.Outcomes.{Outcome, answered, row, appended}
 use Rattle.conversation.specs.Writing.{someLeft, replyMessage, replyRows, naming, replying}
 use Rattle.calls.specs.Calls.{roomFor, stageRefusal, writeRefusal, Inside, Ready, Appended}
 use Rattle.calls.proofs.Refusals.{stage-inside, write-stage, write-on, passed-inside, passed-own}
-use Rattle.calls.proofs.Sizes.{Sized}
+use Rattle.conversation.specs.Claims.{Arrays}
 use Rattle.calls.proofs.Writes.{changed, write-refused, write-ready, write-passed}
 use Rattle.calls.proofs.Lefts.{own-count, own-none, own-some, own-place, own-first, left-less}
 use Rattle.sending_nego.specs.Ready.{ReplyReady}
@@ -76,7 +76,7 @@ module _ (r : Record) (n : ℕ) (n-is : n ≡ stageRefusal r 1) (z : n ≡ 0) wh
 pub ruleset reply-refusals = (write-stage, reply-role, reply-marks, reply-none, reply-crowded, reply-fits)
 
 -- ---- what is gathered of a set stands inside its array
-module _ (r : Record) (arrays : Sized r) (few : r .count ≤ 16) (set : ℕ) (s : Schemes) (s-is : s ≡ schemesOf (left (ownOf r) set 0)) where
+module _ (r : Record) (arrays : Arrays r) (few : r .count ≤ 16) (set : ℕ) (s : Schemes) (s-is : s ≡ schemesOf (left (ownOf r) set 0)) where
   gathered-joined : length (joinIds (left (ownOf r) set 0)) ≡ 16 * s .count
   unfolding schemesOf
   gathered-joined = join-length (r .count) (r .list) set 0 (omega (arith, arrays .list)) ∙ ap (λ (x : Schemes). 16 * x .count) (sym s-is)
@@ -100,7 +100,7 @@ module _ (r : Record) (d : List ℕ) (m : ℕ) (random : List ℕ) (y : ReplyRea
   reply-place l l-is = omega (arith, own-place (r .list) (r .count) l (inside .few) (r .common) m (inside .bound) l-is (y .some), inside .few)
 
   -- what is gathered of the common schemes less the marks is the list that the reply has
-  module _ (arrays : Sized r) (small : m < 65536) (s : Schemes) (s-is : s ≡ schemesOf (left (ownOf r) (bitAnd (r .common) (65535 - m)) 0)) where
+  module _ (arrays : Arrays r) (small : m < 65536) (s : Schemes) (s-is : s ≡ schemesOf (left (ownOf r) (bitAnd (r .common) (65535 - m)) 0)) where
     reply-octets : take (16 * s .count) (s .octets) ≡ joinIds (listed r m)
     reply-octets =
         let e : s ≡ schemesOf (listed r m) = s-is ∙ ap schemesOf (left-less 16 (ownOf r) (r .common) m (rw length-ids (inside .few)) small) in
@@ -119,7 +119,7 @@ module _ (r : Record) (d : List ℕ) (m : ℕ) (random : List ℕ) (y : ReplyRea
         rw (a-is, v .counted, v .holds, id-is, own-first (r .list) (r .count) l (inside .few) (r .common) m (inside .bound) l-is (y .some), own-count (r .list) (r .count) l (inside .few) (r .common) m (inside .bound) l-is)
 
 -- ---- the call, by its refusal
-module _ (r : Record) (arrays : Sized r) (d : List ℕ) (m : ℕ) (random : List ℕ) (full : length random ≡ 32) (n : ℕ) (n-is : n ≡ writeRefusal r 1 (replyRows r m) (96 + 16 * length (listed r m)) (length d)) where
+module _ (r : Record) (arrays : Arrays r) (d : List ℕ) (m : ℕ) (random : List ℕ) (full : length random ≡ 32) (n : ℕ) (n-is : n ≡ writeRefusal r 1 (replyRows r m) (96 + 16 * length (listed r m)) (length d)) where
   abbrev answer : Contents
   answer = ofNego (record { random = random; schemes = joinIds (listed r m) })
 

@@ -15,7 +15,11 @@ use calls::stage_refusal;
 use conversation::Answer;
 use conversation::Record;
 use encode_nego::write;
+use message::Kind;
 use vector::TokenPlace;
+
+// The header of a NEGO.
+pub(crate) const HEADER: usize = Kind::NEGO_HEADER as usize;
 
 // A NEGO of either end at the transcript's end.
 pub(crate) fn append_nego(
@@ -30,7 +34,7 @@ pub(crate) fn append_nego(
     let heading = heading_of(r, NEGO);
     let n = schemes.len();
     write(transcript, r.used, heading, random, schemes);
-    after_message(r, NEGO, 96 + n)
+    after_message(r, NEGO, HEADER + n)
 }
 
 fn offer_refusal(r: Record, len: usize) -> u32
@@ -43,7 +47,7 @@ fn offer_refusal(r: Record, len: usize) -> u32
     if r.acceptor {
         return 18;
     }
-    if has_room(r.used, 96, 16 * r.count, len) {} else {
+    if has_room(r.used, HEADER, 16 * r.count, len) {} else {
         return 16;
     }
     0

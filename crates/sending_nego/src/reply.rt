@@ -9,6 +9,7 @@ ghost use Rattle.conversation.specs.Outcomes.{Outcome, appended};
 ghost use Rattle.conversation.specs.Writing.{replyMessage, replyRows, naming, replying};
 ghost use Rattle.calls.specs.Calls.{writeRefusal};
 ghost use Rattle.sending_nego.specs.Ready.{ReplyReady};
+use super::offer::HEADER;
 use super::offer::append_nego;
 use calls::NEGO;
 use calls::answer;
@@ -40,7 +41,7 @@ fn reply_refusal(r: Record, marks: u16, len: usize) -> u32
     if left.left == 0 {
         return 17;
     }
-    if has_room(r.used, 96, 16 * left.left as usize, len) {} else {
+    if has_room(r.used, HEADER, 16 * left.left as usize, len) {} else {
         return 16;
     }
     0

@@ -3,7 +3,7 @@ ghost use mathlib.Core.Path.{_≡_};
 ghost use Rattle.encode.specs.Encode.{ofVerify};
 ghost use Rattle.conversation.specs.Turns.{VERIFY};
 ghost use Rattle.conversation.specs.Outcomes.{Outcome};
-ghost use Rattle.conversation.specs.Writing.{writingVerify};
+ghost use Rattle.conversation.specs.Writing.{checksum as Speech·checksum, speaking};
 ghost use Rattle.calls.specs.Calls.{Ready, Appended};
 use calls::VERIFY;
 use calls::answer;
@@ -12,9 +12,13 @@ use calls::next::heading_of;
 use conversation::Answer;
 use conversation::Record;
 use encode_verify::write;
+use message::Kind;
 use sending::named_refusal;
 use sending::scheme_id;
 use vector::TokenPlace;
+
+// The header of a VERIFY.
+const HEADER: usize = Kind::VERIFY_HEADER as usize;
 
 // A VERIFY at the transcript's end.
 fn append_verify(
@@ -30,14 +34,14 @@ fn append_verify(
     let heading = heading_of(r, VERIFY);
     let n = value.len();
     write(transcript, r.used, heading, id, checksum, value);
-    after_message(r, VERIFY, 80 + n)
+    after_message(r, VERIFY, HEADER + n)
 }
 
 // Writes a VERIFY of the chosen scheme: the checksum's type and its value.
 pub fn write_verify(r: Record, transcript: &mut [u8], checksum: i32, value: &[u8]) -> Answer
-    ensures { λ a. ⌜ _≡_ {A = Outcome} (record { answer = a; transcript = now (transcript .exit) }) (writingVerify r (now (transcript .entry)) checksum (now (value .entry))) ⌝ }
+    ensures { λ a. ⌜ _≡_ {A = Outcome} (record { answer = a; transcript = now (transcript .exit) }) (speaking r (now (transcript .entry)) (Speech·checksum checksum (now (value .entry)))) ⌝ }
 {
-    let n = named_refusal(r, VERIFY, 80, value.len(), transcript.len());
+    let n = named_refusal(r, VERIFY, HEADER, value.len(), transcript.len());
     if n != 0 {
         return answer(n, TokenPlace(0), r);
     }

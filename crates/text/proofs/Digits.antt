@@ -1,20 +1,25 @@
 -- The digits that the kit's `io` writes are the decimal text: once over the width.
 -- Assumes nothing.
 use Prim.Native.Nat.{ℕ, zero, suc, _+_, _-_, _*_, _/_, _%_, _^_, _<_, _≤_}
-use mathlib.Core.Path.{_≡_, ap, _∙_}
+use mathlib.Core.Path.{_≡_, sym, ap, _∙_}
+use mathlib.Core.Bool.{true, false}
 use mathlib.Core.Logic.{inl, inr}
 use mathlib.Core.List.{List, [], _∷_, _++_}
 use native.Mathlib.Nat.{pow-suc, mod-lt, mod-eq-of-lt, pow-le-pow-right}
 use native.Mathlib.Omega.{arith}
 use lib.Dec.{ltb}
-use lib.IntN.{ℤ, pos, negsuc}
+use lib.IntN.{ℤ, pos, negsuc, natAbs}
+use lib.Signed.{ltZ}
+use mir.Syntax.{w32}
+use mir.Val.{SFits, toZ, ofZ}
+use mir.Facts.{toZ-ofZ}
 use lib.ListN.{length, take, length-append}
 use borrow.Author.Tests.{lt-ltb, le-ltb, ltb-true, ltb-false}
 use Rattle.octets.proofs.Bools.{which}
 use Rattle.io.specs.Digits.{digits, Fewest}
-use Rattle.octets.specs.Octets.{signed32}
 use Rattle.text.specs.Text.{quoted, decimalTo, decimal, decimal64, signed, Text, written}
 use Rattle.put.specs.Put.{joined}
+use Rattle.put.proofs.Complement.{is-below, is-above}
 
 -- k + 1 digits, none of them needless
 decimal-digits : (f k n : ℕ) → k < f → n < 10 ^ suc k → (0 < k → 10 ^ k ≤ n) → digits 10 (suc k) n ≡ decimalTo f n
@@ -65,13 +70,14 @@ length-signed (pos n) = simp length-append (omega (arith, length-decimal 10 n))
 length-signed (negsuc n) = simp length-append (omega (arith, length-decimal 10 (n + 1)))
 
 -- both signs, by the test of the code
-module _ (x : ℕ) (t u : Text) where
-  pub signed-plain : x < 2147483648 → u ≡ written (decimal x ∷ []) t → u ≡ written (signed (signed32 x)) t
-  unfolding signed32
-  signed-plain h e = rw (lt-ltb x 2147483648 h) e
+module _ (z : ℤ) (f : SFits w32 z) (m : ℕ) (m-is : m ≡ natAbs (toZ w32 (ofZ w32 z))) (t u : Text) where
+  abs : m ≡ natAbs z
+  abs = m-is ∙ ap natAbs (toZ-ofZ f)
 
-  pub signed-minus : 2147483648 ≤ x → u ≡ written (quoted "-" ∷ decimal (4294967295 - x + 1) ∷ []) t → u ≡ written (signed (signed32 x)) t
-  unfolding signed32
-  signed-minus h e = rw (le-ltb x 2147483648 h) e
+  pub signed-plain : ltZ (toZ w32 (ofZ w32 z)) (pos 0) ≡ false → u ≡ written (decimal m ∷ []) t → u ≡ written (signed z) t
+  signed-plain h e = let a = is-above z f h in e ∙ ap (λ (n : ℕ). written (decimal n ∷ []) t) (abs ∙ a .abs-is) ∙ ap (λ (y : ℤ). written (signed y) t) (sym (a .is))
 
-pub ruleset numbers = (number-written, wide-written, signed-plain, signed-minus)
+  pub signed-minus : ltZ (toZ w32 (ofZ w32 z)) (pos 0) ≡ true → u ≡ written (quoted "-" ∷ decimal m ∷ []) t → u ≡ written (signed z) t
+  signed-minus h e = let b = is-below z f h in e ∙ ap (λ (n : ℕ). written (quoted "-" ∷ decimal n ∷ []) t) (abs ∙ b .abs-is) ∙ ap (λ (y : ℤ). written (signed y) t) (sym (b .is))
+
+pub ruleset numbers = (number-written, wide-written)

@@ -76,12 +76,14 @@ written-joined (p ∷ ps) t h =
     ∙ ap (text (put (t .octets) (t .next) (p ++ joined ps))) s
 
 -- the pieces at the front of a slice that has room for them
+pub front-put : (ps : List (List ℕ)) (d d' : List ℕ) (r : ℕ) → length (joined ps) ≤ length d → text d' r ≡ written ps (text d 0) → d' ≡ put d 0 (joined ps)
+front-put ps d d' r h e = ap (λ (t : Text). t .octets) (e ∙ written-joined ps (text d 0) (omega arith))
+
 pub front-is : (ps : List (List ℕ)) (d d' : List ℕ) (r : ℕ) → length (joined ps) ≤ length d → text d' r ≡ written ps (text d 0) → (r ≡ length (joined ps)) × (take r d' ≡ joined ps)
 front-is ps d d' r h e =
     let w = e ∙ written-joined ps (text d 0) (omega arith) in
     let n : r ≡ 0 + length (joined ps) = ap (λ (t : Text). t .next) w in
-    let o : d' ≡ put d 0 (joined ps) = ap (λ (t : Text). t .octets) w in
-    (omega arith, ap (λ (k : ℕ). take k d') n ∙ ap (take (0 + length (joined ps))) o ∙ take-put d 0 (joined ps) (omega arith))
+    (omega arith, ap (λ (k : ℕ). take k d') n ∙ ap (take (0 + length (joined ps))) (front-put ps d d' r h e) ∙ take-put d 0 (joined ps) (omega arith))
 
 -- the answers of `append`
 module _ (d v : List ℕ) (at : ℕ) where

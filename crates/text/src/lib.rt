@@ -3,7 +3,7 @@
 ghost use mathlib.Core.Path.{_≡_};
 ghost use Prim.Native.Nat.{_<_};
 ghost use mathlib.Core.List.{_∷_, []};
-ghost use Rattle.octets.specs.Octets.{signed32};
+ghost use lib.IntN.{natAbs};
 ghost use Rattle.text.specs.Text.{text, written, decimal, decimal64, signed as Text·signed, glyphOf, glyphs as Text·glyphs, hexOf, hexDigit, idText};
 use put::put_octets;
 
@@ -54,14 +54,21 @@ pub fn wide_field(d: &mut [u8], at: usize, v: &[u8], n: usize) -> usize
     wide_number(d, next, n)
 }
 
-// The signed number that 32 bits stand for, in decimal.
-pub fn signed(d: &mut [u8], at: usize, x: u32) -> usize
-    ensures { λ r. ⌜ text (now (d .exit)) r ≡ written (Text·signed (signed32 x)) (text (now (d .entry)) at) ⌝ }
+// How far a number is from zero. The lowest has no opposite of its own type, so no sign is turned.
+fn magnitude(z: i32) -> u32
+    ensures { λ r. ⌜ r ≡ natAbs z ⌝ }
 {
-    if x < 2147483648 {
-        return number(d, at, x);
+    if z < 0 { (-1 - z) as u32 + 1 } else { z as u32 }
+}
+
+// A signed number in decimal.
+pub fn signed(d: &mut [u8], at: usize, z: i32) -> usize
+    ensures { λ r. ⌜ text (now (d .exit)) r ≡ written (Text·signed z) (text (now (d .entry)) at) ⌝ }
+{
+    if z < 0 {
+        return field(d, at, b"-", magnitude(z));
     }
-    field(d, at, b"-", 4294967295 - x + 1)
+    number(d, at, magnitude(z))
 }
 
 // A hexadecimal digit.

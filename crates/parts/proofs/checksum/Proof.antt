@@ -10,8 +10,8 @@ slice-aggregate-result c = search needs
 returns : tie.Need-returns
 returns c = search shows
 
-octet-vector-requires : tie.Need-octet-vector-requires
-octet-vector-requires c κs = search needs
+checksum-vector-requires : tie.Need-checksum-vector-requires
+checksum-vector-requires c κs = search needs
 
 vector-octets-requires : tie.Need-vector-octets-requires
 vector-octets-requires c κs = search needs
@@ -25,6 +25,6 @@ checksum-spec =
     (tie.spec
     slice-aggregate-result
     returns
-    octet-vector-requires
+    checksum-vector-requires
     vector-octets-requires
     returns-2)

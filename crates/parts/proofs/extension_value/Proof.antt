@@ -10,8 +10,8 @@ slice-aggregate-result c = search needs
 returns : tie.Need-returns
 returns c = search shows
 
-vector-at-requires : tie.Need-vector-at-requires
-vector-at-requires c κs = search needs
+extension-vector-requires : tie.Need-extension-vector-requires
+extension-vector-requires c κs = search needs
 
 value-requires : tie.Need-value-requires
 value-requires c κs = search needs
@@ -21,4 +21,4 @@ returns-2 c = search shows
 
 pub extension-value-spec : {M : Type 1} → statement M
 extension-value-spec =
-    tie.close (tie.spec slice-aggregate-result returns vector-at-requires value-requires returns-2)
+    tie.close (tie.spec slice-aggregate-result returns extension-vector-requires value-requires returns-2)

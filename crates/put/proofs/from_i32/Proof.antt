@@ -1,5 +1,6 @@
 -- Assumes nothing.
 use borrow.Author.Needs.{needs}
+use mathlib.Core.Path.{sym}
 use native.Mathlib.Omega.{arith}
 use mir.Syntax.{w32}
 use mir.Val.{SFits}
@@ -47,7 +48,7 @@ returns-2 c =
     let z = c .before .args .z in
     let f : SFits w32 z = search needs in
     let a = is-above z f (c .if1 .left) in
-    simp (stays z f a)
+    simp (stays z f a) (sym (a .unsigned-is))
 
 pub from-i32-spec : {M : Type 1} → statement M
 from-i32-spec =

@@ -9,7 +9,7 @@ use Rattle.fields.proofs.hex.decode.Statement.{statement}
 use Rattle.fields.proofs.hex.decode.Tie as tie
 
 abbrev Inv-loop : tie.InvT-loop
-Inv-loop s d₀ n i₀ d i = (i ≤ n) × (n ≡ length s / 2) × (n ≤ length d) × (length d ≡ length d₀)
+Inv-loop s d₀ n i₀ d i = (i ≤ n) × (n ≡ length s / 2) × (n ≤ length d) × (length d ≡ length d₀) × (drop n d ≡ drop n d₀)
     × (pairsOf s ≡ behindAll (take i d) (pairsOf (drop (2 * i) s)))
 
 abbrev μ-loop : tie.MeasureT-loop
@@ -19,7 +19,7 @@ returns : tie.Need-returns Inv-loop μ-loop
 returns c = search pair-octets
 
 loop-holds : tie.Need-loop-holds Inv-loop μ-loop
-loop-holds c = (search needs, refl, search needs, refl, search pair-octets)
+loop-holds c = (search needs, refl, search needs, refl, refl, search pair-octets)
 
 mul-pair-at : tie.Need-mul-pair-at Inv-loop μ-loop
 mul-pair-at c = search needs
@@ -46,7 +46,7 @@ loop-less : tie.Need-loop-less Inv-loop μ-loop
 loop-less c = search needs
 
 loop-again : tie.Need-loop-again Inv-loop μ-loop
-loop-again c = (search needs, search needs, search needs, search needs, search pair-octets)
+loop-again c = (search needs, search needs, search needs, search needs, search pair-octets, search pair-octets)
 
 same-length-2 : tie.Need-same-length-2 Inv-loop μ-loop
 same-length-2 c = search needs

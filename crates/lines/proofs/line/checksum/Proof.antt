@@ -10,14 +10,14 @@ slice-aggregate-append c = search needs
 append-requires : tie.Need-append-requires
 append-requires c κs = search needs
 
-le-u32-requires : tie.Need-le-u32-requires
-le-u32-requires c κs = search needs
+checksum-type-requires : tie.Need-checksum-type-requires
+checksum-type-requires c κs = search needs
 
 signed-requires : tie.Need-signed-requires
 signed-requires c κs = search needs
 
-octet-vector-requires : tie.Need-octet-vector-requires
-octet-vector-requires c κs = search needs
+checksum-vector-requires : tie.Need-checksum-vector-requires
+checksum-vector-requires c κs = search needs
 
 span-requires : tie.Need-span-requires
 span-requires c κs = search needs
@@ -26,7 +26,7 @@ same-length : tie.Need-same-length
 same-length c = search needs
 
 returns : tie.Need-returns
-returns c = search checksum-text
+returns c = search (needs, checksum-text)
 
 pub checksum-spec : {M : Type 1} → statement M
 checksum-spec =
@@ -34,9 +34,9 @@ checksum-spec =
     (tie.spec
     slice-aggregate-append
     append-requires
-    le-u32-requires
+    checksum-type-requires
     signed-requires
-    octet-vector-requires
+    checksum-vector-requires
     span-requires
     same-length
     returns)

@@ -10,8 +10,8 @@ slice-aggregate-append c = search needs
 append-requires : tie.Need-append-requires
 append-requires c κs = search needs
 
-le-u32-requires : tie.Need-le-u32-requires
-le-u32-requires c κs = search needs
+error-code-requires : tie.Need-error-code-requires
+error-code-requires c κs = search needs
 
 signed-requires : tie.Need-signed-requires
 signed-requires c κs = search needs
@@ -26,7 +26,7 @@ same-length : tie.Need-same-length
 same-length c = search needs
 
 returns : tie.Need-returns
-returns c = search error-text
+returns c = search (needs, error-text)
 
 pub error-spec : {M : Type 1} → statement M
 error-spec =
@@ -34,7 +34,7 @@ error-spec =
     (tie.spec
     slice-aggregate-append
     append-requires
-    le-u32-requires
+    error-code-requires
     signed-requires
     slice-aggregate-append-2
     append-requires-2

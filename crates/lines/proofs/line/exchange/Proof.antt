@@ -10,8 +10,8 @@ slice-aggregate-append c = search needs
 append-requires : tie.Need-append-requires
 append-requires c κs = search needs
 
-octet-vector-requires : tie.Need-octet-vector-requires
-octet-vector-requires c κs = search needs
+exchange-vector-requires : tie.Need-exchange-vector-requires
+exchange-vector-requires c κs = search needs
 
 span-requires : tie.Need-span-requires
 span-requires c κs = search needs
@@ -28,7 +28,7 @@ exchange-spec =
     (tie.spec
     slice-aggregate-append
     append-requires
-    octet-vector-requires
+    exchange-vector-requires
     span-requires
     same-length
     returns)

@@ -16,8 +16,8 @@ slice-aggregate-append c = search needs
 append-requires : tie.Need-append-requires
 append-requires c κs = search needs
 
-le-u32-requires : tie.Need-le-u32-requires
-le-u32-requires c κs = search needs
+le-i32-requires : tie.Need-le-i32-requires
+le-i32-requires c κs = search needs
 
 signed-requires : tie.Need-signed-requires
 signed-requires c κs = search needs
@@ -35,7 +35,7 @@ same-length : tie.Need-same-length
 same-length c = search needs
 
 returns : tie.Need-returns
-returns c = search extension-text
+returns c = search (needs, extension-text)
 
 pub extension-spec : {M : Type 1} → statement M
 extension-spec =
@@ -45,7 +45,7 @@ extension-spec =
     wide-field-requires
     slice-aggregate-append
     append-requires
-    le-u32-requires
+    le-i32-requires
     signed-requires
     add-octet-vector
     octet-vector-requires

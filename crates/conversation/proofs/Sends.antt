@@ -1,0 +1,161 @@
+-- Demand 2's round trip for the calls: what an accepted writing call appended reads back, on every record.
+-- Assumes nothing.
+use Prim.Native.Nat.{ℕ, zero, suc, _+_, _*_, _%_, _≤_, _<_}
+use mathlib.Core.Path.{_≡_, refl, sym, ap, subst, _∙_}
+use mathlib.Core.Bool.{Bool, true, false, _&&_}
+use mathlib.Core.List.{List, [], _∷_, _++_, List·Memᴰ, List·Memᴰ·head, List·Memᴰ·tail, List·Memᴰ·cases-cons, List·Memᴰ·not-nil}
+use mathlib.Core.Logic.{inl, inr}
+use mathlib.Core.Option.{none, some, Option·some-ne-none, Option·some-injective}
+use native.Mathlib.Omega.{arith}
+use lib.ListN.{length, take, drop, length-drop}
+use lib.Seq.{length-take-le}
+use lib.Dec.{leb}
+use borrow.Author.Tests.{leb-true, le-leb, eq-eqb, ne-eqb}
+use Rattle.octets.proofs.Bools.{no-true, and-i}
+use Rattle.message.specs.Check.{Row}
+use Rattle.message.specs.Show.{idsAt}
+use Rattle.message.proofs.Tables.{AllTrue}
+use Rattle.put.specs.Put.{put}
+use Rattle.encode.specs.declared.Heading.{Heading}
+use Rattle.encode.specs.Encode.{Whole, Contents, ofNego, ofExchange, ofVerify, ofAlert, sizeOf, hasKind, fitsFields, encodable, encoded, written, storing}
+use Rattle.encode.proofs.Sizes.{length-encoded}
+use Rattle.roundtrip.specs.ReadBack.{InRange, Sent, Outgoing}
+use Rattle.roundtrip.proofs.RoundTrip.{read-encode, stored-stands}
+use Rattle.schemes.specs.Lists.{Id, joinIds}
+use Rattle.schemes.specs.Sets.{left}
+use Rattle.conversation.specs.declared.Record.{Record}
+use Rattle.conversation.specs.State.{ownOf, schemeAt, limitRows}
+use Rattle.conversation.specs.Turns.{NEGO, METADATA, EXCHANGE, VERIFY, ALERT, typeOf, mayWrite}
+use Rattle.conversation.specs.Outcomes.{Outcome, decide, row, room, fits, unchanged, appended}
+use Rattle.conversation.specs.Writing.{heading, messageOf, stageRows, thenFits, offerRows, replyRows, metadataRows, namedRows, schemeNow, schemeAllowed, offering, replying, writingMetadata, speaking, Speech, request, checksum, alarm, kindIn, contentsIn}
+use Rattle.conversation.specs.Runs.{Sized, Call, offer, reply, metadata, speak, read, choose, End, act, isAccepted}
+use Rattle.conversation.specs.Claims.{Arrays, sentBy, ReadsAsSent, WrittenReads}
+use Rattle.conversation.proofs.Rows.{decide-out, without, fails-other, true-behind, front-true, back-true}
+use Rattle.conversation.proofs.Ends.{length-joined, left-sized, sized-at}
+use Rattle.conversation.proofs.Inside.{now-below, limits-counts}
+
+-- 1. a message that has passed 16 fits its fields
+
+-- a scheme list is one of whole ids
+abbrev pub WholeIds : Contents → Type 0
+WholeIds (ofNego o) = length (o .schemes) % 16 ≡ 0
+WholeIds (ofExchange p) = Unit {0}
+WholeIds (ofVerify k) = Unit {0}
+WholeIds (ofAlert p) = Unit {0}
+
+pub fields-fit : (c : Contents) → WholeIds c → sizeOf c ≤ 65535 → fitsFields c ≡ true
+fields-fit (ofNego o) w h = simp (eq-eqb _ _ w, le-leb (length (o .schemes)) 1048560 (omega arith))
+fields-fit (ofExchange p) w h = le-leb (length (p .value)) 4294967231 (omega arith)
+fields-fit (ofVerify k) w h = le-leb (length (k .value)) 4294967215 (omega arith)
+fields-fit (ofAlert p) w h = refl
+
+stored : (d : List ℕ) (at : ℕ) (h : Heading) (c : Contents) → encodable h c ≡ true → at + length (encoded h c) ≤ length d
+    → storing d at h c ≡ written (at + length (encoded h c)) (put d at (encoded h c))
+unfolding storing
+stored d at h c can fit = rw (can, le-leb _ _ fit)
+
+ids-sized : (n : ℕ) (a : List ℕ) → 16 * n ≤ length a → (s : Id) → List·Memᴰ s (idsAt n a) → length s ≡ 16
+unfolding idsAt
+ids-sized zero a h s m = absurd (List·Memᴰ·not-nil m)
+ids-sized (suc n) a h s m = elim (List·Memᴰ·cases-cons m) [
+  | inl e ↦ ap length e ∙ length-take-le 16 a (omega arith)
+  | inr i ↦ ids-sized n (drop 16 a) (omega (arith, length-drop 16 a)) s i
+]
+
+length-idsAt : (n : ℕ) (a : List ℕ) → length (idsAt n a) ≡ n
+unfolding idsAt
+length-idsAt zero a = refl
+length-idsAt (suc n) a = ap suc (length-idsAt n (drop 16 a))
+
+either : (c : Contents) (kind : ℕ) (a : Bool) → hasKind c (typeOf true kind) ≡ true → hasKind c (typeOf false kind) ≡ true → hasKind c (typeOf a kind) ≡ true
+either c kind true e f = e
+either c kind false e f = f
+
+-- 2. one law for the six writers: what stands where the table passes reads back
+
+module _ (r : Record) (d : List ℕ) (arrays : Arrays r) where
+  pub sends : (kind : ℕ) (rows : List Row) (c : Contents) (action : Outcome)
+      → without 0 (stageRows r kind ++ thenFits rows r d (messageOf r kind c)) ≡ true
+      → hasKind c (typeOf true kind) ≡ true → hasKind c (typeOf false kind) ≡ true → InRange c
+      → (AllTrue (limitRows r) → AllTrue rows → Whole c × WholeIds c)
+      → action .answer .next .used ≡ r .used + length (messageOf r kind c) → action .transcript ≡ put d (r .used) (messageOf r kind c)
+      → isAccepted (decide (stageRows r kind ++ thenFits rows r d (messageOf r kind c)) r d action .answer) ≡ true
+      → ReadsAsSent r d (record { heading = heading r kind; contents = c }) (decide (stageRows r kind ++ thenFits rows r d (messageOf r kind c)) r d action)
+  unfolding encodable
+  sends kind rows c action z of-acceptor of-initiator range given used transcript =
+      let h : Heading = heading r kind in
+      let m : List ℕ = messageOf r kind c in
+      let table : List Row = stageRows r kind ++ thenFits rows r d m in
+      decide-out (λ out. isAccepted (out .answer) ≡ true → ReadsAsSent r d (record { heading = h; contents = c }) out) table r d action
+      (λ n f a. no-true (sym (ne-eqb n 0 (fails-other 0 table n z f)) ∙ a))
+      (λ g a.
+      let limits : AllTrue (limitRows r) = front-true (limitRows r) (row 18 (mayWrite r kind) ∷ thenFits rows r d m) g in
+      let v = given limits (front-true rows (fits r d (length m) ∷ []) (back-true (stageRows r kind) (thenFits rows r d m) g)) in
+      let n : length m ≡ sizeOf c = length-encoded h (arrays .conversation) c (v .0) in
+      let fit : r .used + length m ≤ room d = leb-true _ _ (true-behind (stageRows r kind ++ rows) (fits r d (length m)) [] g) in
+      let counts = limits-counts r limits in
+      let can : encodable h c ≡ true = and-i (hasKind c (typeOf (r .acceptor) kind)) (fitsFields c) (either c kind (r .acceptor) of-acceptor of-initiator) (fields-fit c (v .1) (omega arith)) in
+      record {
+        stands = stored-stands d (r .used) h c (action .answer .next .used) (action .transcript) (rw (used, transcript) (stored d (r .used) h c can (omega arith)));
+        reads = read-encode h c (record { can = can; number = omega (arith, counts .1); id = arrays .conversation; whole = v .0; range = range });
+      })
+
+  -- the own ids have 16 octets
+  own-sized : AllTrue (limitRows r) → (s : Id) → List·Memᴰ s (ownOf r) → length s ≡ 16
+  own-sized limits =
+      let (l1, (l2, rest)) = limits in
+      let few : r .count ≤ 16 = leb-true _ _ l2 in
+      ids-sized (r .count) (r .list) (omega (arith, arrays .list))
+
+  now-sized : AllTrue (limitRows r) → schemeAllowed r ≡ true → length (schemeAt r (schemeNow r)) ≡ 16
+  now-sized limits allowed =
+      let low : schemeNow r < r .count = now-below r allowed in
+      sized-at (ownOf r) (own-sized limits) (schemeNow r) (rw (length-idsAt (r .count) (r .list)) low)
+
+  listed-whole : AllTrue (limitRows r) → length (take (16 * r .count) (r .list)) % 16 ≡ 0
+  listed-whole limits =
+      let (l1, (l2, rest)) = limits in
+      let few : r .count ≤ 16 = leb-true _ _ l2 in
+      let n : length (take (16 * r .count) (r .list)) ≡ 16 * r .count = length-take-le (16 * r .count) (r .list) (omega (arith, arrays .list)) in
+      omega arith
+
+  left-whole : AllTrue (limitRows r) → (m : ℕ) → length (joinIds (left (ownOf r) (r .common) m)) % 16 ≡ 0
+  left-whole limits m =
+      let n = length-joined (left (ownOf r) (r .common) m) (left-sized (ownOf r) (r .common) m (own-sized limits) .0) in
+      omega arith
+
+-- 3. every call
+
+module _ (e : End) (peer : List ℕ) (arrays : Arrays (e .record-of)) where
+  abbrev r : Record
+  r = e .record-of
+
+  abbrev d : List ℕ
+  d = e .transcript
+
+  abbrev Reads : Call → Outgoing → Type 0
+  Reads k m = InRange (m .contents) → isAccepted (act e peer k .answer) ≡ true → ReadsAsSent r d m (act e peer k)
+
+  said : (s : Speech) → Reads (speak s) (record { heading = heading r (kindIn s); contents = contentsIn (schemeAt r (schemeNow r)) s })
+  unfolding act speaking typeOf
+  said (request value) = λ range. sends r d arrays EXCHANGE (namedRows r) (contentsIn (schemeAt r (schemeNow r)) (request value)) _ refl refl refl range (λ l t. (now-sized r d arrays l (t .0), tt)) refl refl
+  said (checksum type value) = λ range. sends r d arrays VERIFY (namedRows r) (contentsIn (schemeAt r (schemeNow r)) (checksum type value)) _ refl refl refl range (λ l t. (now-sized r d arrays l (t .0), tt)) refl refl
+  said (alarm code) = λ range. sends r d arrays ALERT (namedRows r) (contentsIn (schemeAt r (schemeNow r)) (alarm code)) _ refl refl refl range (λ l t. (now-sized r d arrays l (t .0), tt)) refl refl
+
+  sent : (k : Call) (m : Outgoing) → sentBy r k ≡ some m → Reads k m
+  unfolding act offering replying writingMetadata typeOf
+  sent (offer random) m is = subst (Reads (offer random)) (Option·some-injective _ _ is)
+      (λ range. sends r d arrays NEGO (offerRows r) (ofNego (record { random = random .0; schemes = take (16 * r .count) (r .list) })) _ refl refl refl range
+      (λ l t. (random .1, listed-whole r d arrays l)) refl refl)
+  sent (reply m random) o is = subst (Reads (reply m random)) (Option·some-injective _ _ is)
+      (λ range. sends r d arrays NEGO (replyRows r m) (ofNego (record { random = random .0; schemes = joinIds (left (ownOf r) (r .common) m) })) _ refl refl refl range
+      (λ l t. (random .1, left-whole r d arrays l m)) refl refl)
+  sent (metadata id value) m is = subst (Reads (metadata id value)) (Option·some-injective _ _ is)
+      (λ range. sends r d arrays METADATA (metadataRows r (id .0) (length value)) (ofExchange (record { scheme = id .0; value = value })) _ refl refl refl range
+      (λ l t. (id .1, tt)) refl refl)
+  sent (speak s) m is = subst (Reads (speak s)) (Option·some-injective _ _ is) (said s)
+  sent read m is = absurd (Option·some-ne-none m (sym is))
+  sent (choose n) m is = absurd (Option·some-ne-none m (sym is))
+
+pub written-reads : WrittenReads
+written-reads e peer k m arrays is range accepted = sent e peer arrays k m is range accepted

@@ -1,0 +1,160 @@
+-- What is proved of the calls and of runs, a claim to a name. Demand 3 stands in Runs, what every run keeps in Logs, the worked examples in Worked.
+--
+-- Glossary
+--   Unchanged          a refusal that leaves record and transcript as they were
+--   RefusedUnchanged   every refused call does, on every record
+--   RefusedStays       a refused call leaves the two ends of a run as they were
+--   acceptedOf         the calls of a list that are accepted, in order
+--   AcceptedEnds       the two ends behind a list of calls are those of its accepted calls alone
+--   OpeningFresh       the records that a run starts with are those that opening answers
+--   leftWith o ma mi   what rule 2 leaves of the lists of an opening, with the marks of either end; replyWith o m: the reply's list with the acceptor's
+--   RuleTwoAnswer      what a choosing call of a run answers, by rule 2
+--   ByRule2            every choosing call of every run does
+--   NoneRefused        and it is refused with 17 wherever rule 2 leaves nothing
+--   ReplyAnswer        what a call of a run that writes the acceptor's NEGO answers, by the reply's list
+--   ReplyByMarks       every such call of every run does
+--   atEnd x y          the entry y of a run is one of the end x; acceptedAt: and is accepted, of a sort of calls
+--   withMarks          the sort of calls with marks; isVerify: those that write a VERIFY
+--   MarksOnce          in a run an end has at most one accepted call with marks
+--   VerifyOnce         in a run an end writes at most one VERIFY
+--   Arrays r           the lengths of a record's arrays, as the struct gives them
+--   sentBy r k         the message that a writing call sends: the record's number and conversation, and the call's arguments; sent: one of a kind
+--   ReadsAsSent        a message stands at the transcript's end and reads as it was sent, whatever follows
+--   WrittenReads       demand 2's round trip: what an accepted writing call appended does, on every record
+use Prim.Native.Nat.{ℕ, _*_, _≤_}
+use mathlib.Core.Path.{_≡_}
+use mathlib.Core.Bool.{Bool, true, false, cond, not, _&&_}
+use mathlib.Core.Logic.{_⊎_}
+use mathlib.Core.List.{List, [], _∷_, List·Memᴰ}
+use mathlib.Core.Option.{Option, none, some}
+use lib.ListN.{length, take}
+use lib.Dec.{eqb}
+use Rattle.encode.specs.Encode.{Contents, ofNego, ofExchange}
+use Rattle.roundtrip.specs.ReadBack.{InRange, ReadsBack, Stands, Outgoing}
+use Rattle.schemes.specs.Lists.{Id, keep, first, leftOver, rule2, replyOf, oneTo16, wholeIds, joinIds}
+use Rattle.schemes.specs.Sets.{left}
+use Rattle.conversation.specs.declared.Record.{Record}
+use Rattle.conversation.specs.declared.Answer.{Answer}
+use Rattle.conversation.specs.State.{ownOf, schemeAt, fresh}
+use Rattle.conversation.specs.Turns.{NEGO, METADATA, VERIFY}
+use Rattle.conversation.specs.Outcomes.{Outcome, zeroId, answered}
+use Rattle.conversation.specs.Writing.{heading, schemeNow, kindIn, contentsIn, opening}
+use Rattle.conversation.specs.Runs.{Sized, Call, offer, reply, metadata, speak, read, choose, End, act, Opening, World, world, outcomeAt, next, ends, Entry, run, isAccepted, isLawful, Replied}
+
+-- "Record and lent octets are unchanged."
+abbrev pub Unchanged : Record → List ℕ → Outcome → Type 0
+Unchanged r d o = (o .answer .refusal ≡ 0 → ⊥) → (o .answer .next ≡ r) × (o .transcript ≡ d)
+
+abbrev pub RefusedUnchanged : Type 0
+RefusedUnchanged = (e : End) (peer : List ℕ) (k : Call) → Unchanged (e .record-of) (e .transcript) (act e peer k)
+
+-- "In a run the call and those accepted (not refused) before it decide 18."
+abbrev pub RefusedStays : Type 0
+RefusedStays = (w : World) (x : Bool) (k : Call) → isAccepted (outcomeAt w x k .answer) ≡ false → next w x k ≡ w
+
+abbrev pub acceptedOf : World → List (Bool × Call) → List (Bool × Call)
+acceptedOf w [] = []
+acceptedOf w (c ∷ cs) =
+    cond (isAccepted (outcomeAt w (c .0) (c .1) .answer)) (c ∷ acceptedOf (next w (c .0) (c .1)) cs) (acceptedOf (next w (c .0) (c .1)) cs)
+
+abbrev pub AcceptedEnds : Type 0
+AcceptedEnds = (w : World) (cs : List (Bool × Call)) → ends w (acceptedOf w cs) ≡ ends w cs
+
+-- "A run starts with a record of each role, fresh from opening"
+abbrev pub OpeningFresh : Type 0
+OpeningFresh =
+    (acceptor : Bool) (l : List Id) (conversation : List ℕ) → wholeIds l ≡ true → oneTo16 l ≡ true
+    → opening acceptor (joinIds l) conversation ≡ answered 0 0 (fresh acceptor (joinIds l) (cond acceptor zeroId conversation))
+
+abbrev pub leftWith : Opening → ℕ → ℕ → List Id
+leftWith o ma mi = leftOver (o .acceptor) (o .initiator) ma mi
+
+abbrev pub replyWith : Opening → ℕ → List Id
+replyWith o m = replyOf (o .acceptor) (o .initiator) m
+
+-- demand 2: "the first scheme in the acceptor's order that both ends list and neither has marked failed"; the number left is exact; 17 is given only
+-- where there is none; and a lawful call is answered in one of these two ways
+pub record RuleTwoAnswer (o : Opening) (cs : List (Bool × Call)) (m : ℕ) (a : Answer) : Type 0 where
+  pub refuses : a .refusal ≡ 17 → (ma : ℕ) × (Replied o cs ma × (leftWith o ma m ≡ []))
+  pub answers : isAccepted a ≡ true
+      → (ma : ℕ) × (Replied o cs ma × ((rule2 (o .acceptor) (o .initiator) ma m ≡ some (a .choice)) × (a .left ≡ length (leftWith o ma m))))
+  pub lawful : isLawful a ≡ true → (a .refusal ≡ 17) ⊎ (isAccepted a ≡ true)
+
+abbrev pub ByRule2 : Type 0
+ByRule2 =
+    (o : Opening) (cs : List (Bool × Call)) (x : Entry) (m : ℕ) → List·Memᴰ x (run (world o) cs) → x .call ≡ choose m
+    → RuleTwoAnswer o cs m (x .said)
+
+-- "No common scheme" is said wherever there is none
+abbrev pub NoneRefused : Type 0
+NoneRefused =
+    (o : Opening) (cs : List (Bool × Call)) (x : Entry) (m ma : ℕ) → List·Memᴰ x (run (world o) cs) → x .call ≡ choose m
+    → isLawful (x .said) ≡ true → Replied o cs ma → leftWith o ma m ≡ [] → x .said .refusal ≡ 17
+
+-- "the acceptor's, by its own marks alone, is answered when its NEGO is written": the first and the number of the common schemes less its marks; 17 is
+-- given only where there is none, and wherever there is none and neither 18 nor 19 goes before (15 is not asked of this call, and 16 comes behind 17)
+pub record ReplyAnswer (o : Opening) (m : ℕ) (a : Answer) : Type 0 where
+  pub refuses : a .refusal ≡ 17 → replyWith o m ≡ []
+  pub answers : isAccepted a ≡ true → (first (replyWith o m) ≡ some (a .choice)) × (a .left ≡ length (replyWith o m))
+  pub none-left : replyWith o m ≡ [] → (a .refusal ≡ 18 → ⊥) → (a .refusal ≡ 19 → ⊥) → a .refusal ≡ 17
+
+abbrev pub ReplyByMarks : Type 0
+ReplyByMarks =
+    (o : Opening) (cs : List (Bool × Call)) (x : Entry) (m : ℕ) (random : Sized 32) → List·Memᴰ x (run (world o) cs) → x .call ≡ reply m random
+    → ReplyAnswer o m (x .said)
+
+abbrev pub atEnd : Bool → Entry → Bool
+atEnd true y = y .acceptor
+atEnd false y = not (y .acceptor)
+
+abbrev pub acceptedAt : Bool → (Call → Bool) → Entry → Bool
+acceptedAt x sort y = atEnd x y && (isAccepted (y .said) && sort (y .call))
+
+abbrev pub withMarks : Call → Bool
+withMarks (offer random) = false
+withMarks (reply m random) = true
+withMarks (metadata id value) = false
+withMarks (speak s) = false
+withMarks read = false
+withMarks (choose m) = true
+
+abbrev pub isVerify : Call → Bool
+isVerify (offer random) = false
+isVerify (reply m random) = false
+isVerify (metadata id value) = false
+isVerify (speak s) = eqb (kindIn s) VERIFY
+isVerify read = false
+isVerify (choose m) = false
+
+-- "its end's accepted call": there is no second
+abbrev pub MarksOnce : Type 0
+MarksOnce = (o : Opening) (cs : List (Bool × Call)) (x : Bool) → length (keep (acceptedAt x withMarks) (run (world o) cs)) ≤ 1
+
+-- "Each end sends at most one VERIFY in a conversation."
+abbrev pub VerifyOnce : Type 0
+VerifyOnce = (o : Opening) (cs : List (Bool × Call)) (x : Bool) → length (keep (acceptedAt x isVerify) (run (world o) cs)) ≤ 1
+
+pub record Arrays (r : Record) : Type 0 where
+  pub list : length (r .list) ≡ 256
+  pub conversation : length (r .conversation) ≡ 16
+
+abbrev pub sent : Record → ℕ → Contents → Option Outgoing
+sent r kind c = some (record { heading = heading r kind; contents = c })
+
+abbrev pub sentBy : Record → Call → Option Outgoing
+sentBy r (offer random) = sent r NEGO (ofNego (record { random = random .0; schemes = take (16 * r .count) (r .list) }))
+sentBy r (reply m random) = sent r NEGO (ofNego (record { random = random .0; schemes = joinIds (left (ownOf r) (r .common) m) }))
+sentBy r (metadata id value) = sent r METADATA (ofExchange (record { scheme = id .0; value = value }))
+sentBy r (speak s) = sent r (kindIn s) (contentsIn (schemeAt r (schemeNow r)) s)
+sentBy r read = none
+sentBy r (choose m) = none
+
+pub record ReadsAsSent (r : Record) (d : List ℕ) (m : Outgoing) (o : Outcome) : Type 0 where
+  pub stands : Stands d (r .used) (m .heading) (m .contents) (o .answer .next .used) (o .transcript)
+  pub reads : (rest : List ℕ) → ReadsBack (m .heading) (m .contents) rest
+
+-- a checksum type and an error code are numbers of 32 bits (`InRange`), as the calls take them
+abbrev pub WrittenReads : Type 0
+WrittenReads =
+    (e : End) (peer : List ℕ) (k : Call) (m : Outgoing) → Arrays (e .record-of) → sentBy (e .record-of) k ≡ some m → InRange (m .contents)
+    → isAccepted (act e peer k .answer) ≡ true → ReadsAsSent (e .record-of) (e .transcript) m (act e peer k)

@@ -1,0 +1,224 @@
+-- Document 01's examples P1 to P13 as one list of cases; a conversation to its end; and demand 3 with longer lists.
+--
+-- Glossary
+--   negoToken       a token of one INITIATOR_NEGO: its length, its scheme and extension vectors, its payload; withScheme, withExtension: the examples'
+--   Extension       an extension as it is shown: its type, and its value's octets; extensionsIn m: those of the NEGO m
+--   Reads           what the reading of an example says: a refusal, or one NEGO with what is shown of it; readsAs: that of a token
+--   scheme n        a scheme; random: octets for a NEGO
+--   opened          what the examples' runs start with; negotiation: their calls, with the marks of either end
+--   Says            what a call answers: its number, its choice and how many were left; saysOf: of an entry of a run
+--   done, refuses   the answer of a call that is accepted and says no more, and of one that is refused; names: of one that names a choice
+--   Case, cases     an example: a token, or the calls of a run, and what it says; all of them
+--   Right, AllRight a case holds; all of a list do
+--   Worked          document 01's examples hold
+--   longerLists     a second opening, with longer lists than the first
+--   LongerRun       demand 3, for that opening behind the first's choice; LongerChoice: what is chosen there
+--   conversation    calls of a whole conversation; allAccepted: every entry of a run is accepted
+--   WholeConversation   every call of it is accepted; WholeLogs: and each end has all of its messages
+use Prim.Native.Nat.{ℕ}
+use mathlib.Core.Path.{_≡_, refl}
+use mathlib.Core.Bool.{Bool, true, false, _&&_}
+use mathlib.Core.List.{List, [], _∷_, _++_, map, List·Memᴰ}
+use lib.ListN.{length, replicate}
+use lib.IntN.{ℤ, pos, negsuc}
+use Rattle.octets.specs.Octets.{signed32, sameOctets}
+use Rattle.vector.specs.Vector.{shown}
+use Rattle.message.specs.Layout.{elementsOf, extensionVector}
+use Rattle.message.specs.Show.{schemesIn}
+use Rattle.put.specs.Put.{octetsOf, joined}
+use Rattle.token.specs.Token.{Reading, Accepted, Refused, tokenOf}
+use Rattle.schemes.specs.Lists.{Id, mem, distinct}
+use Rattle.conversation.specs.Outcomes.{zeroId}
+use Rattle.conversation.specs.Writing.{request, checksum, alarm}
+use Rattle.conversation.specs.Runs.{Sized, Call, offer, reply, metadata, speak, read, choose, Opening, world, Entry, run, isAccepted, NotLost}
+use Rattle.conversation.specs.Logs.{logsOf}
+
+abbrev pub negoToken : ℕ → ℕ → ℕ → ℕ → ℕ → List ℕ → List ℕ
+negoToken len schemesAt schemes extensionsAt extensions payload =
+    joined (
+    (0x4E ∷ 0x45 ∷ 0x47 ∷ 0x4F ∷ 0x45 ∷ 0x58 ∷ 0x54 ∷ 0x53 ∷ [])
+    ∷ octetsOf 4 0 ∷ octetsOf 4 0 ∷ octetsOf 4 96 ∷ octetsOf 4 len ∷ replicate 16 7
+    ∷ replicate 32 3 ∷ octetsOf 8 0
+    ∷ octetsOf 4 schemesAt ∷ octetsOf 2 schemes ∷ octetsOf 2 0
+    ∷ octetsOf 4 extensionsAt ∷ octetsOf 2 extensions ∷ octetsOf 2 0
+    ∷ payload
+    ∷ []
+    )
+
+-- "NEGO of 112, one scheme", its vector given
+abbrev pub withScheme : ℕ → ℕ → List ℕ
+withScheme at count = negoToken 112 at count 0 0 (replicate 16 5)
+
+-- "NEGO of 108, one extension at 96, empty value", the octets of its type given
+abbrev pub withExtension : List ℕ → List ℕ
+withExtension type = negoToken 108 0 0 96 1 (type ++ replicate 8 0)
+
+pub record Extension : Type 0 where
+  pub type : ℤ
+  pub value : List ℕ
+
+abbrev pub extensionsIn : List ℕ → List Extension
+extensionsIn m = map (λ e. record { type = signed32 (e .type); value = shown 96 m (e .value) }) (elementsOf (shown 96 m (extensionVector m)))
+
+pub data Reads : Type 0 where
+  refused : (number place : ℕ) → Reads
+  nego : (schemes : List Id) (extensions : List Extension) → Reads
+  other : Reads
+
+abbrev pub readsAs : Reading → Reads
+readsAs (Refused n p) = refused n p
+readsAs (Accepted []) = other
+readsAs (Accepted (m ∷ [])) = nego (schemesIn (m .octets)) (extensionsIn (m .octets))
+readsAs (Accepted (m ∷ k ∷ ms)) = other
+
+abbrev pub scheme : ℕ → Id
+scheme n = replicate 16 n
+
+abbrev pub random : Sized 32
+random = (replicate 32 7, refl)
+
+-- "Acceptor A, B, C, initiator C, B."
+unfoldable pub opened : Opening
+unfolding distinct mem sameOctets
+opened = record {
+  initiator = scheme 3 ∷ scheme 2 ∷ [];
+  acceptor = scheme 1 ∷ scheme 2 ∷ scheme 3 ∷ [];
+  conversation = (scheme 9, refl);
+  initiator-buffer = replicate 1100 0;
+  acceptor-buffer = replicate 1100 0;
+  initiator-whole = refl;
+  acceptor-whole = refl;
+  initiator-ok = refl;
+  acceptor-ok = refl;
+}
+
+abbrev pub negotiation : ℕ → ℕ → List (Bool × Call)
+negotiation acceptorMarks initiatorMarks =
+    (false, offer random)
+    ∷ (true, read)
+    ∷ (true, reply acceptorMarks random)
+    ∷ (false, read)
+    ∷ (false, choose initiatorMarks)
+    ∷ []
+
+pub record Says : Type 0 where
+  pub number : ℕ
+  pub choice : Id
+  pub left : ℕ
+
+abbrev pub saysOf : Entry → Says
+saysOf x = record { number = x .said .refusal; choice = x .said .choice; left = x .said .left }
+
+abbrev pub done : Says
+done = record { number = 0; choice = zeroId; left = 0 }
+
+abbrev pub refuses : ℕ → Says
+refuses n = record { number = n; choice = zeroId; left = 0 }
+
+abbrev pub names : Id → ℕ → Says
+names id left = record { number = 0; choice = id; left = left }
+
+pub data Case : Type 0 where
+  reads : (token : List ℕ) (says : Reads) → Case
+  runs : (calls : List (Bool × Call)) (say : List Says) → Case
+
+abbrev pub cases : List Case
+cases =
+    -- P1
+    reads [] (refused 2 0)
+    -- P2
+    ∷ reads (replicate 39 0) (refused 2 0)
+    -- P3
+    ∷ reads (withScheme 96 1) (nego (replicate 16 5 ∷ []) [])
+    -- P4
+    ∷ reads (withScheme 95 1) (refused 11 0)
+    -- P5
+    ∷ reads (withScheme 97 1) (refused 11 0)
+    -- P6
+    ∷ reads (withScheme 4294967295 0) (nego [] [])
+    -- P7
+    ∷ reads (withScheme 4294967280 2) (refused 11 0)
+    -- P8
+    ∷ reads (withExtension (0xFE ∷ 0xFF ∷ 0xFF ∷ 0xFF ∷ [])) (refused 12 0)
+    -- P9
+    ∷ reads (withExtension (0xFF ∷ 0xFF ∷ 0xFF ∷ 0x7F ∷ [])) (nego [] (record { type = pos 2147483647; value = [] } ∷ []))
+    -- P10
+    ∷ reads (withExtension (0x00 ∷ 0x00 ∷ 0x00 ∷ 0x80 ∷ [])) (refused 12 0)
+    -- P11
+    ∷ runs (negotiation 0 0) (done ∷ done ∷ names (scheme 2) 2 ∷ done ∷ names (scheme 2) 2 ∷ [])
+    -- P12, the acceptor's mark; the initiator's mark
+    ∷ runs (negotiation 2 0) (done ∷ done ∷ names (scheme 3) 1 ∷ done ∷ names (scheme 3) 1 ∷ [])
+    ∷ runs (negotiation 0 2) (done ∷ done ∷ names (scheme 2) 2 ∷ done ∷ names (scheme 3) 1 ∷ [])
+    -- P13
+    ∷ runs (negotiation 6 0) (done ∷ done ∷ refuses 17 ∷ refuses 2 ∷ refuses 18 ∷ [])
+    ∷ []
+
+abbrev pub Right : Case → Type 0
+Right (reads token says) = readsAs (tokenOf token) ≡ says
+Right (runs calls say) = map saysOf (run (world opened) calls) ≡ say
+
+abbrev pub AllRight : List Case → Type 0
+AllRight [] = Unit {0}
+AllRight (c ∷ cs) = Right c × AllRight cs
+
+-- "P1 to P13 are proved over the definitions by one statement about a list of cases"
+abbrev pub Worked : Type 0
+Worked = AllRight cases
+
+-- the acceptor's list keeps its order and gains three schemes, the initiator's is reordered and gains one
+unfoldable pub longerLists : Opening
+unfolding distinct mem sameOctets
+longerLists = record {
+  initiator = scheme 2 ∷ scheme 5 ∷ scheme 3 ∷ [];
+  acceptor = scheme 4 ∷ scheme 1 ∷ scheme 5 ∷ scheme 2 ∷ scheme 3 ∷ scheme 6 ∷ [];
+  conversation = (scheme 8, refl);
+  initiator-buffer = replicate 900 0;
+  acceptor-buffer = replicate 800 1;
+  initiator-whole = refl;
+  acceptor-whole = refl;
+  initiator-ok = refl;
+  acceptor-ok = refl;
+}
+
+-- the first run's choice is scheme 2: P11
+abbrev pub LongerRun : Type 0
+LongerRun = (y : Entry) → List·Memᴰ y (run (world longerLists) (negotiation 0 0)) → NotLost opened longerLists (negotiation 0 0) (scheme 2) y
+
+-- both ends name scheme 5, of three; the first acceptor did not list it
+abbrev pub LongerChoice : Type 0
+LongerChoice = map saysOf (run (world longerLists) (negotiation 0 0)) ≡ done ∷ done ∷ names (scheme 5) 3 ∷ done ∷ names (scheme 5) 3 ∷ []
+
+-- metadata and optimistic exchanges, a choice, several rounds, VERIFY of both ends, ALERTs
+abbrev pub conversation : List (Bool × Call)
+conversation =
+    (false, offer random)
+    ∷ (false, metadata (scheme 3, refl) (1 ∷ 2 ∷ []))
+    ∷ (false, metadata (scheme 2, refl) (3 ∷ []))
+    ∷ (false, speak (request (4 ∷ [])))
+    ∷ (true, read)
+    ∷ (true, reply 2 random)
+    ∷ (true, metadata (scheme 3, refl) (5 ∷ []))
+    ∷ (true, speak (request (6 ∷ 7 ∷ [])))
+    ∷ (false, read)
+    ∷ (false, choose 0)
+    ∷ (false, speak (request []))
+    ∷ (true, read)
+    ∷ (true, speak (request (8 ∷ [])))
+    ∷ (true, speak (checksum (negsuc 137) (9 ∷ [])))
+    ∷ (false, read)
+    ∷ (false, speak (checksum (pos 16) []))
+    ∷ (false, speak (alarm (negsuc 0)))
+    ∷ (true, read)
+    ∷ (true, speak (alarm (pos 1)))
+    ∷ (false, read)
+    ∷ []
+
+abbrev pub allAccepted : List Entry → Bool
+allAccepted [] = true
+allAccepted (x ∷ xs) = isAccepted (x .said) && allAccepted xs
+
+abbrev pub WholeConversation : Type 0
+WholeConversation = allAccepted (run (world opened) conversation) ≡ true
+
+abbrev pub WholeLogs : Type 0
+WholeLogs = (length (logsOf opened conversation .i) ≡ 13) × (length (logsOf opened conversation .a) ≡ 13)

@@ -1,0 +1,174 @@
+#!/bin/sh
+# What stands behind a refusal, in words; nothing here decides one.
+#   explain.sh token FILE NUMBER PLACE   `refused NUMBER at=PLACE` was answered to the token in FILE: which octets to look at
+#   explain.sh script FILE ANSWERS       the lines of the script in FILE that were bad or refused, by ANSWERS, what was printed
+# Places are counted from the token's first octet, from 0. docs/RULES.md has the rules.
+set -u
+
+# A line a number; awk takes them from the environment.
+meanings='longer than 65,535 octets
+fewer than 40 octets for a message
+another signature
+the type is above 7
+the header length is not the one of the type
+the message length is below the header length, or above the octets left
+the sequence number is not the one expected
+another conversation
+a pad octet is not zero
+the version is not 0
+a vector breaks its rule
+a critical extension
+the checksum header length is not 20, or the checksum scheme is not 1
+the type may not stand at this place of the turn, or it is the second VERIFY of its end
+the scheme is not allowed here
+no room in the transcript
+no common scheme is left after the marks of this end
+the call is not of this stage, or the record is outside its limits
+an own list that is empty, above 16 or repeats a scheme; marks beyond the list; or empty metadata'
+export meanings
+meaning='BEGIN { split(ENVIRON["meanings"], meaning, "\n"); CONVFMT = OFMT = "%.0f" }
+'
+
+# One line for what the number means, one for the message, and one for each place to look at.
+of_token() {
+    if [ "$2" -eq 1 ]; then
+        awk -v size="$(wc -c <"$1")" "$meaning"'BEGIN { print "refused 1: " meaning[1]; print "the token has " (size < 2097152 ? size " octets" : "2 MiB or more") }'
+        return
+    fi
+    od -An -v -tu1 "$1" | LC_ALL=C awk -v number="$2" -v place="$3" "$meaning"'
+        { for (i = 1; i <= NF; i++) octet[size++] = $i }
+
+        # the number in k octets, least significant first
+        function le(at, k,    v) { v = 0; while (k--) v = v * 256 + octet[at + k]; return v }
+        function signed(v) { return v < 2147483648 ? v : v - 4294967296 }
+        function hex(at, k,    s, i) {
+            for (i = at; i < at + k && i < size; i++) s = s (s == "" ? "" : " ") sprintf("%02X", octet[i])
+            return s
+        }
+        function signature(at) { return hex(at, 8) == "4E 45 47 4F 45 58 54 53" }
+        # the first signature from a place on, or the size where there is none
+        function find(at) { while (at < size && !(octet[at] == 78 && signature(at))) at++; return at }
+        function octets(at, k) { return k == 1 ? "octet " at : "octets " at " to " at + k - 1 }
+        function look(at, k, what) { print octets(at, k) ", " what }
+
+        function header_of(kind) { return kind <= 1 ? 96 : kind <= 5 ? 64 : kind == 6 ? 80 : 72 }
+        function name_of(kind) {
+            split("INITIATOR_NEGO ACCEPTOR_NEGO INITIATOR_META_DATA ACCEPTOR_META_DATA CHALLENGE AP_REQUEST VERIFY ALERT", name, " ")
+            return kind <= 7 ? name[kind + 1] : "unknown"
+        }
+
+        # a pad of k octets
+        function pad(at, k) { for (; k--; at++) if (octet[at]) look(at, 1, "a pad: " hex(at, 1) ", and not 00") }
+
+        # Whether a vector keeps its rule; where `all` is set, or it does not, a line says why.
+        function keeps(at, what, unit, count, all,    offset, bad, how) {
+            offset = le(at, 4)
+            if (count == 0) how = "empty, its offset is not looked at"
+            else if (offset < header) { bad = 1; how = "BREAKS THE RULE: the offset is below the header length, " header }
+            else if (offset + count * unit > len) { bad = 1; how = "BREAKS THE RULE: ends at " offset + count * unit ", and the message at " len }
+            else how = "ends at " offset + count * unit " of " len
+            if (all || bad && ++shown <= 8)
+                look(at, unit == 1 ? 8 : 6, what ": offset " offset ", " (unit == 1 ? "length " count : "count " count " of " unit) ": " how)
+            return !bad
+        }
+        # a vector of elements with types and values, at a place
+        function array(at, what,    k, from) {
+            if (!keeps(at, what " vector", 12, le(at + 4, 2), 1)) return
+            for (k = 0; k < le(at + 4, 2); k++) {
+                from = place + le(at, 4) + 12 * k
+                keeps(from + 4, "value of " what " " k, 1, le(from + 8, 4), 0)
+            }
+        }
+        function vectors() {
+            if (kind <= 1) { keeps(place + 80, "scheme vector", 16, le(place + 84, 2), 1); array(place + 88, "extension") }
+            else if (kind <= 5) keeps(place + 56, "exchange vector", 1, le(place + 60, 4), 1)
+            else if (kind == 6) keeps(place + 68, "checksum value", 1, le(place + 72, 4), 1)
+            else array(place + 60, "alert")
+            if (shown > 8) print "and " shown - 8 " more"
+        }
+        function critical(    k, from) {
+            for (k = 0; k < le(place + 92, 2); k++) {
+                from = place + le(place + 88, 4) + 12 * k
+                if (octet[from + 3] >= 128 && ++shown <= 8) look(from, 4, "type of extension " k ": " signed(le(from, 4)) ", and negative ones are critical")
+            }
+            if (shown > 8) print "and " shown - 8 " more"
+        }
+        function length_before() { look(before + 20, 4, "length of the message before: " le(before + 20, 4) ", so that the next begins at " place) }
+
+        END {
+            for (at = 0; at < place && le(at + 20, 4); at += le(at + 20, 4)) before = at
+            left = size - place
+            kind = le(place + 8, 4)
+            header = header_of(kind)
+            len = le(place + 20, 4)
+            print "refused " number ": " meaning[number]
+            if (number > 4) print "message at " place ": " name_of(kind) " (type " kind "), sequence number " le(place + 12, 4) ", length " len
+
+            if (number == 2) {
+                print size ? left " octets are left, from octet " place " on" : "the token is empty"
+                if (place) length_before()
+            }
+            if (number == 3) {
+                look(place, 8, "the signature: " hex(place, 8) ", and not 4E 45 47 4F 45 58 54 53")
+                if (place) length_before()
+                at = find(place ? before + 8 : 0)
+                if (at < size) print "the next signature stands at octet " at
+            }
+            if (number == 4) look(place + 8, 4, "the type: " kind)
+            if (number == 5) {
+                look(place + 16, 4, "the header length: " le(place + 16, 4) ", and not " header)
+                if (le(place + 16, 4) == header - 4 && kind >= 6) print "Samba writes such headers: docs/PEERS.md"
+            }
+            if (number == 6) look(place + 20, 4, "the message length: " len (len < header ? ", below the header length, " header : ", and " left " octets are left"))
+            if (number == 7) {
+                look(place + 12, 4, "the sequence number: " le(place + 12, 4))
+                look(before + 12, 4, "that of the message before: " le(before + 12, 4) (le(before + 12, 4) == 4294967295 ? ", which no number follows" : ""))
+            }
+            if (number == 8) {
+                look(place + 24, 16, "the conversation: " hex(place + 24, 16))
+                look(24, 16, "that of the first message: " hex(24, 16))
+            }
+            if (number == 9) {
+                if (kind <= 1) { pad(place + 86, 2); pad(place + 94, 2) }
+                if (kind == 6) pad(place + 76, 4)
+                if (kind == 7) pad(place + 66, 6)
+                if (kind <= 1 && le(place + 86, 4) >= 96 && le(place + 86, 4) <= len) print "MIT krb5 has its extension vector at 86: docs/PEERS.md"
+            }
+            if (number == 10) look(place + 72, 8, "the version: " hex(place + 72, 8))
+            if (number == 11) vectors()
+            if (number == 12) critical()
+            if (number == 13) {
+                if (le(place + 56, 4) != 20) look(place + 56, 4, "the checksum header length: " le(place + 56, 4) ", and not 20")
+                if (le(place + 60, 4) != 1) look(place + 60, 4, "the checksum scheme: " le(place + 60, 4) ", and not 1")
+            }
+        }'
+}
+
+# Each call has one line of ANSWERS: comments and empty lines have none. Lines are counted from 1.
+of_script() {
+    [ "$(head -c 3 "$1" | od -An -tx1)" != ' ef bb bf' ] || echo 'the script begins with a byte order mark, EF BB BF, which belongs to no call'
+    LC_ALL=C grep -an '^[^#]' "$1" | LC_ALL=C tr -c '\n\r -~' '?' | LC_ALL=C awk -v answers="$2" "$meaning"'
+        { if ((getline answer <answers) <= 0) exit; line = $0; sub(/:.*/, "", line) }
+        answer == "bad line" {
+            sub(/^[0-9]*:/, "")
+            ends += sub(/\r$/, "")
+            if (++bad <= 8) print "line " line " is bad: " substr($0, 1, 60)
+        }
+        answer ~ /^refused / {
+            split(answer, word, " ")
+            n = word[2]
+            if (++times[n] <= 8) lines[n] = lines[n] (times[n] > 1 ? ", " : "") line
+        }
+        END {
+            if (bad > 8) print "and " bad - 8 " bad lines more"
+            if (ends) print "of the bad lines, " ends " end in a carriage return: tr -d \047\\r\047 takes it out"
+            for (n = 1; n <= 19; n++) if (times[n])
+                print (times[n] > 1 ? "lines " : "line ") lines[n] (times[n] > 8 ? " and " times[n] - 8 " more" : "") ": refused " n ": " meaning[n]
+        }'
+}
+
+case ${1-} in
+    token) of_token "$2" "$3" "$4" ;;
+    script) of_script "$2" "$3" ;;
+    *) exit 2 ;;
+esac
