@@ -4,9 +4,9 @@ use Prim.Native.Nat.{ℕ, _+_, _-_, _<_, _≤_}
 use mathlib.Core.Path.{_≡_, sym, ap, subst}
 use mathlib.Core.Bool.{true, false}
 use mathlib.Core.Logic.{_⊎_, inl, inr}
-use mathlib.Core.List.{List, _++_}
+use mathlib.Core.List.{List, [], _++_}
 use native.Mathlib.Omega.{arith}
-use lib.ListN.{length, take, length-append}
+use lib.ListN.{length, take, getD, length-append}
 use lib.Seq.{length-take-le}
 use lib.Dec.{leb}
 use borrow.Author.Tests.{leb-true, leb-false}
@@ -16,31 +16,36 @@ use Rattle.windows.specs.declared.Shown.{Shown}
 use Rattle.windows.specs.Windows.{Window, asWindow, windowOf}
 use Rattle.windows.proofs.Covers.{gets-on, window-octets, window-lines}
 use Rattle.listing.specs.Listing.{linesOf}
-use Rattle.listing.proofs.Covers.{short-lines}
 use Rattle.listing.proofs.Bounds.{few-lines}
 use Rattle.console.specs.declared.Loaded.{Loaded}
 use Rattle.console.specs.declared.Loaded.the-variants as answer
 use Rattle.console.specs.Console.{holds}
 
 -- the end of every range that is asked for
-abbrev END : ℕ
+abbrev pub END : ℕ
 END = 18446744073709551615
 
-module _ (s : List ℕ) (small : length s < END) (first : ℕ) (inside : first ≤ length (linesOf s)) (d d' : List ℕ) (size : length d ≡ 65536) (r : Shown) (is : asWindow r d' ≡ windowOf (linesOf s) first END d) where
-  -- it lies in the buffer and in the listing
+-- any lines that have room in a buffer, and are not too many for a number of 64 bits
+module _ (ls : List (List ℕ)) (few : length ls < END) (short : (k : ℕ) → length (getD ls k []) < 128)
+    (first : ℕ) (inside : first ≤ length ls) (d d' : List ℕ) (size : length d ≡ 65536) (r : Shown) (is : asWindow r d' ≡ windowOf ls first END d) where
+  -- a window lies in its buffer and in the lines
   pub within-buffer : r .octets ≤ 65536
-  within-buffer = omega (arith, window-octets (linesOf s) first END d d' r is)
+  within-buffer = omega (arith, window-octets ls first END d d' r is)
 
-  pub behind-inside : (first + r .lines ≤ length (linesOf s)) × (length (linesOf s) ≤ length s + 1)
-  behind-inside = (omega (arith, window-lines (linesOf s) first END d d' r is), few-lines s)
+  pub behind-inside : (first + r .lines ≤ length ls) × (length ls < END)
+  behind-inside = (omega (arith, window-lines ls first END d d' r is), few)
 
-  pub all-shown : r .lines ≡ 0 → first ≡ length (linesOf s)
-  all-shown z = go (which (leb (length (linesOf s)) first)) where
-    go : (leb (length (linesOf s)) first ≡ true) ⊎ (leb (length (linesOf s)) first ≡ false) → first ≡ length (linesOf s)
-    go (inl e) = let done : length (linesOf s) ≤ first = leb-true _ _ e in omega arith
+  pub all-shown : r .lines ≡ 0 → first ≡ length ls
+  all-shown z = go (which (leb (length ls) first)) where
+    go : (leb (length ls) first ≡ true) ⊎ (leb (length ls) first ≡ false) → first ≡ length ls
+    go (inl e) = let done : length ls ≤ first = leb-true _ _ e in omega arith
     go (inr e) =
-        let more : first < length (linesOf s) = leb-false _ _ e in
-        absurd (omega (arith, gets-on (linesOf s) first END d (omega (arith, few-lines s)) more (omega (arith, short-lines s first)), ap (λ (w : Window). w .lines) is))
+        let more : first < length ls = leb-false _ _ e in
+        absurd (omega (arith, gets-on ls first END d (omega (arith, few)) more (omega (arith, short first)), ap (λ (w : Window). w .lines) is))
+
+-- a listing is no longer than that
+pub listed-few : (s : List ℕ) → length s < END - 1 → length (linesOf s) < END
+listed-few s h = omega (arith, few-lines s)
 
 -- a count of octets at the front of a list
 pub counted : (n : ℕ) (d : List ℕ) → n ≤ length d → Counts n d

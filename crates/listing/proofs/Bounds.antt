@@ -36,7 +36,7 @@ content-few exchange m f = omega (arith, f .room)
 content-few verify m f = omega (arith, f .room)
 content-few alert m f = omega (arith, alert-count m f (shown 72 m (alertVector m)) refl, length-shown 72 m (alertVector m), f .room)
 
-message-few : (place q : ℕ) (v m : List ℕ) → Message q v m → length (messageLines place m) ≤ length m
+pub message-few : (place q : ℕ) (v m : List ℕ) → Message q v m → length (messageLines place m) ≤ length m
 unfolding messageLines
 message-few place q v m e = omega (arith, content-few (shapeIn m) m (message-fit q v m e))
 

@@ -39,7 +39,7 @@ fn show_line(p: Progress, d: &mut [u8], place: TokenPlace, m: &[u8], index: usiz
 }
 
 // The last line of an accepted token.
-fn show_end(p: Progress, d: &mut [u8], n: u32, octets: usize) -> Progress
+pub fn show_end(p: Progress, d: &mut [u8], n: u32, octets: usize) -> Progress
     requires { ⌜ Going p (length (now d)) ⌝ }
     ensures { λ r. ⌜ within r (now (d .exit)) ≡ step (within p (now (d .entry))) (joined (endLine n octets)) ⌝ }
 {
@@ -49,7 +49,7 @@ fn show_end(p: Progress, d: &mut [u8], n: u32, octets: usize) -> Progress
 }
 
 // The only line of a refused token.
-fn show_refusal(p: Progress, d: &mut [u8], n: u32, place: TokenPlace) -> Progress
+pub fn show_refusal(p: Progress, d: &mut [u8], n: u32, place: TokenPlace) -> Progress
     requires { ⌜ Going p (length (now d)) ⌝ }
     ensures { λ r. ⌜ within r (now (d .exit)) ≡ step (within p (now (d .entry))) (joined (refusedLine n (place .0))) ⌝ }
 {
@@ -78,7 +78,7 @@ fn show_lines(p: Progress, d: &mut [u8], place: TokenPlace, m: &[u8], first: usi
 }
 
 // All lines of the message m at a place. A message that lies before the window costs one count.
-fn show_message(p: Progress, d: &mut [u8], place: TokenPlace, m: &[u8]) -> Progress
+pub fn show_message(p: Progress, d: &mut [u8], place: TokenPlace, m: &[u8]) -> Progress
     requires { ⌜ Fit (shapeIn (now m)) (now m) ⌝ }
     requires { ⌜ Going p (length (now d)) ⌝ }
     ensures { λ r. ⌜ within r (now (d .exit)) ≡ steps (texts (messageLines (place .0) (now (m .entry)))) (within p (now (d .entry))) ⌝ }

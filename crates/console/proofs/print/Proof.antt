@@ -5,12 +5,13 @@ use mathlib.Core.Path.{_≡_}
 use native.Mathlib.Omega.{arith}
 use lib.ListN.{length, length-take}
 use Rattle.listing.specs.Listing.{linesOf}
-use Rattle.console.proofs.Printing.{within-buffer, behind-inside, all-shown}
+use Rattle.listing.proofs.Covers.{short-lines}
+use Rattle.console.proofs.Printing.{within-buffer, behind-inside, all-shown, listed-few}
 use Rattle.console.proofs.print.Statement.{statement}
 use Rattle.console.proofs.print.Tie as tie
 
 abbrev Inv-loop : tie.InvT-loop
-Inv-loop fd token text₀ first₀ text first = (length token < 18446744073709551615) × (length text ≡ 65536) × (first ≤ length (linesOf token))
+Inv-loop fd token text₀ first₀ text first = (length token < 18446744073709551614) × (length text ≡ 65536) × (first ≤ length (linesOf token))
 
 abbrev μ-loop : tie.MeasureT-loop
 μ-loop fd token text₀ first₀ text first = length (linesOf token) - first
@@ -25,25 +26,25 @@ window-requires : tie.Need-window-requires Inv-loop μ-loop
 window-requires c κs = search needs
 
 returns : tie.Need-returns Inv-loop μ-loop
-returns c = all-shown _ (search needs) _ (search needs) _ _ (search needs) _ (c .before .before .before .window .ensures) (search needs)
+returns c = all-shown _ (listed-few _ (search needs)) (short-lines _) _ (search needs) _ _ (search needs) _ (c .before .before .before .window .ensures) (search needs)
 
 array-share-prefix-text : tie.Need-array-share-prefix-text Inv-loop μ-loop
-array-share-prefix-text c = omega (arith, within-buffer _ (search needs) _ (search needs) _ _ (search needs) _ (c .before .before .before .window .ensures))
+array-share-prefix-text c = omega (arith, within-buffer _ (listed-few _ (search needs)) (short-lines _) _ (search needs) _ _ (search needs) _ (c .before .before .before .window .ensures))
 
 slice-aggregate-write-all : tie.Need-slice-aggregate-write-all Inv-loop μ-loop
-slice-aggregate-write-all c = simp length-take (omega (arith, within-buffer _ (search needs) _ (search needs) _ _ (search needs) _ (c .before .before .before .before .window .ensures)))
+slice-aggregate-write-all c = simp length-take (omega (arith, within-buffer _ (listed-few _ (search needs)) (short-lines _) _ (search needs) _ _ (search needs) _ (c .before .before .before .before .window .ensures)))
 
 write-all-requires : tie.Need-write-all-requires Inv-loop μ-loop
 write-all-requires c κs = search needs
 
 add-first : tie.Need-add-first Inv-loop μ-loop
-add-first c = omega (arith, behind-inside _ (search needs) _ (search needs) _ _ (search needs) _ (c .before .before .before .before .before .before .window .ensures))
+add-first c = omega (arith, behind-inside _ (listed-few _ (search needs)) (short-lines _) _ (search needs) _ _ (search needs) _ (c .before .before .before .before .before .before .window .ensures))
 
 loop-less : tie.Need-loop-less Inv-loop μ-loop
-loop-less c = omega (arith, behind-inside _ (search needs) _ (search needs) _ _ (search needs) _ (c .before .before .before .before .before .before .window .ensures))
+loop-less c = omega (arith, behind-inside _ (listed-few _ (search needs)) (short-lines _) _ (search needs) _ _ (search needs) _ (c .before .before .before .before .before .before .window .ensures))
 
 loop-again : tie.Need-loop-again Inv-loop μ-loop
-loop-again c = (search needs, search needs, behind-inside _ (search needs) _ (search needs) _ _ (search needs) _ (c .before .before .before .before .before .before .window .ensures) .0)
+loop-again c = (search needs, search needs, behind-inside _ (listed-few _ (search needs)) (short-lines _) _ (search needs) _ _ (search needs) _ (c .before .before .before .before .before .before .window .ensures) .0)
 
 pub print-spec : {M : Type 1} → statement M
 print-spec =

@@ -1,0 +1,3 @@
+pub mod Recovery
+pub mod Pieces
+pub mod Scans
