@@ -230,3 +230,15 @@ table-offers t ss k a =
           let f = kept .few in let p = kept .places in
           let l : length (take (e .count) (tickedFrom (e .ids) ss (e .count) 0 (e .counts))) ≡ e .count = length-take-le (e .count) _ (omega (arith, length-from (e .ids) ss (e .count) 0 (e .counts))) in
           same-lists _ _ (omega (arith, l, length-ticked (namesIn e) (take (t .count) (t .counts)) ss, length-ids (e .count) (e .ids))) (λ j h. at-place j (omega (arith, l)))
+
+pub kept-offered : (t : Table) (ss : List Id) → Kept t → AllIds ss → Kept (offeredIn t ss)
+unfolding offeredIn
+kept-offered t ss k a =
+    let e = kept-all t ss k a in
+    record { octets = e .octets; places = length-from (enteredAllIn t ss .ids) ss (enteredAllIn t ss .count) 0 (enteredAllIn t ss .counts) ∙ e .places; few = e .few }
+
+-- the ids of an array's octets
+pub ids-each : (n : ℕ) (a : List ℕ) → n * 16 ≤ length a → AllIds (idsAt n a)
+unfolding idsAt
+ids-each zero a h = tt
+ids-each (suc n) a h = (length-take-le 16 a (omega arith), ids-each n (drop 16 a) (omega (arith, length-drop 16 a)))
