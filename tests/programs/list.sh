@@ -75,8 +75,8 @@ refused 'a missing file' 1 "negoex: no such file: $work/missing" list "$work/mis
 refused 'a folder' 1 "negoex: a folder, and no file: $work/folder" list "$work/folder"
 refused 'an empty name' 1 'negoex: the file has no name' list ''
 refused 'two files' 2 "negoex: 'list' takes one file" list a b
-refused 'no word' 2 'negoex: say what to do: list, converse, examples, test or help'
-refused 'an unknown word' 2 "negoex: unknown word 'show': list, converse, examples, test or help" show
+refused 'no word' 2 'negoex: say what to do: list, converse, tally, examples, test or help'
+refused 'an unknown word' 2 "negoex: unknown word 'show': list, converse, tally, examples, test or help" show
 mkdir "$work/bin"
 ln -s "$(command -v dirname)" "$work/bin/dirname"
 got=$(PATH=$work/bin /bin/sh "$root/negoex" test 2>&1)
