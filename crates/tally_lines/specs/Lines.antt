@@ -11,11 +11,15 @@
 --   lastLines t u         the count of the messages that list other schemes, and that of the names which aren't opened
 --   tallyText t u         the whole text of totals, with u names that aren't opened
 --   shownText t u         that of a record; none of one with more than 64 schemes
-use Prim.Native.Nat.{ℕ, _+_}
+--   TextWhole             in a slice of 8,192 octets or more the whole text stands at the front, each piece of it
+use Prim.Native.Nat.{ℕ, _+_, _≤_}
+use mathlib.Core.Path.{_≡_}
 use mathlib.Core.Bool.{cond}
 use mathlib.Core.List.{List, [], _∷_, _++_}
+use lib.ListN.{length}
 use lib.Dec.{leb, eqb}
-use Rattle.text.specs.Text.{quoted, decimal64, idText}
+use Rattle.put.specs.Put.{put, joined}
+use Rattle.text.specs.Text.{quoted, decimal64, idText, text, written}
 use Rattle.schemes.specs.Lists.{Id}
 use Rattle.tallying.specs.declared.Tally.{Tally}
 use Rattle.tallying.specs.Files.{Totals}
@@ -66,3 +70,9 @@ tallyText t unopened =
 
 unfoldable pub shownText : Tally → ℕ → List (List ℕ)
 shownText t unopened = cond (leb (t .table .count) 64) (tallyText (totalsIn t) unopened) []
+
+-- a record's arrays have 8 and 32 numbers
+abbrev pub TextWhole : Type 0
+TextWhole =
+    (t : Tally) (unopened : ℕ) (d : List ℕ) → length (t .types) ≡ 8 → length (t .answers) ≡ 32 → 8192 ≤ length d
+    → written (shownText t unopened) (text d 0) ≡ text (put d 0 (joined (shownText t unopened))) (length (joined (shownText t unopened)))
