@@ -3,6 +3,7 @@
 -- Glossary
 --   headerIn m       the header length of the message m, by its own type
 --   vectorsIn m      all vectors of m, the header's in order, then the nested ones; none where m ends before its header does
+--   noVector         an empty vector; vectorIn m k: vector k of m, by their order, and noVector beyond them
 --   inHeader m p     the place p lies in the header of m; inPad m p: in a pad of it; liesInPad: in one of pads
 --   liesIn v p       p lies in the vector v; in an empty one nothing does
 --   liesInOne vs p   p lies in one of vs
@@ -19,7 +20,7 @@ use Prim.Native.Nat.{ℕ, zero, suc, _+_, _≤_}
 use mathlib.Core.Path.{_≡_}
 use mathlib.Core.Bool.{Bool, true, false, cond, not, _&&_, _||_}
 use mathlib.Core.List.{List, [], _∷_, List·Memᴰ}
-use lib.ListN.{length}
+use lib.ListN.{length, getD}
 use lib.Dec.{leb, ltb}
 use Rattle.vector.specs.declared.Vector.{Vector}
 use Rattle.vector.specs.Vector.{extent}
@@ -31,6 +32,12 @@ headerIn m = headerOf (shapeOf (headOf m .kind))
 
 unfoldable pub vectorsIn : List ℕ → List Vector
 vectorsIn m = cond (leb (headerIn m) (length m)) (vectorsOf (contentIn m)) []
+
+abbrev pub noVector : Vector
+noVector = record { size = 1; offset = record { 0 = 0 }; count = 0 }
+
+abbrev pub vectorIn : List ℕ → ℕ → Vector
+vectorIn m k = getD (vectorsIn m) k noVector
 
 abbrev pub inHeader : List ℕ → ℕ → Bool
 inHeader m p = ltb p (headerIn m)

@@ -13,6 +13,8 @@ use message::field::vector_at;
 use octets::le_u32;
 use vector::Vector;
 
+pub mod vectors;
+
 // How many octets of a message lie in its header, in a vector, and in neither.
 pub struct Octets {
     pub headers: u32,

@@ -51,6 +51,15 @@ fn show_progress(names: u64) {
     }
 }
 
+// The end of the line with the dots.
+fn end_progress(names: u64) {
+    if 50 <= names {
+        if libc::isatty(STDERR_FILENO) == 1 {
+            io::write_all(STDERR_FILENO, b"\n");
+        }
+    }
+}
+
 // A name more.
 fn next_name(w: Week, name: &[u8]) -> Week {
     let mut tally = w.tally;
@@ -148,6 +157,7 @@ fn main() {
     if 0 < week.held {
         week = held_name(week, &name);
     }
+    end_progress(week.names);
     let mut unopened: u64 = 0;
     if MOST < week.names {
         unopened = week.names - MOST;
