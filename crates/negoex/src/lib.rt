@@ -16,6 +16,8 @@ pub use message::Read;
 pub use message::read_message;
 
 // What a message shows: its vectors as parts of the caller's octets, and its signed numbers.
+pub use coverage::vectors::vector_count;
+pub use coverage::vectors::vector_of;
 pub use parts::alert_value;
 pub use parts::alerts;
 pub use parts::checksum;
@@ -29,8 +31,6 @@ pub use parts::scheme;
 pub use parts::schemes;
 pub use vector::MessageOffset;
 pub use vector::Vector;
-pub use vectors::vector_count;
-pub use vectors::vector_number;
 
 // The listing of a token, window by window.
 pub use listing::window;

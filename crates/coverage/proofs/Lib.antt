@@ -1,0 +1,4 @@
+pub mod Sweeps
+pub mod Sums
+pub mod Marks
+pub mod Numbered

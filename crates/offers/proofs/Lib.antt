@@ -1,0 +1,4 @@
+pub mod Stable
+pub mod Entering
+pub mod Views
+pub mod Mosts

@@ -1,0 +1,143 @@
+// The text of a tally, in a lent slice.
+ghost use mathlib.Core.Path.{_≡_};
+ghost use Prim.Native.Nat.{_≤_, _*_};
+ghost use lib.ListN.{length, take};
+ghost use Rattle.message.specs.Show.{idsAt};
+ghost use Rattle.text.specs.Text.{text, written};
+ghost use Rattle.tallying.specs.Tally.{totalsIn};
+ghost use Rattle.tally_lines.specs.Lines.{totalLine, numberLine, typeLines, refusedLine, refusedLines, schemeLine, schemeLines, octetLines, lastLines, shownText};
+use offers::Table;
+use tallying::Tally;
+use text::append;
+use text::id;
+use text::wide_field;
+
+// A word and a number.
+fn total_line(d: &mut [u8], at: usize, word: &[u8], n: u64) -> usize
+    ensures { λ r. ⌜ text (now (d .exit)) r ≡ written (totalLine (now (word .entry)) n) (text (now (d .entry)) at) ⌝ }
+{
+    let a = wide_field(d, at, word, n as usize);
+    append(d, a, b"\n")
+}
+
+// A word, the number that is counted, and its count.
+fn number_line(d: &mut [u8], at: usize, word: &[u8], k: usize, n: u64) -> usize
+    ensures { λ r. ⌜ text (now (d .exit)) r ≡ written (numberLine (now (word .entry)) k n) (text (now (d .entry)) at) ⌝ }
+{
+    let a = wide_field(d, at, word, k);
+    let b = wide_field(d, a, b" count=", n as usize);
+    append(d, b, b"\n")
+}
+
+// The counts of the types.
+fn type_lines(d: &mut [u8], at: usize, types: &[u64]) -> usize
+    ensures { λ r. ⌜ text (now (d .exit)) r ≡ written (typeLines 0 (now (types .entry))) (text (now (d .entry)) at) ⌝ }
+{
+    let mut next = at;
+    let mut k: usize = 0;
+    while k < types.len() {
+        next = number_line(d, next, b"type ", k, types[k]);
+        k += 1;
+    }
+    next
+}
+
+// The count of a refusal; nothing for 0, which is accepted, and nothing where it was not given.
+fn refused_line(d: &mut [u8], at: usize, k: usize, n: u64) -> usize
+    ensures { λ r. ⌜ text (now (d .exit)) r ≡ written (refusedLine k n) (text (now (d .entry)) at) ⌝ }
+{
+    if k == 0 {
+        return at;
+    }
+    if n == 0 {
+        return at;
+    }
+    number_line(d, at, b"refused ", k, n)
+}
+
+// The counts of the refusals.
+fn refused_lines(d: &mut [u8], at: usize, answers: &[u64]) -> usize
+    ensures { λ r. ⌜ text (now (d .exit)) r ≡ written (refusedLines 0 (now (answers .entry))) (text (now (d .entry)) at) ⌝ }
+{
+    let mut next = at;
+    let mut k: usize = 0;
+    while k < answers.len() {
+        next = refused_line(d, next, k, answers[k]);
+        k += 1;
+    }
+    next
+}
+
+// A scheme and its count.
+fn scheme_line(d: &mut [u8], at: usize, scheme: &[u8], n: u64) -> usize
+    ensures { λ r. ⌜ text (now (d .exit)) r ≡ written (schemeLine (now (scheme .entry)) n) (text (now (d .entry)) at) ⌝ }
+{
+    let a = append(d, at, b"scheme ");
+    let b = id(d, a, scheme);
+    let e = wide_field(d, b, b" count=", n as usize);
+    append(d, e, b"\n")
+}
+
+// The counts of the first n schemes.
+fn scheme_lines(d: &mut [u8], at: usize, ids: &[u8], counts: &[u64], n: usize) -> usize
+    requires { ⌜ (n * 16 ≤ length (now ids)) × (n ≤ length (now counts)) ⌝ }
+    ensures { λ r. ⌜ text (now (d .exit)) r ≡ written (schemeLines (idsAt n (now (ids .entry))) (take n (now (counts .entry)))) (text (now (d .entry)) at) ⌝ }
+{
+    let mut next = at;
+    let mut k: usize = 0;
+    let mut left = n;
+    while 0 < left {
+        let from = k * 16;
+        let end = from + 16;
+        next = scheme_line(d, next, &ids[from..end], counts[k]);
+        k += 1;
+        left -= 1;
+    }
+    next
+}
+
+// The counts of the schemes of a table.
+fn table_lines(d: &mut [u8], at: usize, table: Table) -> usize
+    requires { ⌜ table .count ≤ 64 ⌝ }
+    ensures { λ r. ⌜ text (now (d .exit)) r ≡ written (schemeLines (idsAt (table .count) (table .ids)) (take (table .count) (table .counts))) (text (now (d .entry)) at) ⌝ }
+{
+    let ids = table.ids;
+    let counts = table.counts;
+    let n = table.count as usize;
+    scheme_lines(d, at, &ids, &counts, n)
+}
+
+// The totals of octets.
+fn octet_lines(d: &mut [u8], at: usize, t: Tally) -> usize
+    ensures { λ r. ⌜ text (now (d .exit)) r ≡ written (octetLines (totalsIn t)) (text (now (d .entry)) at) ⌝ }
+{
+    let a = total_line(d, at, b"headers=", t.headers);
+    let b = total_line(d, a, b"vectors=", t.vectors);
+    total_line(d, b, b"bare=", t.bare)
+}
+
+// The count of the messages that list other schemes, and that of the names which aren't opened.
+fn last_lines(d: &mut [u8], at: usize, t: Tally, unopened: u64) -> usize
+    ensures { λ r. ⌜ text (now (d .exit)) r ≡ written (lastLines (totalsIn t) unopened) (text (now (d .entry)) at) ⌝ }
+{
+    let table = t.table;
+    let a = total_line(d, at, b"others count=", table.others);
+    total_line(d, a, b"unopened count=", unopened)
+}
+
+// The text of a tally from the front of the slice on; nothing of one with more than 64 schemes.
+pub fn tally_text(d: &mut [u8], t: Tally, unopened: u64) -> usize
+    ensures { λ r. ⌜ text (now (d .exit)) r ≡ written (shownText t unopened) (text (now (d .entry)) 0) ⌝ }
+{
+    let types = t.types;
+    let answers = t.answers;
+    let table = t.table;
+    if 64 < table.count {
+        return 0;
+    }
+    let a = type_lines(d, 0, &types);
+    let b = octet_lines(d, a, t);
+    let e = refused_lines(d, b, &answers);
+    let f = table_lines(d, e, table);
+    last_lines(d, f, t, unopened)
+}
