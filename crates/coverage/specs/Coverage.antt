@@ -15,7 +15,7 @@
 --   headerOctets m   how many octets of m lie in its header; vectorOctets: in a vector, each once; bareOctets: in neither
 --   octetsIn m       the three, as the code answers them
 --   AllBehind m      every nonempty vector of m starts behind its header
---   OctetsSum        in a message that has its header and whose vectors start behind it, each octet is counted in one of the three
+--   OctetsSum        in a message whose vectors start behind its header each octet is counted in one of the three
 use Prim.Native.Nat.{ℕ, zero, suc, _+_, _≤_}
 use mathlib.Core.Path.{_≡_}
 use mathlib.Core.Bool.{Bool, true, false, cond, not, _&&_, _||_}
