@@ -8,13 +8,21 @@ use mathlib.Core.Option.{Option, none, some}
 use native.Mathlib.Omega.{arith}
 use lib.ListN.{length, length-append}
 use Rattle.put.specs.Put.{Written, put, joined}
-use Rattle.put.proofs.Laws.{Wrote, wrote, wrote-room, step, done}
+use Rattle.put.proofs.Laws.{Wrote, wrote, wrote-after, wrote-holds, length-put, step, done}
 use Rattle.der.specs.Element.{element}
 use Rattle.der.specs.Grammar.{fieldOctets}
 use Rattle.der_put.specs.Size.{head, headSize, elementSize, given, fieldSize}
 use Rattle.der_put.proofs.Heads.{length-element, length-field, size-bounds, size-one}
 use Rattle.envelope.specs.Envelope.{Envelope, Init, Resp, spnego, identifiers, tailOctets, sequence, encoded}
 use Rattle.envelope_write.specs.Given.{sumOf, splitBy, initGiven, respGiven, identifiersSize, tailSize, initSize, respSize, IdentifiersRoom, ListRoom, TailRoom, InitRoom, RespRoom}
+
+-- what is left of the room behind parts that were put
+wrote-room : {d d2 : List ℕ} {vs : List (List ℕ)} {at a2 : ℕ} (n m : ℕ) → Wrote d at vs d2 a2 → length (joined vs) ≡ n → at + (n + m) ≤ length d → a2 + m ≤ length d2
+wrote-room {d} {d2} {vs} {at} n m w e h =
+    let a = wrote-after w in
+    let k : at + length (joined vs) ≤ length d = omega arith in
+    let l : length d2 ≡ length d = ap length (wrote-holds w k) ∙ length-put d at (joined vs) k in
+    omega arith
 
 -- The list of mechanisms.
 sum-small : (ns : List ℕ) → sumOf ns ≤ identifiersSize ns
