@@ -2,7 +2,7 @@
 -- Assumes nothing.
 use Prim.Native.Nat.{ℕ, _+_, _-_, _<_, _≤_}
 use mathlib.Core.Path.{_≡_, refl, sym, ap, _∙_}
-use mathlib.Core.Bool.{true, false}
+use mathlib.Core.Bool.{true, false, cond}
 use mathlib.Core.Logic.{_⊎_, inl, inr}
 use mathlib.Core.List.{List, [], _∷_}
 use native.Mathlib.Omega.{arith}
@@ -117,8 +117,20 @@ pub ruleset refusals = (cut-here, cut-not, halted-here, halted-not)
 
 pub ruleset judgings = (start-named, start-judged, ends-within, scheme-there, left-less, left-count, left-place, judge-stopped, judge-named, judge-on, judge-end, judge-cut)
 
+-- the conversation where it stands
+module _ (token : ℕ) (t own : List ℕ) where
+  pub expected-first : token ≡ 0 → octets 16 t 24 ≡ cond (eqb token 0) (octets 16 t 24) own
+  expected-first e = rw (eq-eqb _ _ e)
+
+  pub expected-own : (token ≡ 0 → ⊥) → own ≡ cond (eqb token 0) (octets 16 t 24) own
+  expected-own e = rw (ne-eqb _ _ e)
+
 -- the whole token
 module _ (r : Record) (t : List ℕ) where
+  pub expected-is : (token : ℕ) → token ≡ reads r → (v : List ℕ) → v ≡ cond (eqb token 0) (octets 16 t 24) (r .conversation) → v ≡ conversationOf r t
+  unfolding conversationOf
+  expected-is token token-is v v-is = v-is ∙ ap (λ (k : ℕ). cond (eqb k 0) (octets 16 t 24) (r .conversation)) token-is
+
   pub conversation-first : (token : ℕ) → token ≡ reads r → token ≡ 0 → (x : List ℕ) → x ≡ octets 16 t 24 → x ≡ conversationOf r t
   unfolding conversationOf
   conversation-first token token-is e x x-is = rw (eq-eqb (reads r) 0 (sym token-is ∙ e)) x-is
@@ -145,4 +157,4 @@ module _ (r : Record) (t : List ℕ) where
       let some : length t ≡ 0 → ⊥ = λ z. omega arith in
       rw (ne-eqb _ _ some, ← v-is) x-is
 
-pub ruleset tokens = (conversation-first, conversation-own, judged-short, judged-whole)
+pub ruleset tokens = (expected-first, expected-own, expected-is, conversation-first, conversation-own, judged-short, judged-whole)

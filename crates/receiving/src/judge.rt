@@ -1,7 +1,10 @@
 // A peer's token, judged message by message.
 ghost use mathlib.Core.Path.{_≡_};
+ghost use mathlib.Core.Bool.{cond};
 ghost use Prim.Native.Nat.{_≤_};
 ghost use lib.ListN.{length};
+ghost use lib.Dec.{eqb};
+ghost use Rattle.octets.specs.Octets.{octets};
 ghost use Rattle.message.specs.Check.{said};
 ghost use Rattle.token.specs.Token.{chainOf};
 ghost use Rattle.conversation.specs.Reading.{startOf, conversationOf, judge, judged};
@@ -96,6 +99,17 @@ pub(crate) fn conversation_of(r: Record, t: &[u8]) -> [u8; 16]
     r.conversation
 }
 
+// The same where it stands: a part of the token, or the record's own.
+fn expected<'a>(token: u8, t: &'a [u8], own: &'a [u8]) -> &'a [u8]
+    requires { ⌜ 40 ≤ length (now t) ⌝ }
+    ensures { λ a. ⌜ now a ≡ cond (eqb token 0) (octets 16 (now (t .entry)) 24) (now (own .entry)) ⌝ }
+{
+    if token == 0 {
+        return &t[field::CONVERSATION..field::COMMON_HEADER];
+    }
+    own
+}
+
 // 2 to 15, message by message.
 pub(crate) fn judge_token(r: Record, t: &[u8]) -> Judgement
     requires { ⌜ Inside r × (length (now t) ≤ 65535) ⌝ }
@@ -105,8 +119,5 @@ pub(crate) fn judge_token(r: Record, t: &[u8]) -> Judgement
         return Judgement::Halted(2, TokenPlace(0));
     }
     let token = reading_token(r.acceptor, r.stage);
-    if token == 0 {
-        return judge_messages(r, t, &t[field::CONVERSATION..field::COMMON_HEADER]);
-    }
-    judge_messages(r, t, &r.conversation)
+    judge_messages(r, t, expected(token, t, &r.conversation))
 }
