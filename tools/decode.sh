@@ -1,8 +1,10 @@
 #!/bin/sh
 # The octets of the token in a file, whatever the file's form.
-#   decode.sh FORM FILE TOKEN   FORM is auto, raw, hex, dump or base64; what is decoded goes to TOKEN
+#   decode.sh FORM FILE TOKEN               FORM is auto, raw, hex, dump or base64; what is decoded goes to TOKEN
+#   decode.sh envelope FILE TOKEN UNWRAP    the token in the SPNEGO envelope in FILE, as the program UNWRAP shows it, goes to TOKEN
 # Prints a line for each thing that it decodes. Ends with 1, and a line that says why, where FILE is not of the form asked for. With auto, a file that begins with
-# the signature is a token, and one whose form is not known, or that has 2 MiB or more, is left as it is: the reader refuses it.
+# the signature is a token, and one whose form is not known, or that has 2 MiB or more, is left as it is: the reader refuses it. Ends with 4 where what was decoded
+# begins as an envelope does.
 set -u
 LC_ALL=C
 export LC_ALL
@@ -105,10 +107,9 @@ base64_text() {
     echo "$what: $(size "$token") octets"
 }
 
-# A token inside SPNEGO: the OCTET STRING that begins with the signature.
-spnego() {
-    case $(octets -N1 "$token") in 60 | a0 | a1) ;; *) return ;; esac
-    found=$(head -c 262144 "$token" | od -An -v -tu1 | awk '
+# Where an OCTET STRING that begins with the signature stands in the file, and its length: for an envelope that is refused, as one that was cut off.
+search() {
+    head -c 262144 "$file" | od -An -v -tu1 | awk '
         { for (i = 1; i <= NF; i++) o[n++] = $i }
         # the length that stands before the place p, of an OCTET STRING
         function before(p) {
@@ -124,14 +125,25 @@ spnego() {
                 for (k = 1; k <= 8 && o[p + k - 1] == mark[k]; k++);
                 if (k > 8 && before(p)) { print p, before(p); exit }
             }
-        }')
+        }'
+}
+
+# The token in an envelope: where the proved reader says that it stands, or else where it may stand.
+envelope() {
+    printf '%s\n' "$file" | "$1" >"$token.shown"
+    found=$(sed -n 's/^token at=\([0-9]*\) length=\([0-9]*\)$/\1 \2/p' "$token.shown")
+    read -r word number place <"$token.shown"
+    if [ "$word" = refused ]; then
+        echo "as an SPNEGO envelope it is refused with $number: './negoex unwrap' and README.md say more"
+        found=$(search)
+    fi
     if [ -z "$found" ]; then
+        cp "$file" "$token"
         echo 'it begins as SPNEGO does, and no NEGOEX token stands in it'
         return
     fi
-    at=${found% *} length=${found#* } all=$(size "$token")
-    tail -c "+$((at + 1))" "$token" | head -c "$length" >"$token.part"
-    mv "$token.part" "$token"
+    at=${found% *} length=${found#* } all=$(size "$file")
+    tail -c "+$((at + 1))" "$file" | head -c "$length" >"$token"
     echo "SPNEGO, $all octets: its token stands from octet $at on, $length octets"
     [ $((at + length)) -le "$all" ] || echo "of the token's $length octets only $((all - at)) are there"
 }
@@ -141,6 +153,7 @@ any_text() { dump || hex || base64_text; }
 
 large=$([ "$(size "$file")" -lt 2097152 ] || echo large)
 case $form$large in
+    envelope*) envelope "$4"; exit ;;
     auto*)
         cp "$file" "$token" || exit 1
         case $(octets -N8 "$file") in
@@ -160,4 +173,4 @@ case $form$large in
     base64) base64_text || { echo 'this is no base64, and no Negotiate line'; exit 1; } ;;
     *) exit 2 ;;
 esac
-spnego
+case $(octets -N1 "$token") in 60 | a0 | a1) exit 4 ;; esac

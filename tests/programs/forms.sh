@@ -116,12 +116,13 @@ for name in listing-180 windows-hint.negoex nego-no-schemes; do
     { printf '\006\006\053\006\001\005\005\002'; element 060 <"$work/response" | element 240; } | element 140 >"$work/spnego"
     all=$(($(wc -c <"$work/spnego")))
     base64 "$work/spnego" >"$work/in"
-    lists "$name: SPNEGO in base64" "base64: $all octets
+    lists "$name: SPNEGO that no reader takes, in base64" "base64: $all octets
+negoex: as an SPNEGO envelope it is refused with 20: './negoex unwrap' and README.md say more
 negoex: SPNEGO, $all octets: its token stands from octet $((all - size)) on, $size octets"
 done
 head -c 100 "$work/spnego" >"$work/in"
 expect 'SPNEGO cut short' "$(./negoex list "$work/in" 2>"$work/errors")" 'refused 6 at=0'
-expect 'SPNEGO cut short: line' "$(sed -n 2p "$work/errors")" "negoex: of the token's $size octets only $((size - all + 100)) are there"
+expect 'SPNEGO cut short: line' "$(sed -n 3p "$work/errors")" "negoex: of the token's $size octets only $((size - all + 100)) are there"
 printf '\241\007\060\005\240\003\012\001\000' >"$work/in"
 expect 'SPNEGO without a token' "$(./negoex list "$work/in" 2>"$work/errors")" 'refused 2 at=0'
 expect 'SPNEGO without a token: line' "$(head -n 1 "$work/errors")" 'negoex: it begins as SPNEGO does, and no NEGOEX token stands in it'
