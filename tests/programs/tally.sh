@@ -62,18 +62,34 @@ expect 'files too long, full of zeros and empty' "$(printf '%s\n' "$work/65536" 
 refused 2 count=1
 refused 3 count=1' 0 0)"
 
-# Captures of an independent implementation, behind the first two tokens of a conversation.
-expect 'captures' "$(ls "$captures"/mit-*.negoex | grep -v -e '-00-i' -e '-01-a' | "$tally")" 'type 0 count=0
-type 1 count=0
-type 2 count=0
-type 3 count=0
-type 4 count=21
-type 5 count=27
-type 6 count=41
+# Every token that an independent implementation sent in the captures.
+expect 'captures' "$(LC_ALL=C ls "$captures"/mit-*.negoex | "$tally")" 'type 0 count=28
+type 1 count=26
+type 2 count=34
+type 3 count=30
+type 4 count=27
+type 5 count=38
+type 6 count=46
 type 7 count=1
-headers=6424
-vectors=1142
+headers=17192
+vectors=69217
 bare=0
+scheme 00112233-4455-6677-8899-AABBCCDDEEFF count=47
+scheme 0D53335C-F9EA-4D0D-B2EC-4AE3786EC308 count=31
+scheme 0CD065B1-2E17-4593-8F60-12FE01807FC1 count=17
+scheme FFFFFFFF-FFFF-FFFF-FFFF-FFFFFFFFFFFF count=4
+scheme 00000000-0000-0000-0000-000000000000 count=4
+scheme DDD2C7BC-F3E8-09FE-141F-2A35404B5661 count=2
+scheme 02F7ECE1-180D-2E23-3944-4F5A65707B86 count=2
+scheme 271C1106-3D32-5348-5E69-747F8A95A0AB count=2
+scheme 4C41362B-6257-786D-838E-99A4AFBAC5D0 count=2
+scheme 71665B50-877C-9D92-A8B3-BEC9D4DFEAF5 count=2
+scheme 968B8075-ACA1-C2B7-CDD8-E3EEF9040F1A count=2
+scheme BBB0A59A-D1C6-E7DC-F2FD-08131E29343F count=2
+scheme E0D5CABF-F6EB-0C01-1722-2D38434E5964 count=2
+scheme 05FAEFE4-1B10-3126-3C47-525D68737E89 count=2
+scheme 2A1F1409-4035-564B-616C-77828D98A3AE count=2
+scheme 4F44392E-655A-7B70-8691-9CA7B2BDC8D3 count=2
 others count=0
 unopened count=0'
 
