@@ -9,7 +9,7 @@ pub use token::place_at;
 pub use token::read_token;
 pub use vector::TokenPlace;
 
-// One message by itself: checks 2 to 6 and 9 to 13.
+// One message by itself: checks 2 to 6 and 10 to 13.
 pub use message::Header;
 pub use message::Kind;
 pub use message::Read;
