@@ -9,6 +9,7 @@ ghost use Rattle.conversation.specs.Writing.{opening};
 use calls::answer;
 use conversation::Answer;
 use conversation::Record;
+use message::field;
 use put::put_octets;
 use schemes::list::list_ok;
 use vector::TokenPlace;
@@ -36,7 +37,7 @@ fn fresh_record(acceptor: bool, own: &[u8], conversation: [u8; 16]) -> Record
         stage: Record::OPENING,
         position: 0,
         list,
-        count: own.len() / 16,
+        count: own.len() / field::ID,
         conversation,
         marks: 0,
         common: 0,

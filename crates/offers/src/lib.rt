@@ -8,6 +8,7 @@ ghost use Rattle.offers.specs.Table.{enteredIn, enteredAllIn, tickedFrom
 ghost use Rattle.offers.specs.Offers.{allIn};
 ghost use Rattle.coverage.specs.Coverage.{one};
 ghost use Rattle.schemes.specs.Lists.{mem};
+use message::field;
 use put::put_octets;
 use schemes::list::has_id;
 
@@ -34,7 +35,7 @@ fn enter(t: Table, id: &[u8]) -> Table
     }
     let mut counts = t.counts;
     counts[n] = 0;
-    put_octets(&mut ids, 16 * n, id);
+    put_octets(&mut ids, field::ID * n, id);
     Table {
         ids,
         counts,
@@ -50,9 +51,9 @@ fn enter_all(t: Table, list: &[u8]) -> Table
 {
     let mut entered = t;
     let mut at: usize = 0;
-    let mut left = list.len() / 16;
+    let mut left = list.len() / field::ID;
     while 0 < left {
-        let end = at + 16;
+        let end = at + field::ID;
         entered = enter(entered, &list[at..end]);
         at = end;
         left -= 1;
@@ -64,7 +65,7 @@ fn enter_all(t: Table, list: &[u8]) -> Table
 fn one_listed(list: &[u8], id: &[u8]) -> u64
     ensures { λ r. ⌜ r ≡ one (mem (now (id .entry)) (idsOf (now (list .entry)))) ⌝ }
 {
-    if has_id(list, list.len() / 16, id) {
+    if has_id(list, list.len() / field::ID, id) {
         1
     } else {
         0
@@ -80,8 +81,8 @@ fn tick(ids: &[u8], n: usize, counts: [u64; 64], list: &[u8]) -> [u64; 64]
     let mut k: usize = 0;
     let mut left = n;
     while 0 < left {
-        let at = k * 16;
-        let end = at + 16;
+        let at = k * field::ID;
+        let end = at + field::ID;
         ticked[k] += one_listed(list, &ids[at..end]);
         k += 1;
         left -= 1;
@@ -95,9 +96,9 @@ fn one_beyond(ids: &[u8], n: usize, list: &[u8]) -> u64
     ensures { λ r. ⌜ r ≡ one (not (allIn (idsOf (now (list .entry))) (idsAt n (now (ids .entry))))) ⌝ }
 {
     let mut at: usize = 0;
-    let mut left = list.len() / 16;
+    let mut left = list.len() / field::ID;
     while 0 < left {
-        let end = at + 16;
+        let end = at + field::ID;
         if has_id(ids, n, &list[at..end]) {} else {
             return 1;
         }

@@ -5,6 +5,9 @@ pub mod offer;
 pub mod reply;
 pub mod set;
 
+// How many schemes an own list has at the most: a set has a bit for each.
+pub const MOST: usize = 16;
+
 // The own places of the reply's schemes, in the reply's order, with zeros behind them.
 pub struct Kept {
     pub places: [u8; 16],

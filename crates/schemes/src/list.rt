@@ -5,6 +5,8 @@ ghost use lib.ListN.{length};
 ghost use Rattle.octets.specs.Octets.{octets};
 ghost use Rattle.message.specs.Show.{idsAt};
 ghost use Rattle.schemes.specs.Lists.{mem, place, distinct, listOk};
+use super::MOST;
+use message::field;
 use octets::same_id;
 
 // The place of the first of the n ids of a list that is `id`, or n where none is.
@@ -14,8 +16,8 @@ pub fn find(list: &[u8], n: usize, id: &[u8]) -> usize
 {
     let mut k: usize = 0;
     while k < n {
-        let at = k * 16;
-        let end = at + 16;
+        let at = k * field::ID;
+        let end = at + field::ID;
         if same_id(id, &list[at..end]) {
             return k;
         }
@@ -39,8 +41,8 @@ pub fn distinct_ids(list: &[u8], n: usize) -> bool
 {
     let mut k: usize = 0;
     while k < n {
-        let at = k * 16;
-        let end = at + 16;
+        let at = k * field::ID;
+        let end = at + field::ID;
         let left = n - (k + 1);
         if has_id(&list[end..], left, &list[at..end]) {
             return false;
@@ -54,14 +56,14 @@ pub fn distinct_ids(list: &[u8], n: usize) -> bool
 pub fn list_ok(own: &[u8]) -> bool
     ensures { λ r. ⌜ r ≡ listOk (now (own .entry)) ⌝ }
 {
-    let n = own.len() / 16;
-    if own.len() % 16 != 0 {
+    let n = own.len() / field::ID;
+    if own.len() % field::ID != 0 {
         return false;
     }
     if n < 1 {
         return false;
     }
-    if 16 < n {
+    if MOST < n {
         return false;
     }
     distinct_ids(own, n)
@@ -74,7 +76,7 @@ pub fn id_at(s: &[u8], at: usize) -> [u8; 16]
 {
     let mut id = [0u8; 16];
     let mut j: usize = 0;
-    while j < 16 {
+    while j < field::ID {
         id[j] = s[at + j];
         j += 1;
     }
@@ -86,5 +88,5 @@ pub fn id_of(list: [u8; 256], k: u32) -> [u8; 16]
     requires { ⌜ k < 16 ⌝ }
     ensures { λ r. ⌜ r ≡ octets 16 list (16 * k) ⌝ }
 {
-    id_at(&list, 16 * k as usize)
+    id_at(&list, field::ID * k as usize)
 }

@@ -8,16 +8,17 @@ ghost use Rattle.schemes.specs.Answers.{schemesOf};
 use super::Schemes;
 use super::list::id_of;
 use super::set::bit_of;
+use message::field;
 
 // Schemes with one more behind them.
 fn with_id(s: Schemes, id: [u8; 16]) -> Schemes
     requires { ⌜ s .count < 16 ⌝ }
     ensures { λ r. ⌜ r ≡ record { octets = paste (s .octets) (16 * s .count) id 16; count = s .count + 1 } ⌝ }
 {
-    let at = 16 * s.count as usize;
+    let at = field::ID * s.count as usize;
     let mut octets = s.octets;
     let mut j: usize = 0;
-    while j < 16 {
+    while j < field::ID {
         octets[at + j] = id[j];
         j += 1;
     }

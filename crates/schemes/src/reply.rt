@@ -10,6 +10,7 @@ ghost use Rattle.schemes.specs.Sets.{has, noted, keptPlaces, keptBelow};
 ghost use Rattle.schemes.specs.Answers.{keptOf, placesIn, Noting};
 use super::Kept;
 use super::list::find;
+use message::field;
 
 // Whether a place is one of those of a slice.
 fn has_place(places: &[u8], p: u8) -> bool
@@ -50,15 +51,15 @@ pub fn kept_places(own: &[u8], n: usize, peer: &[u8]) -> Kept
     requires { ⌜ (n * 16 ≤ length (now own)) × (n ≤ 16) ⌝ }
     ensures { λ r. ⌜ r ≡ keptOf (keptPlaces (idsAt n (now (own .entry))) (idsOf (now (peer .entry)))) ⌝ }
 {
-    let m = peer.len() / 16;
+    let m = peer.len() / field::ID;
     let mut k = Kept {
         places: [0u8; 16],
         count: 0,
     };
     let mut j: usize = 0;
     while j < m {
-        let at = j * 16;
-        let end = at + 16;
+        let at = j * field::ID;
+        let end = at + field::ID;
         let p = find(own, n, &peer[at..end]);
         k = note(k, p, n);
         j += 1;

@@ -16,6 +16,7 @@ use conversation::Answer;
 use conversation::Record;
 use encode_nego::write;
 use message::Kind;
+use message::field;
 use vector::TokenPlace;
 
 // The header of a NEGO.
@@ -47,7 +48,7 @@ fn offer_refusal(r: Record, len: usize) -> u32
     if r.acceptor {
         return 18;
     }
-    if has_room(r.used, HEADER, 16 * r.count, len) {} else {
+    if has_room(r.used, HEADER, field::ID * r.count, len) {} else {
         return 16;
     }
     0
@@ -62,7 +63,7 @@ pub fn write_offer(r: Record, transcript: &mut [u8], random: [u8; 32]) -> Answer
         return answer(n, TokenPlace(0), r);
     }
     let list = r.list;
-    let end = 16 * r.count;
+    let end = field::ID * r.count;
     let next = append_nego(r, transcript, random, &list[..end]);
     answer(0, TokenPlace(0), next)
 }

@@ -18,6 +18,7 @@ use calls::naming;
 use calls::stage_refusal;
 use conversation::Answer;
 use conversation::Record;
+use message::field;
 use schemes::choosing::choose_own;
 use schemes::list::id_of;
 use schemes::offer::gather;
@@ -41,7 +42,7 @@ fn reply_refusal(r: Record, marks: u16, len: usize) -> u32
     if left.left == 0 {
         return 17;
     }
-    if has_room(r.used, HEADER, 16 * left.left as usize, len) {} else {
+    if has_room(r.used, HEADER, field::ID * left.left as usize, len) {} else {
         return 16;
     }
     0
@@ -54,7 +55,7 @@ fn reply_with(r: Record, transcript: &mut [u8], marks: u16, random: [u8; 32]) ->
 {
     let list = r.list;
     let s = gather(list, r.count, r.common & !marks);
-    let end = 16 * s.count as usize;
+    let end = field::ID * s.count as usize;
     let octets = s.octets;
     let mut next = append_nego(r, transcript, random, &octets[..end]);
     next.marks = marks;

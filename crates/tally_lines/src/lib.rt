@@ -6,6 +6,7 @@ ghost use Rattle.message.specs.Show.{idsAt};
 ghost use Rattle.text.specs.Text.{text, written};
 ghost use Rattle.tallying.specs.Tally.{totalsIn};
 ghost use Rattle.tally_lines.specs.Lines.{totalLine, numberLine, typeLines, refusedLine, refusedLines, schemeLine, schemeLines, octetLines, lastLines, shownText};
+use message::field;
 use offers::Table;
 use tallying::Tally;
 use text::append;
@@ -87,8 +88,8 @@ fn scheme_lines(d: &mut [u8], at: usize, ids: &[u8], counts: &[u64], n: usize) -
     let mut k: usize = 0;
     let mut left = n;
     while 0 < left {
-        let from = k * 16;
-        let end = from + 16;
+        let from = k * field::ID;
+        let end = from + field::ID;
         next = scheme_line(d, next, &ids[from..end], counts[k]);
         k += 1;
         left -= 1;
