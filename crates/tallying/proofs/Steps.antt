@@ -186,6 +186,14 @@ module _ (x : Tally) (s rest : List ℕ) (t : Tally) (on : Going-on x s rest t) 
               (omega (arith, length-drop (length (firstOf rest)) rest, on .within, here .fits, own)));
         })
 
+-- ---- `with_file`: a map that has room for the file
+module _ (t : Tally) (s : List ℕ) (k : Start t s (length s)) where
+  pub start-in : (room : ℕ) → length s ≤ room → Start t s room
+  start-in room h = record { bounded = k .bounded; accepted = k .accepted; within = h }
+
+  pub start-long : (room : ℕ) → 65535 ≤ room → Start t s room
+  start-long room h = start-in room (omega (arith, accepted-short s (k .accepted)))
+
 pub ruleset walks = (begin, at-end, walk-fits, walk-less, walk-ready, walk-on)
 
 -- ---- `with_answer`
@@ -224,8 +232,8 @@ module _ (t : Tally) (b : Bool) (b-is : b ≡ inLimits t) where
         accepted : Accepts s
         accepted = answer-accepts s r r-is n here
 
-        pub start-here : (room : ℕ) → 65535 ≤ room → Start t s room
-        start-here room h = record { bounded = inside; accepted = accepted; within = h }
+        pub start-here : Start t s (length s)
+        start-here = record { bounded = inside; accepted = accepted; within = omega arith }
 
         module _ (c : Tally) (c-is : c ≡ withMessages t (allOctets (messagesOf (tokenOf s)))) where
           pub small-counted : Small (c .answers)

@@ -35,4 +35,4 @@ pub record Ready (t : Tally) (m : List ℕ) (room : ℕ) : Type 0 where
 pub record Start (t : Tally) (s : List ℕ) (room : ℕ) : Type 0 where
   pub bounded : Bounded LIMIT t
   pub accepted : Accepts s
-  pub within : 65535 ≤ room
+  pub within : length s ≤ room

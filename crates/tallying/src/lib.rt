@@ -12,6 +12,7 @@ ghost use Rattle.tallying.specs.Counting.{Small, Ready, Start};
 ghost use Rattle.tallying.specs.declared.Counted.{Counted};
 use coverage::count_octets;
 use message::Kind;
+use message::field;
 use message::walk::first;
 use octets::le_u32;
 use offers::Table;
@@ -143,7 +144,7 @@ fn with_message(t: Tally, map: &mut [u32], m: &[u8]) -> Tally
     requires { ⌜ Ready t (now m) (length (now map)) ⌝ }
     ensures { λ r. ⌜ r ≡ withMessage t (now (m .entry)) ⌝ }
 {
-    let kind = le_u32(m, 8);
+    let kind = le_u32(m, field::TYPE);
     let octets = count_octets(map, m);
     let mut types = t.types;
     one_more(&mut types, kind as usize);
@@ -174,6 +175,19 @@ fn with_messages(t: Tally, map: &mut [u32], file: &[u8]) -> Tally
         rest = &rest[length..];
     }
     counted
+}
+
+// The same, with a map as long as the file needs: most captures are short, and a map has to be cleared before its first use.
+fn with_file(t: Tally, file: &[u8]) -> Tally
+    requires { ⌜ Start t (now file) (length (now file)) ⌝ }
+    ensures { λ r. ⌜ r ≡ withMessages t (allOctets (messagesOf (tokenOf (now (file .entry))))) ⌝ }
+{
+    if file.len() <= 2048 {
+        let mut short = [0u32; 2048];
+        return with_messages(t, &mut short, file);
+    }
+    let mut map = [0u32; 65536];
+    with_messages(t, &mut map, file)
 }
 
 // The tally with a file more that was answered with a number.
@@ -224,8 +238,7 @@ pub fn tallied(t: Tally, file: &[u8]) -> Counted
     let r = read_token(file);
     match r {
         Answer::Messages(_) => {
-            let mut map = [0u32; 65536];
-            let counted = with_messages(t, &mut map, file);
+            let counted = with_file(t, file);
             Counted {
                 refusal: 0,
                 tally: with_answer(counted, 0),

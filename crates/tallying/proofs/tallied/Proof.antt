@@ -16,11 +16,8 @@ read-token-requires c κs = search needs
 enum-told : tie.Need-enum-told
 enum-told c = search needs
 
-slice-aggregate-with-messages : tie.Need-slice-aggregate-with-messages
-slice-aggregate-with-messages c = search needs
-
-with-messages-requires : tie.Need-with-messages-requires
-with-messages-requires c κs = search (needs, counteds)
+with-file-requires : tie.Need-with-file-requires
+with-file-requires c κs = search counteds
 
 with-answer-requires : tie.Need-with-answer-requires
 with-answer-requires c κs = search counteds
@@ -45,8 +42,7 @@ tallied-spec =
     returns
     read-token-requires
     enum-told
-    slice-aggregate-with-messages
-    with-messages-requires
+    with-file-requires
     with-answer-requires
     enum-known-r
     with-answer-requires-2
