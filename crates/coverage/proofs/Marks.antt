@@ -140,8 +140,8 @@ module _ (kind : ℕ) (m : List ℕ) where
       room-exchange h = rw (shape-exchange kind not-nego h) at k
 
       module _ (not-exchange : 5 < kind) where
-        pub room-verify : kind ≡ 6 → 76 ≤ length m
-        room-verify h = let l = rw (shape-verify kind not-nego not-exchange h) at k in omega arith
+        pub room-verify : kind ≡ 6 → 80 ≤ length m
+        room-verify h = rw (shape-verify kind not-nego not-exchange h) at k
 
         pub room-alert : (kind ≡ 6 → ⊥) → 72 ≤ length m
         room-alert h = rw (shape-alert kind not-nego not-exchange h) at k

@@ -101,11 +101,11 @@ module _ (m : List ℕ) (k : ℕ) (v : Vector) where
 
 -- ---- how many
 module _ (kind : ℕ) (m : List ℕ) (h : headerOf (shapeOf kind) ≤ length m) where
-  pub room-extensions : kind ≤ 1 → 94 ≤ length m
-  room-extensions g = omega (arith, room-nego kind m h g)
+  pub room-extensions : kind ≤ 1 → 96 ≤ length m
+  room-extensions g = room-nego kind m h g
 
-  pub room-alerts : 1 < kind → 6 < kind → 66 ≤ length m
-  room-alerts g f = omega (arith, room-alert kind m h g (omega arith) (λ q. omega arith))
+  pub room-alerts : 1 < kind → 6 < kind → 72 ≤ length m
+  room-alerts g f = room-alert kind m h g (omega arith) (λ q. omega arith)
 
 module _ (m : List ℕ) (kind : ℕ) where
   abbrev Has : ℕ → Type 0
