@@ -1,0 +1,112 @@
+-- A token: another one of equal length that agrees with it on its covered octets is accepted, and shows the same.
+-- Assumes nothing.
+use Prim.Native.Nat.{ℕ, zero, suc, _+_, _-_, _<_, _≤_}
+use mathlib.Core.Path.{_≡_, refl, sym, ap, subst, _∙_}
+use mathlib.Core.Bool.{Bool, true, false, _&&_, _||_}
+use mathlib.Core.Logic.{_⊎_, inl, inr}
+use mathlib.Core.List.{List, [], _∷_, _++_}
+use native.Mathlib.Omega.{arith}
+use lib.ListN.{length, take, drop, getD, length-append, length-drop, take-append-drop, List·getD-append, List·getD-eq-default}
+use lib.Seq.{getD-take, getD-drop, getD-append-add, length-take-le}
+use lib.Dec.{leb, ltb}
+use borrow.Author.Tests.{le-leb, lt-ltb, ltb-true, ltb-false}
+use Rattle.octets.proofs.Bools.{which}
+use Rattle.vector.specs.Vector.{part}
+use Rattle.message.specs.Layout.{headOf}
+use Rattle.token.specs.Token.{Placed, Reading, Accepted, tokenOf}
+use Rattle.token.specs.Split.{Message, Numbered, join, placedFrom, Split}
+use Rattle.token.specs.Walk.{messagesOf}
+use Rattle.token.proofs.Splits.{accepted-splits, numbered-accepted}
+use Rattle.coverage.specs.Coverage.{isCovered, inHeader, inPad, inVector}
+use Rattle.blanking.specs.Covered.{liesAt, coveredIn, covered, Agree, viewOf, View, viewsOf, NothingPointsAt, SameListing, SameCovered}
+use Rattle.blanking.proofs.Sames.{or-r, room, head-is, content-is, shown-is, message-same}
+
+-- t agrees with the messages ms, the first of which stands at the place p of a token
+abbrev Agreed : ℕ → List (List ℕ) → List ℕ → Type 0
+Agreed p ms t = (i : ℕ) → coveredIn (placedFrom p ms) (p + i) ≡ true → getD t i 0 ≡ getD (join ms) i 0
+
+module _ (p : ℕ) (m : List ℕ) (ms : List (List ℕ)) (t : List ℕ) (sized : length t ≡ length (join (m ∷ ms))) (agree : Agreed p (m ∷ ms) t) where
+  long : length m ≤ length t
+  long = omega (arith, length-append m (join ms))
+
+  first-length : length (take (length m) t) ≡ length m
+  first-length = length-take-le (length m) t long
+
+  -- an octet of the first message is covered in the token where it is in the message
+  here : (i : ℕ) → i < length m → isCovered m i ≡ true → coveredIn (placedFrom p (m ∷ ms)) (p + i) ≡ true
+  unfolding coveredIn
+  here i h e = let z : p + i - p ≡ i = omega arith in simp (le-leb p (p + i) (omega arith), lt-ltb (p + i) (p + length m) (omega arith), z, e)
+
+  agree-first : (i : ℕ) → isCovered m i ≡ true → getD (take (length m) t) i 0 ≡ getD m i 0
+  agree-first i e = go (which (ltb i (length m))) where
+    go : (ltb i (length m) ≡ true) ⊎ (ltb i (length m) ≡ false) → getD (take (length m) t) i 0 ≡ getD m i 0
+    go (inl w) =
+        let u : i < length m = ltb-true _ _ w in
+        getD-take (length m) t i 0 u ∙ agree i (here i u e) ∙ List·getD-append m (join ms) 0 i u
+    go (inr w) =
+        let u : length m ≤ i = ltb-false _ _ w in
+        List·getD-eq-default (take (length m) t) 0 (omega (arith, first-length)) ∙ sym (List·getD-eq-default m 0 u)
+
+  rest-length : length (drop (length m) t) ≡ length (join ms)
+  rest-length = length-drop (length m) t ∙ omega (arith, length-append m (join ms))
+
+  agree-rest : Agreed (p + length m) ms (drop (length m) t)
+  unfolding coveredIn
+  agree-rest i e =
+      let z : p + length m + i ≡ p + (length m + i) = omega arith in
+      getD-drop (length m) t i 0
+      ∙ agree (length m + i) (or-r (liesAt (record { place = p; octets = m }) (p + (length m + i)) && isCovered m (p + (length m + i) - p)) (coveredIn (placedFrom (p + length m) ms) (p + (length m + i))) (ap (coveredIn (placedFrom (p + length m) ms)) (sym z) ∙ e))
+      ∙ getD-append-add m (join ms) i 0
+
+-- the messages of t, which show what those of ms do
+record Alike (p q : ℕ) (v : List ℕ) (ms : List (List ℕ)) (t : List ℕ) : Type 0 where
+  parts : List (List ℕ)
+  joins : join parts ≡ t
+  numbered : Numbered q v parts
+  views : viewsOf (placedFrom p parts) ≡ viewsOf (placedFrom p ms)
+
+view-same : (p q : ℕ) (v m t : List ℕ) → Message q v m → length t ≡ length m → ((i : ℕ) → isCovered m i ≡ true → getD t i 0 ≡ getD m i 0)
+    → viewOf (record { place = p; octets = t }) ≡ viewOf (record { place = p; octets = m })
+view-same p q v m t e sized agree =
+    let r = room q v m t e sized agree in
+    rw (shown-is m t sized agree r, content-is m t sized agree r, head-is m t sized agree r)
+
+alike : (p q : ℕ) (v : List ℕ) (ms : List (List ℕ)) (t : List ℕ) → Numbered q v ms → length t ≡ length (join ms) → Agreed p ms t → Alike p q v ms t
+unfolding viewsOf
+alike p q v [] [] e sized agree = record { parts = []; joins = refl; numbered = tt; views = refl }
+alike p q v [] (x ∷ t) e sized agree = absurd (omega arith)
+alike p q v (m ∷ ms) t e sized agree =
+    let n = first-length p m ms t sized agree in
+    let f = agree-first p m ms t sized agree in
+    let r = alike (p + length m) (q + 1) v ms (drop (length m) t) (e .1) (rest-length p m ms t sized agree) (agree-rest p m ms t sized agree) in
+    record {
+      parts = take (length m) t ∷ r .parts;
+      joins = ap (λ (l : List ℕ). take (length m) t ++ l) (r .joins) ∙ take-append-drop (length m) t;
+      numbered = (message-same q v m (take (length m) t) (e .0) n f, r .numbered);
+      views =
+          ap (λ (w : View). w ∷ viewsOf (placedFrom (p + length (take (length m) t)) (r .parts))) (view-same p q v m (take (length m) t) (e .0) n f)
+          ∙ ap (λ (k : ℕ). viewOf (record { place = p; octets = m }) ∷ viewsOf (placedFrom (p + k) (r .parts))) n
+          ∙ ap (λ (l : List View). viewOf (record { place = p; octets = m }) ∷ l) (r .views);
+    }
+
+pub nothing-points-at : NothingPointsAt
+nothing-points-at s t ps e sized agree =
+    let (ms, (split, places)) = accepted-splits s ps e in
+    let is : length s ≡ length (join ms) = ap length (sym (split .joins)) in
+    let agreed : Agreed 0 ms t = λ i c. agree i (told ms places i c) ∙ ap (λ (l : List ℕ). getD l i 0) (sym (split .joins)) in
+    let r = alike 0 (headOf s .sequence) (headOf s .conversation) ms t (split .numbered) (sized ∙ is) agreed in
+    (
+      placedFrom 0 (r .parts),
+      (
+        go (headOf s .sequence) (headOf s .conversation) (r .parts) (r .joins) (r .numbered) (omega (arith, split .short)) (omega (arith, split .some)),
+        r .views ∙ ap viewsOf places,
+      ),
+    ) where
+      told : (ms : List (List ℕ)) → placedFrom 0 ms ≡ ps → (i : ℕ) → coveredIn (placedFrom 0 ms) (0 + i) ≡ true → covered s i ≡ true
+      told ms places i c =
+          let z : 0 + i ≡ i = omega arith in
+          ap (λ (r : Reading). coveredIn (messagesOf r) i) e ∙ ap (λ (l : List Placed). coveredIn l i) (sym places) ∙ ap (coveredIn (placedFrom 0 ms)) (sym z) ∙ c
+
+      go : (q : ℕ) (v : List ℕ) (ns : List (List ℕ)) → join ns ≡ t → Numbered q v ns → length t ≤ 65535 → 0 < length t → tokenOf t ≡ Accepted (placedFrom 0 ns)
+      go q v [] j c w z = absurd (omega (arith, ap length j))
+      go q v (n ∷ ns) j c w z = ap tokenOf (sym j) ∙ numbered-accepted q v n ns c (omega (arith, ap length j))

@@ -1,0 +1,1 @@
+// A token with each octet that nothing points at zero.
