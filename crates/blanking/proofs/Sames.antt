@@ -117,10 +117,15 @@ module _ (m t : List ℕ) (sized : length t ≡ length m) (agree : (i : ℕ) →
   nego-same is room =
       let a : Same m t 0 86 = λ i p q. in-header nego is room i (omega arith) (nego-low i (omega arith)) in
       let b : Same m t 88 6 = λ i p q. in-header nego is room i (omega arith) (nego-high i p (omega arith)) in
-      simp (id m t sized 0 86 a 32 40 (omega arith) (omega arith), number m t sized 0 86 a 8 72 (omega arith) (omega arith),
-      number m t sized 0 86 a 4 80 (omega arith) (omega arith), number m t sized 0 86 a 2 84 (omega arith) (omega arith),
-      number m t sized 88 6 b 4 88 (omega arith) (omega arith), number m t sized 88 6 b 2 92 (omega arith) (omega arith),
-      own-vector nego is room (extensionVector m) (List·Memᴰ·tail (List·Memᴰ·head refl)))
+      simp (
+        id m t sized 0 86 a 32 40 (omega arith) (omega arith),
+        number m t sized 0 86 a 8 72 (omega arith) (omega arith),
+        number m t sized 0 86 a 4 80 (omega arith) (omega arith),
+        number m t sized 0 86 a 2 84 (omega arith) (omega arith),
+        number m t sized 88 6 b 4 88 (omega arith) (omega arith),
+        number m t sized 88 6 b 2 92 (omega arith) (omega arith),
+        own-vector nego is room (extensionVector m) (List·Memᴰ·tail (List·Memᴰ·head refl)),
+      )
 
   exchange-same : shapeOf (headOf m .kind) ≡ exchange → 64 ≤ length m → contentOf exchange t ≡ contentOf exchange m
   unfolding contentOf liesInPad
@@ -139,9 +144,13 @@ module _ (m t : List ℕ) (sized : length t ≡ length m) (agree : (i : ℕ) →
   unfolding contentOf vectorsOf
   alert-same is room =
       let a : Same m t 0 66 = λ i p q. in-header alert is room i (omega arith) (alert-low i (omega arith)) in
-      simp (id m t sized 0 66 a 16 40 (omega arith) (omega arith), number m t sized 0 66 a 4 56 (omega arith) (omega arith),
-      number m t sized 0 66 a 4 60 (omega arith) (omega arith), number m t sized 0 66 a 2 64 (omega arith) (omega arith),
-      own-vector alert is room (alertVector m) (List·Memᴰ·head refl))
+      simp (
+        id m t sized 0 66 a 16 40 (omega arith) (omega arith),
+        number m t sized 0 66 a 4 56 (omega arith) (omega arith),
+        number m t sized 0 66 a 4 60 (omega arith) (omega arith),
+        number m t sized 0 66 a 2 64 (omega arith) (omega arith),
+        own-vector alert is room (alertVector m) (List·Memᴰ·head refl),
+      )
 
   layout-same : (shape : Shape) → shapeOf (headOf m .kind) ≡ shape → headerOf shape ≤ length m → contentOf shape t ≡ contentOf shape m
   layout-same nego is room = nego-same is room
@@ -172,6 +181,12 @@ module _ (m t : List ℕ) (sized : length t ≡ length m) (agree : (i : ℕ) →
     pub vectors-are : vectorsIn t ≡ vectorsIn m
     unfolding vectorsIn
     vectors-are = simp (header-is, sized, content-is)
+
+    pub covered-is : (i : ℕ) → isCovered t i ≡ isCovered m i
+    covered-is i = rw (vectors-are, head-is)
+
+    pub part-is : (v : Vector) → List·Memᴰ v (vectorsOf (contentIn m)) → part t v ≡ part m v
+    part-is v j = own-vector (shapeOf (headOf m .kind)) refl room v j
 
     pub shown-is : allShown (headerIn t) t (vectorsIn t) ≡ allShown (headerIn m) m (vectorsIn m)
     shown-is =
