@@ -35,7 +35,7 @@ fn least(a: u64, b: u64) -> u64
 }
 
 // The greater of two numbers.
-fn greatest(a: u32, b: u32) -> u32
+pub fn greatest(a: u32, b: u32) -> u32
     ensures { λ r. ⌜ r ≡ max a b ⌝ }
 {
     if a < b { b } else { a }
@@ -108,7 +108,7 @@ fn mark_alert(map: &mut [u32], m: &[u8])
 }
 
 // Marks the vectors of a message of a kind.
-fn mark_kind(map: &mut [u32], kind: Kind, m: &[u8])
+pub fn mark_kind(map: &mut [u32], kind: Kind, m: &[u8])
     requires { ⌜ (length (now map) < 2 ^ 32) × (headerOf (shapeOf (kind .0)) ≤ length (now m)) ⌝ }
     ensures { λ _. ⌜ now (map .exit) ≡ markedAll (now (map .entry)) (vectorsOf (contentOf (shapeOf (kind .0)) (now (m .entry)))) ⌝ }
 {
@@ -146,7 +146,7 @@ fn swept(map: &[u32], start: u32) -> u32
 }
 
 // Empties the map.
-fn clear(map: &mut [u32])
+pub fn clear(map: &mut [u32])
     ensures { λ _. ⌜ Clear (now (map .exit)) ⌝ }
 {
     let mut i: usize = 0;
