@@ -1,2 +1,4 @@
 pub mod Sames
 pub mod Views
+pub mod Keeps
+pub mod Wipes

@@ -1,23 +1,21 @@
 -- One message: another one of equal length that agrees with it on its covered octets says the same.
 -- Assumes nothing.
-use Prim.Native.Nat.{ℕ, _+_, _*_, _<_, _≤_}
+use Prim.Native.Nat.{ℕ, _+_, _<_, _≤_}
 use mathlib.Core.Path.{_≡_, refl, sym, ap, subst, _∙_}
-use mathlib.Core.Bool.{Bool, true, false, cond, not, _&&_, _||_}
-use mathlib.Core.List.{List, [], _∷_, _++_, List·Memᴰ, List·Memᴰ·head, List·Memᴰ·tail}
+use mathlib.Core.Bool.{Bool, true, false, not, _&&_, _||_}
+use mathlib.Core.List.{List, [], _∷_, List·Memᴰ, List·Memᴰ·head, List·Memᴰ·tail}
 use native.Mathlib.Omega.{arith}
-use lib.ListN.{length, take, drop, getD, length-take, length-drop}
+use lib.ListN.{length, drop, getD, length-take, length-drop}
 use lib.Seq.{getD-take, getD-drop, ext-getD, take-all}
-use lib.Dec.{leb, ltb}
 use borrow.Author.Tests.{le-leb, lt-leb, lt-ltb, le-ltb}
 use Rattle.octets.specs.Octets.{le, octets}
-use Rattle.octets.proofs.Bools.{which}
 use Rattle.vector.specs.declared.Vector.{Vector}
-use Rattle.vector.specs.Vector.{extent, keepsRule, part, shown}
-use Rattle.message.specs.Layout.{Shape, nego, exchange, verify, alert, headOf, Head, shapeOf, headerOf, padsOf, octetVector, vectorAt, schemeVector, extensionVector, alertVector, elementsOf, Content, contentOf, contentIn, vectorsOf, size, front}
-use Rattle.message.specs.Check.{allPass, commonRows, contentRows, bodyRows, frontRows}
+use Rattle.vector.specs.Vector.{extent, part, shown}
+use Rattle.message.specs.Layout.{Shape, nego, exchange, verify, alert, headOf, Head, shapeOf, headerOf, padsOf, octetVector, vectorAt, extensionVector, alertVector, contentOf, contentIn, vectorsOf, size, front}
+use Rattle.message.specs.Check.{allPass, contentRows, bodyRows, frontRows}
 use Rattle.message.proofs.Local.{le-same, head-same}
 use Rattle.message.proofs.Shapes.{header-least}
-use Rattle.token.specs.Token.{orderRows, nextRows, passes}
+use Rattle.token.specs.Token.{nextRows}
 use Rattle.token.specs.Split.{Message}
 use Rattle.token.proofs.Cuts.{passes-sized}
 use Rattle.coverage.specs.Coverage.{headerIn, vectorsIn, inHeader, liesInPad, inPad, liesIn, liesInOne, inVector, isCovered}
@@ -194,9 +192,12 @@ module _ (m t : List ℕ) (sized : length t ≡ length m) (agree : (i : ℕ) →
         ∙ all-shown-same m t sized (headerIn m) (vectorsIn m) in-vector
 
 -- ---- a message that passes its checks, and so does the other
+pub message-room : (q : ℕ) (v m : List ℕ) → Message q v m → headerIn m ≤ length m
+message-room q v m e = let z = passes-sized m q v (e .pass) in omega (arith, z, e .exact)
+
 module _ (q : ℕ) (v m t : List ℕ) (e : Message q v m) (sized : length t ≡ length m) (agree : (i : ℕ) → isCovered m i ≡ true → getD t i 0 ≡ getD m i 0) where
-  pub room : headerIn m ≤ length m
-  room = let z = passes-sized m q v (e .pass) in omega (arith, z, e .exact)
+  room : headerIn m ≤ length m
+  room = message-room q v m e
 
   head : headOf t ≡ headOf m
   head = head-is m t sized agree room

@@ -1,7 +1,7 @@
 -- A token: another one of equal length that agrees with it on its covered octets is accepted, and shows the same.
 -- Assumes nothing.
-use Prim.Native.Nat.{ℕ, zero, suc, _+_, _-_, _<_, _≤_}
-use mathlib.Core.Path.{_≡_, refl, sym, ap, subst, _∙_}
+use Prim.Native.Nat.{ℕ, suc, _+_, _-_, _<_, _≤_}
+use mathlib.Core.Path.{_≡_, refl, sym, ap, _∙_}
 use mathlib.Core.Bool.{Bool, true, false, _&&_, _||_}
 use mathlib.Core.Logic.{_⊎_, inl, inr}
 use mathlib.Core.List.{List, [], _∷_, _++_, List·Memᴰ, List·Memᴰ·head}
@@ -16,7 +16,7 @@ use Rattle.vector.specs.Vector.{part}
 use Rattle.message.specs.Layout.{Head, headOf, Content, Nego, Exchange, Verify, Alert, contentIn, vectorsOf}
 use Rattle.message.specs.Show.{idsOf}
 use Rattle.token.specs.Token.{Placed, Reading, Accepted, tokenOf}
-use Rattle.token.specs.Split.{Message, Numbered, join, placedFrom, Split}
+use Rattle.token.specs.Split.{Message, Numbered, join, placedFrom}
 use Rattle.token.specs.Walk.{messagesOf}
 use Rattle.token.proofs.Splits.{accepted-splits, numbered-accepted}
 use Rattle.coverage.specs.Coverage.{headerIn, isCovered}
@@ -24,7 +24,7 @@ use Rattle.lines.specs.Lines.{messageLine, schemeLine, extensionLine, numbered,
 use Rattle.windows.specs.Windows.{texts}
 use Rattle.listing.specs.Listing.{allLines, readingLines, linesOf}
 use Rattle.blanking.specs.Covered.{liesAt, coveredIn, covered, Agree, viewOf, View, viewsOf, NothingPointsAt, SameListing, SameCovered}
-use Rattle.blanking.proofs.Sames.{or-r, room, head-is, content-is, covered-is, part-is, shown-is, message-same}
+use Rattle.blanking.proofs.Sames.{or-r, message-room, head-is, content-is, covered-is, part-is, shown-is, message-same}
 
 -- t agrees with the messages ms, the first of which stands at the place p of a token
 abbrev Agreed : ℕ → List (List ℕ) → List ℕ → Type 0
@@ -74,7 +74,7 @@ content-lines m t (Alert scheme code alerts elements) h = refl
 
 module _ (p q : ℕ) (v m t : List ℕ) (e : Message q v m) (sized : length t ≡ length m) (agree : (i : ℕ) → isCovered m i ≡ true → getD t i 0 ≡ getD m i 0) where
   has-room : headerIn m ≤ length m
-  has-room = room q v m t e sized agree
+  has-room = message-room q v m e
 
   view-same : viewOf (record { place = p; octets = t }) ≡ viewOf (record { place = p; octets = m })
   view-same = rw (shown-is m t sized agree has-room, content-is m t sized agree has-room, head-is m t sized agree has-room)
