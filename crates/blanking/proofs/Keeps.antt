@@ -78,7 +78,7 @@ blankAll [] = []
 blankAll (m ∷ ms) = keptMessage m ++ blankAll ms
 
 -- no message covers what stands before the first
-before-first : (p : ℕ) (ms : List (List ℕ)) (i : ℕ) → i < p → coveredIn (placedFrom p ms) i ≡ false
+pub before-first : (p : ℕ) (ms : List (List ℕ)) (i : ℕ) → i < p → coveredIn (placedFrom p ms) i ≡ false
 unfolding coveredIn
 before-first p [] i h = refl
 before-first p (m ∷ ms) i h = rw (lt-leb p i h, before-first (p + length m) ms i (omega arith))

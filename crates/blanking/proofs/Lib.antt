@@ -2,3 +2,4 @@ pub mod Sames
 pub mod Views
 pub mod Keeps
 pub mod Wipes
+pub mod Seen

@@ -12,7 +12,9 @@
 --   NothingPointsAt   a token of equal length that agrees with an accepted one on the covered octets is accepted, with the same views
 --   SameListing       and with the same listing, line by line
 --   SameCovered       and with the same octets covered
-use Prim.Native.Nat.{ℕ, _+_, _-_}
+--   AllOctets s       each number of s is that of an octet
+--   CoveredSeen       the other way: two tokens that are accepted with the same views agree on the covered octets, so that each of these is seen
+use Prim.Native.Nat.{ℕ, _+_, _-_, _<_}
 use mathlib.Core.Path.{_≡_}
 use mathlib.Core.Bool.{Bool, true, false, _&&_, _||_}
 use mathlib.Core.List.{List, [], _∷_}
@@ -77,3 +79,12 @@ SameListing = (s t : List ℕ) (ps : List Placed) → tokenOf s ≡ Accepted ps 
 
 abbrev pub SameCovered : Type 0
 SameCovered = (s t : List ℕ) (ps : List Placed) → tokenOf s ≡ Accepted ps → length t ≡ length s → Agree s t → (p : ℕ) → covered t p ≡ covered s p
+
+abbrev pub AllOctets : List ℕ → Type 0
+AllOctets s = (p : ℕ) → getD s p 0 < 256
+
+-- coverage is no wider than it must be: where a covered octet is another, the token is refused or shows something else
+abbrev pub CoveredSeen : Type 0
+CoveredSeen =
+    (s t : List ℕ) (ps qs : List Placed) → AllOctets s → AllOctets t → tokenOf s ≡ Accepted ps → tokenOf t ≡ Accepted qs
+    → viewsOf qs ≡ viewsOf ps → Agree s t
