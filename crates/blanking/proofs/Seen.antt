@@ -203,7 +203,7 @@ message-rule q v m e =
     (subst (λ (n : ℕ). allKeepRule (headerIn m) n (vectorsOf (contentIn m)) ≡ true) (e .exact)
     (subst (λ (l : List ℕ). allKeepRule (headerIn m) (size m) (vectorsOf (contentOf (shapeOf (headOf m .kind)) l)) ≡ true) whole r11))
 
-record Alike (m t : List ℕ) : Type 0 where
+record SameView (m t : List ℕ) : Type 0 where
   head : headOf t ≡ headOf m
   content : contentIn t ≡ contentIn m
   vectors : allShown (headerIn t) t (vectorsIn t) ≡ allShown (headerIn m) m (vectorsIn m)
@@ -216,7 +216,7 @@ not-true : (b : Bool) → not b ≡ true → b ≡ false
 not-true true e = no-true e
 not-true false e = refl
 
-module _ (q k : ℕ) (v c m t : List ℕ) (em : Message q v m) (et : Message k c t) (mo : AllOctets m) (to : AllOctets t) (same : Alike m t) where
+module _ (q k : ℕ) (v c m t : List ℕ) (em : Message q v m) (et : Message k c t) (mo : AllOctets m) (to : AllOctets t) (same : SameView m t) where
   same-length : length t ≡ length m
   same-length = sym (et .exact) ∙ ap (λ (h : Head). h .length) (same .head) ∙ em .exact
 
@@ -268,8 +268,8 @@ module _ (p : ℕ) (m t : List ℕ) (ms ns : List (List ℕ)) (sized : length t 
         ap (λ (n : ℕ). getD (t ++ join ns) n 0) a ∙ getD-append-add t (join ns) j 0 ∙ h i c ∙ sym (ap (λ (n : ℕ). getD (m ++ join ms) n 0) b ∙ getD-append-add m (join ms) j 0)
   ]
 
-view-alike : (p : ℕ) (m t : List ℕ) → viewOf (record { place = p; octets = t }) ≡ viewOf (record { place = p; octets = m }) → Alike m t
-view-alike p m t e = record { head = ap (λ (w : View). w .head) e; content = ap (λ (w : View). w .content) e; vectors = ap (λ (w : View). w .vectors) e }
+same-view : (p : ℕ) (m t : List ℕ) → viewOf (record { place = p; octets = t }) ≡ viewOf (record { place = p; octets = m }) → SameView m t
+same-view p m t e = record { head = ap (λ (w : View). w .head) e; content = ap (λ (w : View). w .content) e; vectors = ap (λ (w : View). w .vectors) e }
 
 seen : (p q k : ℕ) (v c : List ℕ) (ms ns : List (List ℕ)) → Numbered q v ms → Numbered k c ns → AllOctets (join ms) → AllOctets (join ns)
     → viewsOf (placedFrom p ns) ≡ viewsOf (placedFrom p ms) → Seen p ms ns
@@ -279,7 +279,7 @@ seen p q k v c (m ∷ ms) [] em en mo to e i h = absurd (omega (arith, ap length
 seen p q k v c (m ∷ ms) (t ∷ ns) em en mo to e i h =
     let first : viewOf (record { place = p; octets = t }) ≡ viewOf (record { place = p; octets = m }) = cc in
     let rest : viewsOf (placedFrom (p + length t) ns) ≡ viewsOf (placedFrom (p + length m) ms) = cc in
-    let same = view-alike p m t first in
+    let same = same-view p m t first in
     let mo1 = first-octets m (join ms) mo in
     let to1 = first-octets t (join ns) to in
     let n = same-length q k v c m t (em .0) (en .0) mo1 to1 same in
