@@ -2,13 +2,12 @@
 -- Assumes nothing.
 use Prim.Native.Nat.{ℕ, zero, suc, _+_, _-_, _*_, _≤_, _<_, _^_, min, max}
 use mathlib.Core.Path.{_≡_, refl, sym, ap, _∙_}
-use mathlib.Core.Bool.{Bool, true, false, cond, not, _||_}
-use mathlib.Core.Logic.{_⊎_, inl, inr}
+use mathlib.Core.Bool.{Bool, true, false}
+use mathlib.Core.Logic.{inl, inr}
 use mathlib.Core.List.{List, [], _∷_}
-use native.Mathlib.Numerals.{add-one, sub-one}
-use native.Mathlib.Nat.{add-sub-cancel-left}
+use native.Mathlib.Numerals.{sub-one}
 use native.Mathlib.Omega.{arith}
-use lib.ListN.{length, getD, set, take, drop, length-set, length-drop, List·getD-eq-default}
+use lib.ListN.{length, getD, set, take, drop, length-drop, List·getD-eq-default}
 use lib.Seq.{getD-set-same, getD-set-other, set-out, take-all, length-take-le}
 use lib.Dec.{leb, ltb, eqb}
 use borrow.Author.Tests.{lt-ltb, le-ltb, lt-leb, le-leb, ltb-true, ltb-false, leb-true, leb-false, eqb-true, eqb-false}
@@ -16,10 +15,10 @@ use Rattle.octets.specs.Octets.{le}
 use Rattle.octets.proofs.Bools.{which}
 use Rattle.vector.specs.declared.Vector.{Vector}
 use Rattle.vector.specs.Vector.{extent, part}
-use Rattle.message.specs.Layout.{Shape, headOf, shapeOf, headerOf, nego, exchange, verify, alert, valuesOf, elementsAt, elementsOf, octetVector, schemeVector, extensionVector, exchangeVector, checksumVector, alertVector, vectorsOf, contentOf, contentIn}
+use Rattle.message.specs.Layout.{Shape, headOf, shapeOf, headerOf, nego, exchange, verify, alert, valuesOf, elementsAt, elementsOf, octetVector, schemeVector, extensionVector, exchangeVector, checksumVector, alertVector, vectorsOf, contentOf}
 use Rattle.message.proofs.Shapes.{shape-nego, shape-exchange, shape-verify, shape-alert, header-least}
 use Rattle.coverage.specs.declared.Octets.{Octets}
-use Rattle.coverage.specs.Coverage.{headerIn, vectorsIn, inHeader, liesInOne, inVector, isBare, one, count, placesOf, headerOctets, vectorOctets, bareOctets, octetsIn}
+use Rattle.coverage.specs.Coverage.{headerIn, vectorsIn, liesInOne, inVector, isBare, one, count, headerOctets, vectorOctets, bareOctets, octetsIn}
 use Rattle.coverage.specs.Sweep.{Clear, marked, markedAll, sweep}
 use Rattle.coverage.proofs.Sweeps.{length-marks, heldBy, sweep-held}
 use Rattle.coverage.proofs.Sums.{count-same, count-not, count-below, count-zero}
@@ -140,8 +139,8 @@ module _ (kind : ℕ) (m : List ℕ) where
       room-exchange h = rw (shape-exchange kind not-nego h) at k
 
       module _ (not-exchange : 5 < kind) where
-        pub room-verify : kind ≡ 6 → 76 ≤ length m
-        room-verify h = let l = rw (shape-verify kind not-nego not-exchange h) at k in omega arith
+        pub room-verify : kind ≡ 6 → 80 ≤ length m
+        room-verify h = rw (shape-verify kind not-nego not-exchange h) at k
 
         pub room-alert : (kind ≡ 6 → ⊥) → 72 ≤ length m
         room-alert h = rw (shape-alert kind not-nego not-exchange h) at k

@@ -2,8 +2,7 @@
 -- Assumes nothing.
 use Prim.Native.Nat.{ℕ, zero, suc, _+_, _*_, _-_, _/_, _≤_, _<_}
 use mathlib.Core.Path.{_≡_, refl, sym, ap, _∙_}
-use mathlib.Core.Bool.{true, false}
-use mathlib.Core.Logic.{_⊎_, inl, inr}
+use mathlib.Core.Logic.{inl, inr}
 use mathlib.Core.List.{List, [], _∷_}
 use native.Mathlib.Omega.{arith}
 use lib.ListN.{length, getD, List·getD-eq-default}
@@ -13,7 +12,7 @@ use Rattle.octets.proofs.Bools.{which}
 use Rattle.octets.specs.Octets.{le}
 use Rattle.vector.specs.declared.Vector.{Vector}
 use Rattle.vector.specs.Vector.{part}
-use Rattle.message.specs.Layout.{Shape, headOf, shapeOf, headerOf, nego, exchange, verify, alert, valuesOf, elementsAt, elementsOf, octetVector, schemeVector, extensionVector, exchangeVector, checksumVector, alertVector, vectorsOf, contentOf, contentIn}
+use Rattle.message.specs.Layout.{Shape, headOf, shapeOf, headerOf, nego, alert, valuesOf, elementsAt, elementsOf, octetVector, schemeVector, extensionVector, exchangeVector, checksumVector, alertVector, vectorsOf, contentOf}
 use Rattle.message.proofs.Shapes.{shape-nego, shape-exchange, shape-verify, shape-alert, header-least}
 use Rattle.coverage.specs.Coverage.{headerIn, vectorsIn, noVector, vectorIn}
 use Rattle.coverage.proofs.Marks.{room-nego, room-alert}
@@ -101,11 +100,11 @@ module _ (m : List ℕ) (k : ℕ) (v : Vector) where
 
 -- ---- how many
 module _ (kind : ℕ) (m : List ℕ) (h : headerOf (shapeOf kind) ≤ length m) where
-  pub room-extensions : kind ≤ 1 → 94 ≤ length m
-  room-extensions g = omega (arith, room-nego kind m h g)
+  pub room-extensions : kind ≤ 1 → 96 ≤ length m
+  room-extensions g = room-nego kind m h g
 
-  pub room-alerts : 1 < kind → 6 < kind → 66 ≤ length m
-  room-alerts g f = omega (arith, room-alert kind m h g (omega arith) (λ q. omega arith))
+  pub room-alerts : 1 < kind → 6 < kind → 72 ≤ length m
+  room-alerts g f = room-alert kind m h g (omega arith) (λ q. omega arith)
 
 module _ (m : List ℕ) (kind : ℕ) where
   abbrev Has : ℕ → Type 0

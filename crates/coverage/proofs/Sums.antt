@@ -1,19 +1,18 @@
 -- Header, vectors and bare octets make up a message.
 -- Assumes nothing.
 use Prim.Native.Nat.{ℕ, zero, suc, _+_, _-_, _≤_, _<_, min}
-use mathlib.Core.Path.{_≡_, refl, sym, ap, _∙_}
-use mathlib.Core.Bool.{Bool, true, false, cond, not, _&&_, _||_}
-use mathlib.Core.Logic.{_⊎_, inl, inr}
+use mathlib.Core.Path.{_≡_, refl}
+use mathlib.Core.Bool.{Bool, true, false, not, _&&_, _||_}
+use mathlib.Core.Logic.{inl, inr}
 use mathlib.Core.List.{List, [], _∷_, List·Memᴰ, List·Memᴰ·head, List·Memᴰ·tail}
-use native.Mathlib.Nat.{zero-add, add-zero, suc-add}
 use native.Mathlib.Omega.{arith}
 use lib.ListN.{length}
 use lib.Dec.{leb, ltb, eqb}
-use borrow.Author.Tests.{lt-ltb, le-ltb, lt-leb, ltb-true, ltb-false, leb-true, eqb-true, eqb-false}
+use borrow.Author.Tests.{le-ltb, lt-leb, ltb-true, ltb-false, leb-true, eqb-true, eqb-false}
 use Rattle.octets.proofs.Bools.{which}
 use Rattle.vector.specs.declared.Vector.{Vector}
 use Rattle.vector.specs.Vector.{extent}
-use Rattle.coverage.specs.Coverage.{headerIn, vectorsIn, inHeader, liesIn, liesInOne, inVector, isBare, one, count, placesOf, headerOctets, vectorOctets, bareOctets, AllBehind, OctetsSum}
+use Rattle.coverage.specs.Coverage.{headerIn, vectorsIn, inHeader, liesIn, liesInOne, inVector, isBare, one, count, headerOctets, vectorOctets, bareOctets, OctetsSum}
 
 -- places that pass three tests, exactly one of which holds at each
 module _ (f g h : ℕ → Bool) (only : (p : ℕ) → one (f p) + one (g p) + one (h p) ≡ 1) where

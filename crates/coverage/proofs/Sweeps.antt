@@ -2,13 +2,13 @@
 -- Assumes nothing.
 use Prim.Native.Nat.{ℕ, zero, suc, _+_, _-_, _≤_, _<_, min, max}
 use mathlib.Core.Path.{_≡_, refl, sym, ap, _∙_}
-use mathlib.Core.Bool.{Bool, true, false, cond, _&&_, _||_}
-use mathlib.Core.Logic.{_⊎_, inl, inr}
+use mathlib.Core.Bool.{Bool, cond, _||_}
+use mathlib.Core.Logic.{inl, inr}
 use mathlib.Core.List.{List, [], _∷_}
 use native.Mathlib.Omega.{arith}
-use lib.ListN.{length, getD, set, length-set}
+use lib.ListN.{length, getD, length-set}
 use lib.Seq.{getD-set-same, getD-set-other}
-use lib.Dec.{leb, ltb, eqb}
+use lib.Dec.{ltb, eqb}
 use borrow.Author.Tests.{lt-ltb, le-ltb, lt-leb, le-leb, ne-eqb, ltb-true, ltb-false, eqb-true, eqb-false}
 use Rattle.octets.proofs.Bools.{which}
 use Rattle.vector.specs.declared.Vector.{Vector}
@@ -21,7 +21,7 @@ abbrev startEnd : ℕ → List Vector → ℕ → ℕ
 startEnd n [] p = 0
 startEnd n (v ∷ vs) p = max (cond (eqb (v .offset .0) p) (endIn n v) 0) (startEnd n vs p)
 
-abbrev endBefore : ℕ → List Vector → ℕ → ℕ
+abbrev pub endBefore : ℕ → List Vector → ℕ → ℕ
 endBefore n [] p = 0
 endBefore n (v ∷ vs) p = max (cond (ltb (v .offset .0) p) (endIn n v) 0) (endBefore n vs p)
 
@@ -47,7 +47,7 @@ lies-end n p v h = elim (which (ltb (v .offset .0) (p + 1))) [
     | inr g ↦ let k = ltb-false p e g in rw g (sym (le-ltb p (min e n) (omega arith)))
   ]
 
-vectors-end : (n p : ℕ) (vs : List Vector) → p < n → liesInOne vs p ≡ ltb p (endBefore n vs (p + 1))
+pub vectors-end : (n p : ℕ) (vs : List Vector) → p < n → liesInOne vs p ≡ ltb p (endBefore n vs (p + 1))
 unfolding liesInOne
 vectors-end n p [] h = sym (le-ltb p 0 (omega arith))
 vectors-end n p (v ∷ vs) h = rw (lies-end n p v h, vectors-end n p vs h) (or-max p _ _)
@@ -72,7 +72,7 @@ end-next n p (v ∷ vs) =
       swap : (a b c d : ℕ) → max (max a b) (max c d) ≡ max (max a c) (max b d)
       swap a b c d = omega arith
 
-end-none : (n : ℕ) (vs : List Vector) → endBefore n vs 0 ≡ 0
+pub end-none : (n : ℕ) (vs : List Vector) → endBefore n vs 0 ≡ 0
 end-none n [] = refl
 end-none n (v ∷ vs) = rw (le-ltb (v .offset .0) 0 (omega arith), end-none n vs) (omega arith)
 
@@ -100,6 +100,10 @@ marks-at map (v ∷ vs) p h =
     let l = length-marked map v in
     marks-at (marked map v) vs p (omega arith) ∙ rw (l, marked-at map v p h) (omega arith)
 
+-- the farthest end met so far, one place further
+pub far-next : (map : List ℕ) (vs : List Vector) → Clear map → (at : ℕ) → at < length map → max (endBefore (length map) vs at) (getD (markedAll map vs) at 0) ≡ endBefore (length map) vs (at + 1)
+far-next map vs clear at h = rw (marks-at map vs at h, clear at, end-next (length map) at vs) (omega arith)
+
 -- the places before a start or in one of the vectors
 abbrev pub heldBy : ℕ → List Vector → ℕ → Bool
 heldBy start vs p = ltb p start || liesInOne vs p
@@ -113,7 +117,7 @@ module _ (map : List ℕ) (clear : Clear map) (start : ℕ) (vs : List Vector) w
   sweep-from zero at h = refl
   sweep-from (suc k) at h =
       let far : max (max start (endBefore n vs at)) (getD (markedAll map vs) at 0) ≡ max start (endBefore n vs (at + 1))
-      = rw (marks-at map vs at (omega arith), clear at, end-next n at vs) (omega arith) in
+      = omega (arith, far-next map vs clear at (omega arith)) in
       rw (far, vectors-end n at vs (omega arith), or-max at start (endBefore n vs (at + 1)))
       (ap (λ (x : ℕ). one (ltb at (max start (endBefore n vs (at + 1)))) + x) (sweep-from k (at + 1) (omega arith)))
 

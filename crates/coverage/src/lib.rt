@@ -8,8 +8,13 @@ ghost use Rattle.message.specs.Layout.{nego, alert, headOf, shapeOf, headerOf, 
 ghost use Rattle.coverage.specs.Coverage.{one, octetsIn};
 ghost use Rattle.coverage.specs.Sweep.{Clear, marked, markedAll, sweep};
 use message::Kind;
+use message::field;
+use message::field::alert_vector;
+use message::field::checksum_vector;
+use message::field::exchange_vector;
+use message::field::extension_vector;
 use message::field::octet_vector;
-use message::field::vector_at;
+use message::field::scheme_vector;
 use octets::le_u32;
 use vector::Vector;
 
@@ -30,7 +35,7 @@ fn least(a: u64, b: u64) -> u64
 }
 
 // The greater of two numbers.
-fn greatest(a: u32, b: u32) -> u32
+pub fn greatest(a: u32, b: u32) -> u32
     ensures { λ r. ⌜ r ≡ max a b ⌝ }
 {
     if a < b { b } else { a }
@@ -72,11 +77,11 @@ fn mark_values(map: &mut [u32], array: &[u8])
     requires { ⌜ length (now map) < 2 ^ 32 ⌝ }
     ensures { λ _. ⌜ now (map .exit) ≡ markedAll (now (map .entry)) (valuesOf (elementsOf (now (array .entry)))) ⌝ }
 {
-    let mut left = array.len() / 12;
+    let mut left = array.len() / field::ELEMENT;
     let mut at: usize = 0;
     while 0 < left {
-        mark(map, octet_vector(array, at + 4));
-        at += 12;
+        mark(map, octet_vector(array, at + field::ELEMENT_VALUE));
+        at += field::ELEMENT;
         left -= 1;
     }
 }
@@ -86,8 +91,8 @@ fn mark_nego(map: &mut [u32], m: &[u8])
     requires { ⌜ (length (now map) < 2 ^ 32) × (96 ≤ length (now m)) ⌝ }
     ensures { λ _. ⌜ now (map .exit) ≡ markedAll (now (map .entry)) (vectorsOf (contentOf nego (now (m .entry)))) ⌝ }
 {
-    mark(map, vector_at(16, m, 80));
-    let array = vector_at(12, m, 88);
+    mark(map, scheme_vector(m));
+    let array = extension_vector(m);
     mark(map, array);
     mark_values(map, part(m, array));
 }
@@ -97,13 +102,13 @@ fn mark_alert(map: &mut [u32], m: &[u8])
     requires { ⌜ (length (now map) < 2 ^ 32) × (72 ≤ length (now m)) ⌝ }
     ensures { λ _. ⌜ now (map .exit) ≡ markedAll (now (map .entry)) (vectorsOf (contentOf alert (now (m .entry)))) ⌝ }
 {
-    let array = vector_at(12, m, 60);
+    let array = alert_vector(m);
     mark(map, array);
     mark_values(map, part(m, array));
 }
 
 // Marks the vectors of a message of a kind.
-fn mark_kind(map: &mut [u32], kind: Kind, m: &[u8])
+pub fn mark_kind(map: &mut [u32], kind: Kind, m: &[u8])
     requires { ⌜ (length (now map) < 2 ^ 32) × (headerOf (shapeOf (kind .0)) ≤ length (now m)) ⌝ }
     ensures { λ _. ⌜ now (map .exit) ≡ markedAll (now (map .entry)) (vectorsOf (contentOf (shapeOf (kind .0)) (now (m .entry)))) ⌝ }
 {
@@ -112,11 +117,11 @@ fn mark_kind(map: &mut [u32], kind: Kind, m: &[u8])
         return;
     }
     if kind.0 <= Kind::AP_REQUEST {
-        mark(map, octet_vector(m, 56));
+        mark(map, exchange_vector(m));
         return;
     }
     if kind.0 == Kind::VERIFY {
-        mark(map, octet_vector(m, 68));
+        mark(map, checksum_vector(m));
         return;
     }
     mark_alert(map, m);
@@ -141,7 +146,7 @@ fn swept(map: &[u32], start: u32) -> u32
 }
 
 // Empties the map.
-fn clear(map: &mut [u32])
+pub fn clear(map: &mut [u32])
     ensures { λ _. ⌜ Clear (now (map .exit)) ⌝ }
 {
     let mut i: usize = 0;
@@ -182,7 +187,7 @@ pub fn count_octets(map: &mut [u32], m: &[u8]) -> Octets
             bare: 0,
         };
     }
-    let kind = Kind(le_u32(m, 8));
+    let kind = Kind(le_u32(m, field::TYPE));
     if len < kind.header() as usize {
         return Octets {
             headers: len as u32,

@@ -7,8 +7,12 @@ ghost use Rattle.message.specs.Layout.{nego, alert, shapeOf, headerOf, valuesOf
 ghost use Rattle.coverage.specs.Coverage.{noVector, vectorsIn, vectorIn};
 use super::part;
 use message::Kind;
+use message::field;
+use message::field::checksum_vector;
+use message::field::exchange_vector;
+use message::field::extension_vector;
 use message::field::octet_vector;
-use message::field::vector_at;
+use message::field::scheme_vector;
 use octets::le_u32;
 use vector::MessageOffset;
 use vector::Vector;
@@ -28,10 +32,10 @@ fn none() -> Vector
 fn value_of(array: &[u8], k: usize) -> Vector
     ensures { λ r. ⌜ r ≡ getD (valuesOf (elementsOf (now (array .entry)))) k noVector ⌝ }
 {
-    if array.len() / 12 <= k {
+    if array.len() / field::ELEMENT <= k {
         return none();
     }
-    octet_vector(array, 12 * k + 4)
+    octet_vector(array, field::ELEMENT * k + field::ELEMENT_VALUE)
 }
 
 // The one vector of a message that has no other.
@@ -50,9 +54,9 @@ fn nego_vector(m: &[u8], k: usize) -> Vector
     ensures { λ r. ⌜ r ≡ getD (vectorsOf (contentOf nego (now (m .entry)))) k noVector ⌝ }
 {
     if k == 0 {
-        return vector_at(16, m, 80);
+        return scheme_vector(m);
     }
-    let array = vector_at(12, m, 88);
+    let array = extension_vector(m);
     if k == 1 {
         return array;
     }
@@ -64,7 +68,7 @@ fn alert_vector(m: &[u8], k: usize) -> Vector
     requires { ⌜ 72 ≤ length (now m) ⌝ }
     ensures { λ r. ⌜ r ≡ getD (vectorsOf (contentOf alert (now (m .entry)))) k noVector ⌝ }
 {
-    let array = vector_at(12, m, 60);
+    let array = field::alert_vector(m);
     if k == 0 {
         return array;
     }
@@ -80,10 +84,10 @@ fn kind_vector(kind: Kind, m: &[u8], k: usize) -> Vector
         return nego_vector(m, k);
     }
     if kind.0 <= Kind::AP_REQUEST {
-        return only(octet_vector(m, 56), k);
+        return only(exchange_vector(m), k);
     }
     if kind.0 == Kind::VERIFY {
-        return only(octet_vector(m, 68), k);
+        return only(checksum_vector(m), k);
     }
     alert_vector(m, k)
 }
@@ -94,12 +98,12 @@ fn kind_count(kind: Kind, m: &[u8]) -> usize
     ensures { λ r. ⌜ r ≡ length (vectorsOf (contentOf (shapeOf (kind .0)) (now (m .entry)))) ⌝ }
 {
     if kind.0 <= Kind::ACCEPTOR_NEGO {
-        return 2 + part(m, vector_at(12, m, 88)).len() / 12;
+        return 2 + part(m, extension_vector(m)).len() / field::ELEMENT;
     }
     if kind.0 <= Kind::VERIFY {
         return 1;
     }
-    1 + part(m, vector_at(12, m, 60)).len() / 12
+    1 + part(m, field::alert_vector(m)).len() / field::ELEMENT
 }
 
 // How many vectors a message has; none where it ends before its header does.
@@ -110,7 +114,7 @@ pub fn vector_count(m: &[u8]) -> usize
     if m.len() < 64 {
         return 0;
     }
-    let kind = Kind(le_u32(m, 8));
+    let kind = Kind(le_u32(m, field::TYPE));
     if m.len() < kind.header() as usize {
         return 0;
     }
@@ -124,7 +128,7 @@ pub fn vector_of(m: &[u8], k: usize) -> Vector
     if m.len() < 64 {
         return none();
     }
-    let kind = Kind(le_u32(m, 8));
+    let kind = Kind(le_u32(m, field::TYPE));
     if m.len() < kind.header() as usize {
         return none();
     }

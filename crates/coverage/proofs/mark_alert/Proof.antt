@@ -4,8 +4,8 @@ use borrow.Author.Needs.{needs}
 use Rattle.coverage.proofs.mark_alert.Statement.{statement}
 use Rattle.coverage.proofs.mark_alert.Tie as tie
 
-vector-at-requires : tie.Need-vector-at-requires
-vector-at-requires c κs = search needs
+alert-vector-requires : tie.Need-alert-vector-requires
+alert-vector-requires c κs = search needs
 
 mark-requires : tie.Need-mark-requires
 mark-requires c κs = search needs
@@ -26,7 +26,7 @@ pub mark-alert-spec : {M : Type 1} → statement M
 mark-alert-spec =
     tie.close
     (tie.spec
-    vector-at-requires
+    alert-vector-requires
     mark-requires
     part-requires
     mark-values-requires

@@ -13,8 +13,8 @@ same-length c = search needs
 returns : tie.Need-returns
 returns c = search kinds
 
-octet-vector-requires : tie.Need-octet-vector-requires
-octet-vector-requires c κs = search kinds
+exchange-vector-requires : tie.Need-exchange-vector-requires
+exchange-vector-requires c κs = search kinds
 
 mark-requires : tie.Need-mark-requires
 mark-requires c κs = search needs
@@ -25,8 +25,8 @@ same-length-2 c = search needs
 returns-2 : tie.Need-returns-2
 returns-2 c = search kinds
 
-octet-vector-requires-2 : tie.Need-octet-vector-requires-2
-octet-vector-requires-2 c κs = search kinds
+checksum-vector-requires : tie.Need-checksum-vector-requires
+checksum-vector-requires c κs = search kinds
 
 mark-requires-2 : tie.Need-mark-requires-2
 mark-requires-2 c κs = search needs
@@ -53,11 +53,11 @@ mark-kind-spec =
     mark-nego-requires
     same-length
     returns
-    octet-vector-requires
+    exchange-vector-requires
     mark-requires
     same-length-2
     returns-2
-    octet-vector-requires-2
+    checksum-vector-requires
     mark-requires-2
     same-length-3
     returns-3

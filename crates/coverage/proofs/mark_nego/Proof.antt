@@ -4,14 +4,14 @@ use borrow.Author.Needs.{needs}
 use Rattle.coverage.proofs.mark_nego.Statement.{statement}
 use Rattle.coverage.proofs.mark_nego.Tie as tie
 
-vector-at-requires : tie.Need-vector-at-requires
-vector-at-requires c κs = search needs
+scheme-vector-requires : tie.Need-scheme-vector-requires
+scheme-vector-requires c κs = search needs
 
 mark-requires : tie.Need-mark-requires
 mark-requires c κs = search needs
 
-vector-at-requires-2 : tie.Need-vector-at-requires-2
-vector-at-requires-2 c κs = search needs
+extension-vector-requires : tie.Need-extension-vector-requires
+extension-vector-requires c κs = search needs
 
 mark-requires-2 : tie.Need-mark-requires-2
 mark-requires-2 c κs = search needs
@@ -32,9 +32,9 @@ pub mark-nego-spec : {M : Type 1} → statement M
 mark-nego-spec =
     tie.close
     (tie.spec
-    vector-at-requires
+    scheme-vector-requires
     mark-requires
-    vector-at-requires-2
+    extension-vector-requires
     mark-requires-2
     part-requires
     mark-values-requires

@@ -1,8 +1,8 @@
 -- Assumes nothing.
 use Rattle.coverage.proofs.Marks.{sweeps, one-le}
 use borrow.Author.Needs.{needs}
-use Prim.Native.Nat.{_+_, _*_, _≤_}
-use mathlib.Core.Path.{_≡_, refl}
+use Prim.Native.Nat.{_+_, _≤_}
+use mathlib.Core.Path.{_≡_}
 use native.Mathlib.Omega.{arith}
 use lib.ListN.{length}
 use Rattle.coverage.specs.Sweep.{sweep}

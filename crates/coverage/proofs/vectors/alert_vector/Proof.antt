@@ -4,8 +4,8 @@ use borrow.Author.Needs.{needs}
 use Rattle.coverage.proofs.vectors.alert_vector.Statement.{statement}
 use Rattle.coverage.proofs.vectors.alert_vector.Tie as tie
 
-vector-at-requires : tie.Need-vector-at-requires
-vector-at-requires c κs = search needs
+alert-vector-requires : tie.Need-alert-vector-requires
+alert-vector-requires c κs = search needs
 
 returns : tie.Need-returns
 returns c = search places
@@ -25,4 +25,4 @@ returns-2 c = search places
 pub alert-vector-spec : {M : Type 1} → statement M
 alert-vector-spec =
     tie.close
-    (tie.spec vector-at-requires returns part-requires sub-value-of value-of-requires returns-2)
+    (tie.spec alert-vector-requires returns part-requires sub-value-of value-of-requires returns-2)

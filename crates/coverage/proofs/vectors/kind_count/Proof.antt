@@ -4,8 +4,8 @@ use borrow.Author.Needs.{needs}
 use Rattle.coverage.proofs.vectors.kind_count.Statement.{statement}
 use Rattle.coverage.proofs.vectors.kind_count.Tie as tie
 
-vector-at-requires : tie.Need-vector-at-requires
-vector-at-requires c κs = search counts
+extension-vector-requires : tie.Need-extension-vector-requires
+extension-vector-requires c κs = search counts
 
 part-requires : tie.Need-part-requires
 part-requires c κs = search needs
@@ -19,8 +19,8 @@ returns c = search counts
 returns-2 : tie.Need-returns-2
 returns-2 c = search counts
 
-vector-at-requires-2 : tie.Need-vector-at-requires-2
-vector-at-requires-2 c κs = search counts
+alert-vector-requires : tie.Need-alert-vector-requires
+alert-vector-requires c κs = search counts
 
 part-requires-2 : tie.Need-part-requires-2
 part-requires-2 c κs = search needs
@@ -35,12 +35,12 @@ pub kind-count-spec : {M : Type 1} → statement M
 kind-count-spec =
     tie.close
     (tie.spec
-    vector-at-requires
+    extension-vector-requires
     part-requires
     add-result
     returns
     returns-2
-    vector-at-requires-2
+    alert-vector-requires
     part-requires-2
     add-result-2
     returns-3)

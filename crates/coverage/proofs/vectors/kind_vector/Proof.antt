@@ -11,8 +11,8 @@ nego-vector-requires c κs = search kinds
 returns : tie.Need-returns
 returns c = search kind-vectors
 
-octet-vector-requires : tie.Need-octet-vector-requires
-octet-vector-requires c κs = search kinds
+exchange-vector-requires : tie.Need-exchange-vector-requires
+exchange-vector-requires c κs = search kinds
 
 only-requires : tie.Need-only-requires
 only-requires c κs = search needs
@@ -20,8 +20,8 @@ only-requires c κs = search needs
 returns-2 : tie.Need-returns-2
 returns-2 c = search kind-vectors
 
-octet-vector-requires-2 : tie.Need-octet-vector-requires-2
-octet-vector-requires-2 c κs = search kinds
+checksum-vector-requires : tie.Need-checksum-vector-requires
+checksum-vector-requires c κs = search kinds
 
 only-requires-2 : tie.Need-only-requires-2
 only-requires-2 c κs = search needs
@@ -41,10 +41,10 @@ kind-vector-spec =
     (tie.spec
     nego-vector-requires
     returns
-    octet-vector-requires
+    exchange-vector-requires
     only-requires
     returns-2
-    octet-vector-requires-2
+    checksum-vector-requires
     only-requires-2
     returns-3
     alert-vector-requires

@@ -4,14 +4,14 @@ use borrow.Author.Needs.{needs}
 use Rattle.coverage.proofs.vectors.nego_vector.Statement.{statement}
 use Rattle.coverage.proofs.vectors.nego_vector.Tie as tie
 
-vector-at-requires : tie.Need-vector-at-requires
-vector-at-requires c κs = search needs
+scheme-vector-requires : tie.Need-scheme-vector-requires
+scheme-vector-requires c κs = search needs
 
 returns : tie.Need-returns
 returns c = search places
 
-vector-at-requires-2 : tie.Need-vector-at-requires-2
-vector-at-requires-2 c κs = search needs
+extension-vector-requires : tie.Need-extension-vector-requires
+extension-vector-requires c κs = search needs
 
 returns-2 : tie.Need-returns-2
 returns-2 c = search places
@@ -32,9 +32,9 @@ pub nego-vector-spec : {M : Type 1} → statement M
 nego-vector-spec =
     tie.close
     (tie.spec
-    vector-at-requires
+    scheme-vector-requires
     returns
-    vector-at-requires-2
+    extension-vector-requires
     returns-2
     part-requires
     sub-value-of

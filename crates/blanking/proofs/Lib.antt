@@ -1,0 +1,5 @@
+pub mod Sames
+pub mod Views
+pub mod Keeps
+pub mod Wipes
+pub mod Seen

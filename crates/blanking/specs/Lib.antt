@@ -1,0 +1,3 @@
+pub mod Covered
+pub mod Blanked
+pub mod Wiped
