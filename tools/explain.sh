@@ -23,7 +23,7 @@ the type may not stand at this place of the turn, or it is the second VERIFY of 
 the scheme is not allowed here
 no room in the transcript
 no common scheme is left after the marks of this end
-the call is not of this stage, or the record is outside its limits
+the call is not of this stage (after a refusal 12 none is), or the record is outside its limits
 an own list that is empty, above 16 or repeats a scheme; marks beyond the list; or empty metadata'
 export meanings
 meaning='BEGIN { split(ENVIRON["meanings"], meaning, "\n"); CONVFMT = OFMT = "%.0f" }

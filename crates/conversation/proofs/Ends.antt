@@ -10,7 +10,7 @@ use native.Mathlib.Omega.{arith}
 use lib.ListN.{length, getD, length-take, length-drop, length-append}
 use lib.Seq.{take-at, drop-at}
 use lib.Dec.{eqb, leb}
-use borrow.Author.Tests.{eq-eqb, eqb-true}
+use borrow.Author.Tests.{eq-eqb, eqb-true, eqb-false}
 use Rattle.octets.proofs.Bools.{which, no-true, and-l, and-r}
 use Rattle.octets.specs.Octets.{octets}
 use Rattle.message.specs.Show.{idsAt, idsOf}
@@ -22,18 +22,20 @@ use Rattle.schemes.proofs.Replies.{left-keep, left-of-reply}
 use Rattle.conversation.specs.declared.Record.{Record}
 use Rattle.conversation.specs.declared.Answer.{Answer}
 use Rattle.conversation.specs.declared.Scan.{Scan}
-use Rattle.conversation.specs.State.{ownOf, limitRows, fresh}
+use Rattle.conversation.specs.State.{closed, ownOf, limitRows, fresh}
 use Rattle.conversation.specs.Turns.{NEGO, writing, reading, kindOf, after, writes, reads, placeAfter, mayWrite, mayRead}
-use Rattle.conversation.specs.Outcomes.{Outcome, answered, row, fits, WrittenAs, unchanged, wrote, appended}
+use Rattle.conversation.specs.Outcomes.{Outcome, answered, refused, row, fits, WrittenAs, unchanged, wrote, appended}
 use Rattle.conversation.specs.Writing.{stageRows, thenFits, offered, offerRows, offering, someLeft, firstOr, replyMessage, naming, replying, opening}
 use Rattle.conversation.specs.Admitting.{listedBy}
 use Rattle.conversation.specs.Reading.{conversationOf, whole, judged, commonAfter, keptAfter, taken}
 use Rattle.conversation.specs.Choosing.{openTo, mayChoose, chose, choosing}
-use Rattle.conversation.specs.Runs.{Sized, Call, offer, reply, metadata, speak, read, choose, End, act, Opening, World, world, outcomeAt, next, Entry, run, isAccepted, isLawful}
+use Rattle.conversation.specs.Runs.{Sized, Call, offer, reply, metadata, speak, read, choose, End, act, moved, Opening, World, world, outcomeAt, next, Entry, run, isAccepted, isLawful}
 use Rattle.conversation.specs.Claims.{ReplyAnswer, OpeningFresh}
+use Rattle.conversation.proofs.Unchanged.{refused-unchanged}
+use Rattle.conversation.proofs.Closed.{only-reading-12, closed-refuses}
 use Rattle.conversation.proofs.Rows.{decide-out, fails-one, fails-parts, fails-each, fails-until, true-behind, front-true}
 use Rattle.conversation.proofs.Tokens.{Heads, heads-more, heads-here, empty-judged, judged-first}
-use Rattle.conversation.proofs.Goals.{positive, none-written, no-after, NotFirst, nego-start, no17, not-some, Goal, refusal, stopped, metadata-goal, speak-goal, read-goal}
+use Rattle.conversation.proofs.Goals.{positive, none-written, no-after, NotFirst, nego-start, no17, no12, not-some, Goal, refusal, stopped, metadata-goal, speak-goal, read-goal}
 
 -- 1. the invariant
 
@@ -269,14 +271,14 @@ module _ (o : Opening) (Q : ℕ → Type 0)
                   (λ z. inl (eqb-true _ _ (only-17 n (fails-each (λ k. eqb k 17 || not (lawful k)) rows n refl g) z))),
                 )
 
-      ini-step : (k : Call) → IniGoal k (IniSays k) (act e (f .turn) k)
+      ini-step : (k : Call) → no12 (act e (f .turn) k .answer) → IniGoal k (IniSays k) (act e (f .turn) k)
       unfolding act
-      ini-step (offer random) = ini-offer random
-      ini-step (reply m random) = ini-reply m random
-      ini-step (metadata id value) = metadata-goal e IniOk beside ok tg ini-on id value
-      ini-step (speak s) = speak-goal e IniOk beside ok tg ini-on s
-      ini-step read = read-goal e IniOk beside ok tg (f .turn) ini-reads-on
-      ini-step (choose m) = ini-choose m
+      ini-step (offer random) z = ini-offer random
+      ini-step (reply m random) z = ini-reply m random
+      ini-step (metadata id value) z = metadata-goal e IniOk beside ok tg ini-on id value
+      ini-step (speak s) z = speak-goal e IniOk beside ok tg ini-on s
+      ini-step read z = read-goal e IniOk beside ok tg (f .turn) ini-reads-on z
+      ini-step (choose m) z = ini-choose m
 
     -- 4. the acceptor's calls
 
@@ -436,26 +438,111 @@ module _ (o : Opening) (Q : ℕ → Type 0)
           refusal e AccOk along ok tg (choose m) Barred n 0 (λ z. omega arith) is)
           (λ g. no-true (sym no ∙ true-behind (limitRows s) (row 18 (mayChoose s)) more g))
 
-      acc-step : (k : Call) → AskAcc k (act e (f .turn) k .answer) → AccGoal k (AccSays k) (act e (f .turn) k)
+      acc-step : (k : Call) → no12 (act e (f .turn) k .answer) → AskAcc k (act e (f .turn) k .answer) → AccGoal k (AccSays k) (act e (f .turn) k)
       unfolding act
-      acc-step (offer random) q = acc-offer random
-      acc-step (reply m random) q = acc-reply m random q
-      acc-step (metadata id value) q = metadata-goal e AccOk along ok tg acc-on id value
-      acc-step (speak s) q = speak-goal e AccOk along ok tg acc-on s
-      acc-step read q = read-goal e AccOk along ok tg (f .turn) acc-reads-on
-      acc-step (choose m) q = acc-choose m
+      acc-step (offer random) z q = acc-offer random
+      acc-step (reply m random) z q = acc-reply m random q
+      acc-step (metadata id value) z q = metadata-goal e AccOk along ok tg acc-on id value
+      acc-step (speak s) z q = speak-goal e AccOk along ok tg acc-on s
+      acc-step read z q = read-goal e AccOk along ok tg (f .turn) acc-reads-on z
+      acc-step (choose m) z q = acc-choose m
 
     -- 5. a run
 
-    moved-ok : (w : World) → Ok w → (x : Bool) (k : Call) → Ask x k (outcomeAt w x k .answer) → Ok (next w x k) × Fair x k (outcomeAt w x k .answer)
-    moved-ok w h false k q =
-        let g = ini-step (w .i) (w .a) (h .ini-ok) (h .acc-ok) (h .stages) k in
-        (record { ini-ok = g .then-ok; acc-ok = h .acc-ok; stages = g .then-together }, g .fair)
-    moved-ok w h true k q =
-        let g = acc-step (w .a) (w .i) (h .acc-ok) (h .ini-ok) (h .stages) k q in
-        (record { ini-ok = h .ini-ok; acc-ok = g .then-ok; stages = g .then-together }, g .fair)
+    -- an end as it was, or closed since: the other end may still read its turn, and its own calls are all 18
+    abbrev shut : End → End
+    shut e = record { record-of = closed (e .record-of); transcript = e .transcript; turn = e .turn }
 
-    pub run-fair : (w : World) → Ok w → (cs : List (Bool × Call)) → ((x : Entry) → List·Memᴰ x (run w cs) → Ask (x .acceptor) (x .call) (x .said))
+    abbrev As : End → End → Type 0
+    As e₀ e = (e ≡ e₀) ⊎ (e ≡ shut e₀)
+
+    as-turn : (e₀ e : End) → As e₀ e → e .turn ≡ e₀ .turn
+    as-turn e₀ e (inl h) = ap (λ (x : End). x .turn) h
+    as-turn e₀ e (inr h) = ap (λ (x : End). x .turn) h
+
+    -- a call that closes
+    shuts : (e : End) (peer : List ℕ) (k : Call) → act e peer k .answer .refusal ≡ 12 → moved e k (act e peer k) ≡ shut e
+    shuts e peer k h =
+        let u = refused-unchanged e peer k (λ z. omega arith) in
+        let n : act e peer k .answer .next ≡ closed (e .record-of) = rw h at (u .0) in
+        rw (h, n, u .1)
+
+    -- a call at a closed end
+    stays-shut : (e₀ e : End) (peer : List ℕ) (k : Call) → e ≡ shut e₀ → act e peer k ≡ refused (e .record-of) (e .transcript) 18 0
+    stays-shut e₀ e peer k h = closed-refuses e peer k (ap (λ (x : End). x .record-of .stage) h)
+
+    -- 18 is no answer to what is asked
+    fair-18 : (x : Bool) (k : Call) (a : Answer) → a .refusal ≡ 18 → Fair x k a
+    fair-18 false (offer random) a n = λ z. omega arith
+    fair-18 false (reply m random) a n = n
+    fair-18 false (metadata id value) a n = λ z. omega arith
+    fair-18 false (speak s) a n = λ z. omega arith
+    fair-18 false read a n = λ z. omega arith
+    fair-18 false (choose m) a n = ((λ z. absurd (omega arith)), (λ z. no-true (rw n at z)), (λ z. no-true (rw n at z)))
+    fair-18 true (offer random) a n = λ z. omega arith
+    fair-18 true (reply m random) a n = record { refuses = λ z. absurd (omega arith); answers = λ z. no-true (rw n at z); none-left = λ z x y. absurd (x n) }
+    fair-18 true (metadata id value) a n = λ z. omega arith
+    fair-18 true (speak s) a n = λ z. omega arith
+    fair-18 true read a n = λ z. omega arith
+    fair-18 true (choose m) a n = n
+
+    -- nor is 12, of a reading, which alone gives it
+    fair-12 : (x : Bool) (k : Call) (a : Answer) → k ≡ read → a .refusal ≡ 12 → Fair x k a
+    fair-12 x k a is n = subst (λ (c : Call). Fair x c a) (sym is) (go x) where
+      go : (b : Bool) → Fair b read a
+      go false = λ z. omega arith
+      go true = λ z. omega arith
+
+    -- the two ends of a run, each as in an invariant world, or closed since
+    pub record Okay (w : World) : Type 0 where
+      was : World
+      ok : Ok was
+      i-as : As (was .i) (w .i)
+      a-as : As (was .a) (w .a)
+
+    moved-ok : (w : World) → Okay w → (x : Bool) (k : Call) → Ask x k (outcomeAt w x k .answer) → Okay (next w x k) × Fair x k (outcomeAt w x k .answer)
+    moved-ok w h false k q = go (h .i-as) where
+      go : As (h .was .i) (w .i) → Okay (next w false k) × Fair false k (outcomeAt w false k .answer)
+      go (inr e) =
+          let c = stays-shut (h .was .i) (w .i) (w .a .turn) k e in
+          (record { was = h .was; ok = h .ok; i-as = inr (ap (moved (w .i) k) c ∙ e); a-as = h .a-as }, fair-18 false k _ (ap (λ (o : Outcome). o .answer .refusal) c))
+      go (inl e) =
+          let t = as-turn (h .was .a) (w .a) (h .a-as) in
+          let same : act (w .i) (w .a .turn) k ≡ act (h .was .i) (h .was .a .turn) k = ap (λ (x : End). act x (w .a .turn) k) e ∙ ap (λ (p : List ℕ). act (h .was .i) p k) t in
+          let then : moved (w .i) k (act (w .i) (w .a .turn) k) ≡ moved (h .was .i) k (act (h .was .i) (h .was .a .turn) k) = ap (λ (x : End). moved x k (act (w .i) (w .a .turn) k)) e ∙ ap (moved (h .was .i) k) same in
+          elim (which (eqb (act (h .was .i) (h .was .a .turn) k .answer .refusal) 12)) [
+            | inl n ↦ (
+              record { was = h .was; ok = h .ok; i-as = inr (then ∙ shuts (h .was .i) (h .was .a .turn) k (eqb-true _ _ n)); a-as = h .a-as },
+              subst (λ (o : Outcome). Fair false k (o .answer)) (sym same) (fair-12 false k _ (only-reading-12 (h .was .i) (h .was .a .turn) k (eqb-true _ _ n)) (eqb-true _ _ n)),
+            )
+            | inr n ↦
+                let g = ini-step (h .was .i) (h .was .a) (h .ok .ini-ok) (h .ok .acc-ok) (h .ok .stages) k (eqb-false _ _ n) in (
+                  record { was = next (h .was) false k; ok = record { ini-ok = g .then-ok; acc-ok = h .ok .acc-ok; stages = g .then-together }; i-as = inl then; a-as = h .a-as },
+                  subst (λ (o : Outcome). Fair false k (o .answer)) (sym same) (g .fair),
+                )
+          ]
+    moved-ok w h true k q = go (h .a-as) where
+      go : As (h .was .a) (w .a) → Okay (next w true k) × Fair true k (outcomeAt w true k .answer)
+      go (inr e) =
+          let c = stays-shut (h .was .a) (w .a) (w .i .turn) k e in
+          (record { was = h .was; ok = h .ok; i-as = h .i-as; a-as = inr (ap (moved (w .a) k) c ∙ e) }, fair-18 true k _ (ap (λ (o : Outcome). o .answer .refusal) c))
+      go (inl e) =
+          let t = as-turn (h .was .i) (w .i) (h .i-as) in
+          let same : act (w .a) (w .i .turn) k ≡ act (h .was .a) (h .was .i .turn) k = ap (λ (x : End). act x (w .i .turn) k) e ∙ ap (λ (p : List ℕ). act (h .was .a) p k) t in
+          let then : moved (w .a) k (act (w .a) (w .i .turn) k) ≡ moved (h .was .a) k (act (h .was .a) (h .was .i .turn) k) = ap (λ (x : End). moved x k (act (w .a) (w .i .turn) k)) e ∙ ap (moved (h .was .a) k) same in
+          elim (which (eqb (act (h .was .a) (h .was .i .turn) k .answer .refusal) 12)) [
+            | inl n ↦ (
+              record { was = h .was; ok = h .ok; i-as = h .i-as; a-as = inr (then ∙ shuts (h .was .a) (h .was .i .turn) k (eqb-true _ _ n)) },
+              subst (λ (o : Outcome). Fair true k (o .answer)) (sym same) (fair-12 true k _ (only-reading-12 (h .was .a) (h .was .i .turn) k (eqb-true _ _ n)) (eqb-true _ _ n)),
+            )
+            | inr n ↦
+                let g = acc-step (h .was .a) (h .was .i) (h .ok .acc-ok) (h .ok .ini-ok) (h .ok .stages) k (eqb-false _ _ n) (subst (λ (o : Outcome). AskAcc k (o .answer)) same q) in (
+                  record { was = next (h .was) true k; ok = record { ini-ok = h .ok .ini-ok; acc-ok = g .then-ok; stages = g .then-together }; i-as = h .i-as; a-as = inl then },
+                  subst (λ (o : Outcome). Fair true k (o .answer)) (sym same) (g .fair),
+                )
+          ]
+
+    pub run-fair : (w : World) → Okay w → (cs : List (Bool × Call)) → ((x : Entry) → List·Memᴰ x (run w cs) → Ask (x .acceptor) (x .call) (x .said))
         → (x : Entry) → List·Memᴰ x (run w cs) → Fair (x .acceptor) (x .call) (x .said)
     run-fair w h [] ask x m = absurd (List·Memᴰ·not-nil m)
     run-fair w h (c ∷ cs) ask x m =
@@ -465,11 +552,16 @@ module _ (o : Opening) (Q : ℕ → Type 0)
           | inr m′ ↦ run-fair (next w (c .0) (c .1)) (g .0) cs (λ y n. ask y (List·Memᴰ·tail n)) x m′
         ]
 
-    pub world-ok : ownOf (world o .i .record-of) ≡ o .initiator → ownOf (world o .a .record-of) ≡ o .acceptor → world o .i .record-of .count ≡ length (o .initiator) → Ok (world o)
+    pub world-ok : ownOf (world o .i .record-of) ≡ o .initiator → ownOf (world o .a .record-of) ≡ o .acceptor → world o .i .record-of .count ≡ length (o .initiator) → Okay (world o)
     world-ok i a n = record {
-      ini-ok = record { role = refl; own = i; bytes = refl; count = n; talk = refl; at = ini-fresh refl refl refl };
-      acc-ok = record { role = refl; own = a; at = acc-fresh refl refl };
-      stages = record { first-stage = λ z. omega arith; choosing′ = λ z. absurd (omega arith); later = λ z. absurd (omega arith) };
+      was = world o;
+      ok = record {
+        ini-ok = record { role = refl; own = i; bytes = refl; count = n; talk = refl; at = ini-fresh refl refl refl };
+        acc-ok = record { role = refl; own = a; at = acc-fresh refl refl };
+        stages = record { first-stage = λ z. omega arith; choosing′ = λ z. absurd (omega arith); later = λ z. absurd (omega arith) };
+      };
+      i-as = inl refl;
+      a-as = inl refl;
     }
 
 -- 6. opened lists

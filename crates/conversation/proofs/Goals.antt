@@ -76,6 +76,9 @@ nego-start token position v e = elim (which (leb token 1)) [
 abbrev pub no17 : Answer → Type 0
 no17 a = a .refusal ≡ 17 → ⊥
 
+abbrev pub no12 : Answer → Type 0
+no12 a = a .refusal ≡ 12 → ⊥
+
 pub not-some : (l : List Id) → someLeft l ≡ false → l ≡ []
 not-some [] h = refl
 not-some (x ∷ l) h = no-true (sym h)
@@ -124,16 +127,17 @@ module _ (e : End) (Inv : End → Type 0) (Tog : ℕ → Type 0) where
 
     -- a reading of the other end's turn so far
     module _ (peer : List ℕ) (reads-on : (n : ℕ) (c : Scan) (d′ : List ℕ) → mayRead r ≡ true → judged r peer ≡ whole n c → Inv (record { record-of = taken r peer n c; transcript = d′; turn = [] }) × Tog (reads r + 1)) where
-      pub read-goal : Goal read no17 (readingToken r d peer)
+      -- one that is not refused with 12 leaves the record open
+      pub read-goal : no12 (readingToken r d peer .answer) → Goal read no17 (readingToken r d peer)
       unfolding readingToken
       read-goal =
           let rows : List Row = limitRows r ++ tokenRows r (length peer) in
-          decide-out (Goal read no17) rows r d (finish r d peer (judged r peer))
-          (stopped read rows refl refl)
+          decide-out (λ out. no12 (out .answer) → Goal read no17 out) rows r d (finish r d peer (judged r peer))
+          (λ n g ask. stopped read rows refl refl n g)
           (λ g. token (judged r peer) refl (true-behind (limitRows r) (row 18 (mayRead r)) (row 1 (leb (length peer) 65535) ∷ []) g)) where
-            token : (j : Judged) → judged r peer ≡ j → mayRead r ≡ true → Goal read no17 (finish r d peer j)
-            token (halted n p) w h = unfold finish in (let z = judged-number r peer n p w in refusal read no17 n p (z .0) (z .1 .0))
-            token (whole n c) w h = unfold finish in elim (which (leb (r .used + length peer) (room d))) [
+            token : (j : Judged) → judged r peer ≡ j → mayRead r ≡ true → no12 (finish r d peer j .answer) → Goal read no17 (finish r d peer j)
+            token (halted n p) w h ask = unfold finish in (let z = judged-number r peer n p w in rw (ne-eqb n 12 ask) (refusal read no17 n p (z .0) (z .1 .0)))
+            token (whole n c) w h ask = unfold finish in elim (which (leb (r .used + length peer) (room d))) [
               | inr b ↦ rw b (refusal read no17 16 0 (λ z. omega arith) (λ z. omega arith))
               | inl b ↦ rw b (let g = reads-on n c (put d (r .used) peer) h w in record { then-ok = g .0; then-together = g .1; fair = λ z. omega arith })
             ]

@@ -9,6 +9,7 @@ pub mod Ends
 pub mod Once
 pub mod Demand
 pub mod Unchanged
+pub mod Closed
 pub mod Accepted
 pub mod Worked
 pub mod Examples

@@ -4,7 +4,7 @@ use Prim.Native.Nat.{ℕ, zero, suc, _+_, _*_, _^_, _/_, _≤_, _<_}
 use mathlib.Core.Path.{_≡_, refl, sym, ap, subst, _∙_}
 use mathlib.Core.Bool.{Bool, true, false, cond, not, _&&_, _||_}
 use mathlib.Core.Logic.{inl, inr}
-use mathlib.Core.List.{List, [], _∷_, _++_, List·Memᴰ, List·Memᴰ·head, List·Memᴰ·tail, append-assoc, append-nil}
+use mathlib.Core.List.{List, [], _∷_, _++_, List·Memᴰ, List·Memᴰ·head, List·Memᴰ·tail, List·Memᴰ·cases-cons, List·Memᴰ·not-nil, append-assoc, append-nil}
 use native.Mathlib.Omega.{arith}
 use lib.ListN.{length, take, drop, getD, length-append, length-take, length-drop}
 use lib.Seq.{take-at, length-take-le}
@@ -12,7 +12,8 @@ use lib.Pow.{pow-pos}
 use lib.Dec.{eqb, leb}
 use borrow.Author.Tests.{leb-true, lt-ltb, ne-eqb, not-true}
 use Rattle.octets.proofs.Bools.{which, and-l, and-r}
-use Rattle.message.specs.Check.{Row, FirstFails}
+use Rattle.message.specs.Layout.{shapeOf, contentOf}
+use Rattle.message.specs.Check.{Row, FirstFails, criticalOk}
 use Rattle.message.proofs.Tables.{AllTrue, without, fails-other}
 use Rattle.token.specs.Split.{join}
 use Rattle.put.specs.Put.{put}
@@ -23,18 +24,19 @@ use Rattle.conversation.specs.declared.Record.{Record}
 use Rattle.conversation.specs.declared.Scan.{Scan}
 use Rattle.conversation.specs.State.{ownOf, schemeAt, limitRows, fresh}
 use Rattle.conversation.specs.Turns.{FIRST, NEGO, METADATA, EXCHANGE, VERIFY, ALERT, typeOf, reads, placeAfter, mayRead}
-use Rattle.conversation.specs.Outcomes.{Outcome, zeroId, answered, refused, decide, row, room, fits, WrittenAs, unchanged, wrote, appended}
+use Rattle.conversation.specs.Outcomes.{Outcome, zeroId, answered, refused, closedBy, decide, row, room, fits, WrittenAs, unchanged, wrote, appended}
 use Rattle.conversation.specs.Writing.{heading, messageOf, stageRows, thenFits, offerRows, offering, someLeft, replyMessage, naming, replying, metadataAllowed, metadataMessage, metadataRows, writingMetadata, schemeNow, schemeAllowed, namedRows, askedBy, speaking, spoken, Speech, request, checksum, alarm, kindIn, contentsIn, spokenAs}
 use Rattle.conversation.specs.Reading.{conversationOf, startOf, Judged, whole, halted, chainFor, judged, taken, finish, readingToken}
 use Rattle.conversation.specs.Choosing.{openTo, mayChoose, chose, choosing}
-use Rattle.conversation.specs.Runs.{Sized, Call, offer, reply, metadata, speak, read, choose, End, act, turnAfter, moved, World, world, next, ends}
+use Rattle.conversation.specs.Runs.{Sized, Call, offer, reply, metadata, speak, read, choose, End, act, turnAfter, moved, Opening, World, world, outcomeAt, next, ends, Entry, run}
 use Rattle.conversation.specs.Logs.{messagesIn, added, logged, Logs, nextLogs, logsBehind, Counted, InStep, EveryRun}
+use Rattle.conversation.specs.Claims.{TwelveNeverRun}
 use Rattle.conversation.proofs.Decides.{all-first}
 use Rattle.conversation.proofs.Rows.{decide-out, true-behind}
 use Rattle.conversation.proofs.Tokens.{judged-first, judged-number}
 use Rattle.conversation.proofs.Ends.{ok-distinct, each-whole, sized-at, own-opened, count-joined}
 use Rattle.conversation.proofs.Inside.{told-below, ChosenBelow, admit-chosen, limits-wrote, limits-taken, limits-chose, limits-counts, now-below}
-use Rattle.conversation.proofs.Messages.{FramedFrom, Framed, framed-more, framed-behind, framed-long, framed-order, join-append, join-one, same-messages, same-start, written-framed, judge-keeps, Taken, token-taken}
+use Rattle.conversation.proofs.Messages.{FramedFrom, Framed, framed-more, framed-behind, framed-long, framed-order, join-append, join-one, same-messages, same-start, written-framed, plain-nego, plain-kind, Not12, turn-12, judge-keeps, Taken, token-taken}
 
 -- 1. the invariant of an end
 
@@ -77,6 +79,16 @@ spoken-marks r (request value) = (refl, refl)
 spoken-marks r (checksum type value) = (refl, refl)
 spoken-marks r (alarm code) = (refl, refl)
 
+-- and is no NEGO
+speech-plain : (s : Speech) → eqb (kindIn s) NEGO ≡ false
+speech-plain (request value) = refl
+speech-plain (checksum type value) = refl
+speech-plain (alarm code) = refl
+
+-- a written message has no critical extension
+abbrev Plain : Record → ℕ → Contents → Type 0
+Plain r kind c = criticalOk (contentOf (shapeOf (typeOf (r .acceptor) kind)) (messageOf r kind c)) ≡ true
+
 -- a message, written in any record inside its limits that counts its log: `said` is the end's turn so far
 module _ (r : Record) (d said : List ℕ) (le lf : List (List ℕ)) (ok : Sound r d le) (here : InStep said le lf) where
   used-inside : r .used ≤ length d
@@ -86,12 +98,12 @@ module _ (r : Record) (d said : List ℕ) (le lf : List (List ℕ)) (ok : Sound 
     sound : Sound (wrote r position (length x) w) (put d (r .used) x) (le ++ (x ∷ []))
     turn : InStep (said ++ x) (le ++ (x ∷ [])) lf
 
-  writes-message : (kind position : ℕ) (c : Contents) (w : WrittenAs) → Whole c → below (r .count) (w .marks) ≡ true → below (r .count) (w .told) ≡ true → leb (r .used + length (messageOf r kind c)) (room d) ≡ true → Wrote position (messageOf r kind c) w
-  writes-message kind position c w ids marks told fit =
+  writes-message : (kind position : ℕ) (c : Contents) (w : WrittenAs) → Whole c → below (r .count) (w .marks) ≡ true → below (r .count) (w .told) ≡ true → Plain r kind c → leb (r .used + length (messageOf r kind c)) (room d) ≡ true → Wrote position (messageOf r kind c) w
+  writes-message kind position c w ids marks told plain fit =
       let x : List ℕ = messageOf r kind c in
       let (inside, short) = room-kept (r .used) (length x) d fit in
       let (few, numbers) = limits-counts r (ok .limits) in
-      let a : Framed (r .sequence) x = written-framed (heading r kind) c (type-known (r .acceptor) kind) (omega arith) (ok .talk) ids (omega arith) in
+      let a : Framed (r .sequence) x = written-framed (heading r kind) c (type-known (r .acceptor) kind) (omega arith) (ok .talk) ids (omega arith) plain in
       let u = ok .used in
       let q : r .sequence ≡ 0 + length le = let s = ok .sequence in omega arith in
       let n = length-append (join le) x in
@@ -129,12 +141,13 @@ module _ (e f : End) (le lf : List (List ℕ)) (ok : Sound (e .record-of) (e .tr
     sound : Sound (out .answer .next) (out .transcript) (logged e (f .turn) k out le)
     here-then : InStep (moved e k out .turn) (logged e (f .turn) k out le) lf
     there-then : InStep (f .turn) lf (logged e (f .turn) k out le)
+    unclosed : Not12 (out .answer .refusal)
 
-  stays : (k : Call) (n p : ℕ) → (n ≡ 0 → ⊥) → Goal k (refused r d n p)
-  stays k n p z = record { sound = rw (ne-eqb n 0 z) ok; here-then = rw (ne-eqb n 0 z) here; there-then = rw (ne-eqb n 0 z) there }
+  stays : (k : Call) (n p : ℕ) → (n ≡ 0 → ⊥) → Not12 n → Goal k (refused r d n p)
+  stays k n p z w = record { sound = rw (ne-eqb n 0 z) ok; here-then = rw (ne-eqb n 0 z) here; there-then = rw (ne-eqb n 0 z) there; unclosed = w }
 
-  stopped : (k : Call) (rows : List Row) → without 0 rows ≡ true → (n : ℕ) → FirstFails n rows → Goal k (refused r d n 0)
-  stopped k rows z n g = stays k n 0 (fails-other 0 rows n z g)
+  stopped : (k : Call) (rows : List Row) → without 0 rows ≡ true → without 12 rows ≡ true → (n : ℕ) → FirstFails n rows → Goal k (refused r d n 0)
+  stopped k rows z w n g = stays k n 0 (fails-other 0 rows n z g) (fails-other 12 rows n w g)
 
   -- the other end's log begins as before
   more-there : (ms : List (List ℕ)) → InStep (f .turn) lf (le ++ ms)
@@ -148,23 +161,25 @@ module _ (e f : End) (le lf : List (List ℕ)) (ok : Sound (e .record-of) (e .tr
   }
 
   -- what a writer's table has to give
-  record Given (c : Contents) (w : WrittenAs) : Type 0 where
+  record Given (kind : ℕ) (c : Contents) (w : WrittenAs) : Type 0 where
     whole : Whole c
     marks : below (r .count) (w .marks) ≡ true
     told : below (r .count) (w .told) ≡ true
+    plain : Plain r kind c
 
   writes-call : (k : Call) (kind : ℕ) (rows : List Row) (c : Contents) (w : WrittenAs)
       → added e (f .turn) k ≡ messageOf r kind c ∷ [] → turnAfter e k ≡ e .turn ++ messageOf r kind c
       → without 0 (stageRows r kind ++ thenFits rows r d (messageOf r kind c)) ≡ true
-      → (AllTrue (stageRows r kind ++ thenFits rows r d (messageOf r kind c)) → Given c w)
+      → without 12 (stageRows r kind ++ thenFits rows r d (messageOf r kind c)) ≡ true
+      → (AllTrue (stageRows r kind ++ thenFits rows r d (messageOf r kind c)) → Given kind c w)
       → Goal k (decide (stageRows r kind ++ thenFits rows r d (messageOf r kind c)) r d (appended r d (placeAfter r kind) (messageOf r kind c) w))
-  writes-call k kind rows c w adds turns z given =
+  writes-call k kind rows c w adds turns z y given =
       let table : List Row = stageRows r kind ++ thenFits rows r d (messageOf r kind c) in
-      decide-out (Goal k) table r d (appended r d (placeAfter r kind) (messageOf r kind c) w) (stopped k table z)
+      decide-out (Goal k) table r d (appended r d (placeAfter r kind) (messageOf r kind c) w) (stopped k table z y)
       (λ g.
       let v = given g in
-      let a = writes-message r d (e .turn) le lf ok here kind (placeAfter r kind) c w (v .whole) (v .marks) (v .told) (true-behind (stageRows r kind ++ rows) (fits r d (length (messageOf r kind c))) [] g) in
-      record { sound = rw adds (a .sound); here-then = rw (adds, turns) (a .turn); there-then = rw adds (more-there (messageOf r kind c ∷ [])) })
+      let a = writes-message r d (e .turn) le lf ok here kind (placeAfter r kind) c w (v .whole) (v .marks) (v .told) (v .plain) (true-behind (stageRows r kind ++ rows) (fits r d (length (messageOf r kind c))) [] g) in
+      record { sound = rw adds (a .sound); here-then = rw (adds, turns) (a .turn); there-then = rw adds (more-there (messageOf r kind c ∷ [])); unclosed = λ q. omega arith })
 
   -- marks and told as they were
   marks-here : below (r .count) (r .marks) ≡ true
@@ -176,8 +191,8 @@ module _ (e f : End) (le lf : List (List ℕ)) (ok : Sound (e .record-of) (e .tr
   offers : (random : Sized 32) → Goal (offer random) (offering r d (random .0))
   unfolding offering
   offers random =
-      writes-call (offer random) NEGO (offerRows r) (ofNego (record { random = random .0; schemes = take (16 * r .count) (r .list) })) (unchanged r) refl refl refl
-      (λ g. record { whole = random .1; marks = marks-here; told = told-here })
+      writes-call (offer random) NEGO (offerRows r) (ofNego (record { random = random .0; schemes = take (16 * r .count) (r .list) })) (unchanged r) refl refl refl refl
+      (λ g. record { whole = random .1; marks = marks-here; told = told-here; plain = plain-nego (heading r NEGO) _ _ (ok .talk) (random .1) })
 
   replies : (m : ℕ) (random : Sized 32) → Goal (reply m random) (replying r d m (random .0))
   unfolding replying
@@ -188,21 +203,22 @@ module _ (e f : End) (le lf : List (List ℕ)) (ok : Sound (e .record-of) (e .tr
       let before : List Row = stageRows r NEGO ++ (row 18 (r .acceptor) ∷ []) in
       let last : List Row = row 17 (someLeft l) ∷ fits r d (length x) ∷ [] in
       decide-out (Goal (reply m random)) (before ++ (row 19 (below (r .count) m) ∷ last)) r d (naming l (appended r d (placeAfter r NEGO) x w))
-      (stopped (reply m random) (before ++ (row 19 (below (r .count) m) ∷ last)) refl)
+      (stopped (reply m random) (before ++ (row 19 (below (r .count) m) ∷ last)) refl refl)
       (λ g.
-      let a = writes-message r d (e .turn) le lf ok here NEGO (placeAfter r NEGO) (ofNego (record { random = random .0; schemes = joinIds l })) w (random .1) (true-behind before (row 19 (below (r .count) m)) last g) told-here
+      let a = writes-message r d (e .turn) le lf ok here NEGO (placeAfter r NEGO) (ofNego (record { random = random .0; schemes = joinIds l })) w (random .1) (true-behind before (row 19 (below (r .count) m)) last g) told-here (plain-nego (heading r NEGO) _ _ (ok .talk) (random .1))
       (true-behind (before ++ (row 19 (below (r .count) m) ∷ row 17 (someLeft l) ∷ [])) (fits r d (length x)) [] g) in
-      record { sound = a .sound; here-then = a .turn; there-then = more-there (x ∷ []) })
+      record { sound = a .sound; here-then = a .turn; there-then = more-there (x ∷ []); unclosed = λ q. omega arith })
 
   tells : (id : Sized 16) (value : List ℕ) → Goal (metadata id value) (writingMetadata r d (id .0) value)
   unfolding writingMetadata
   tells id value =
       writes-call (metadata id value) METADATA (metadataRows r (id .0) (length value)) (ofExchange (record { scheme = id .0; value = value }))
-      (record { marks = r .marks; told = r .told + 2 ^ place (ownOf r) (id .0); asked = r .asked; verified = r .verified }) refl refl refl
+      (record { marks = r .marks; told = r .told + 2 ^ place (ownOf r) (id .0); asked = r .asked; verified = r .verified }) refl refl refl refl
       (λ g. record {
         whole = id .1;
         marks = marks-here;
         told = told-below r (id .0) (true-behind (stageRows r METADATA ++ (row 19 (leb 1 (length value)) ∷ [])) (row 15 (metadataAllowed r (id .0))) (fits r d (length (metadataMessage r (id .0) value)) ∷ []) g) told-here;
+        plain = plain-kind (r .acceptor) METADATA _ refl;
       })
 
   -- the rule's scheme has 16 octets
@@ -212,11 +228,12 @@ module _ (e f : End) (le lf : List (List ℕ)) (ok : Sound (e .record-of) (e .tr
   speaks : (s : Speech) → Goal (speak s) (speaking r d s)
   unfolding speaking
   speaks s =
-      writes-call (speak s) (kindIn s) (namedRows r) (contentsIn (schemeAt r (schemeNow r)) s) (spokenAs r s) refl refl refl
+      writes-call (speak s) (kindIn s) (namedRows r) (contentsIn (schemeAt r (schemeNow r)) s) (spokenAs r s) refl refl refl refl
       (λ g. record {
         whole = whole-speech s (schemeAt r (schemeNow r)) (now-whole (kindIn s) (fits r d (length (spoken r s)) ∷ []) g);
         marks = subst (λ (m : ℕ). below (r .count) m ≡ true) (sym (spoken-marks r s .0)) marks-here;
         told = subst (λ (m : ℕ). below (r .count) m ≡ true) (sym (spoken-marks r s .1)) told-here;
+        plain = plain-kind (r .acceptor) (kindIn s) _ (speech-plain s);
       })
 
   -- 3. a token, read
@@ -285,18 +302,28 @@ module _ (e f : End) (le lf : List (List ℕ)) (ok : Sound (e .record-of) (e .tr
     begins = all-there n (token-taken r t n c w) ∙ sym (append-nil (le ++ ms));
   }
 
+  -- no limit looks at the stage
+  shut-sound : (n : ℕ) → Sound (closedBy n r) d le
+  shut-sound n = elim (which (eqb n 12)) [
+    | inl h ↦ rw h (record { limits = ok .limits; ids = ok .ids; talk = ok .talk; framed = ok .framed; used = ok .used; sequence = ok .sequence; transcript = ok .transcript })
+    | inr h ↦ rw h ok
+  ]
+
   reading-call : Goal read (readingToken r d t)
   unfolding readingToken
   reading-call =
       let rows : List Row = limitRows r ++ (row 18 (mayRead r) ∷ row 1 (leb (length t) 65535) ∷ []) in
       decide-out (Goal read) rows r d (finish r d t (judged r t))
-      (stopped read rows refl)
+      (stopped read rows refl refl)
       (λ g. token (judged r t) refl) where
         token : (j : Judged) → judged r t ≡ j → Goal read (finish r d t j)
-        token (halted n p) w = unfold finish in stays read n p (judged-number r t n p w .0)
+        token (halted n p) w = unfold finish in (
+            let z = turn-12 r t (0 + length (there .shared)) (there .own) (framed-behind 0 (there .shared) (there .own) (subst (FramedFrom 0) (there .parts) (ok′ .framed))) (there .written) n p w in
+            let y = ne-eqb n 0 (judged-number r t n p w .0) in
+            record { sound = rw y (shut-sound n); here-then = rw y here; there-then = rw y there; unclosed = z })
         token (whole n c) w = unfold finish in elim (which (leb (r .used + length t) (room d))) [
-          | inr b ↦ rw b (stays read 16 0 (λ z. omega arith))
-          | inl b ↦ rw b (record { sound = reads-token n c w b; here-then = read-here n c w; there-then = more-there ms })
+          | inr b ↦ rw b (stays read 16 0 (λ z. omega arith) (λ z. omega arith))
+          | inl b ↦ rw b (record { sound = reads-token n c w b; here-then = read-here n c w; there-then = more-there ms; unclosed = λ z. omega arith })
         ]
 
   -- 4. the choice
@@ -307,7 +334,7 @@ module _ (e f : End) (le lf : List (List ℕ)) (ok : Sound (e .record-of) (e .tr
       let last : List Row = row 17 (someLeft (named (ownOf r) (openTo r m))) ∷ [] in
       let rows : List Row = limitRows r ++ (row 18 (mayChoose r) ∷ row 19 (below (r .count) m) ∷ last) in
       decide-out (Goal (choose m)) rows r d (naming (named (ownOf r) (openTo r m)) (record { answer = answered 0 0 (chose r m); transcript = d }))
-      (stopped (choose m) rows refl)
+      (stopped (choose m) rows refl refl)
       (λ g.
       let role : r .acceptor ≡ false = not-true _ (and-l (not (r .acceptor)) (eqb (r .stage) 2) (true-behind (limitRows r) (row 18 (mayChoose r)) (row 19 (below (r .count) m) ∷ last) g)) in
       let marks : below (r .count) m ≡ true = true-behind (limitRows r ++ (row 18 (mayChoose r) ∷ [])) (row 19 (below (r .count) m)) last g in
@@ -320,7 +347,7 @@ module _ (e f : End) (le lf : List (List ℕ)) (ok : Sound (e .record-of) (e .tr
         sequence = ok .sequence;
         transcript = ok .transcript;
       } in
-      record { sound = rw (append-nil le) s; here-then = rw (append-nil le) here; there-then = rw (append-nil le) there })
+      record { sound = rw (append-nil le) s; here-then = rw (append-nil le) here; there-then = rw (append-nil le) there; unclosed = λ z. omega arith })
 
   goal : (k : Call) → Goal k (act e (f .turn) k)
   unfolding act
@@ -339,17 +366,26 @@ record Both (w : World) (l : Logs) : Type 0 where
   i-steps : InStep (w .i .turn) (l .i) (l .a)
   a-steps : InStep (w .a .turn) (l .a) (l .i)
 
-both-next : (w : World) (l : Logs) → Both w l → (x : Bool) (k : Call) → Both (next w x k) (nextLogs w x k l)
+both-next : (w : World) (l : Logs) → Both w l → (x : Bool) (k : Call) → Both (next w x k) (nextLogs w x k l) × Not12 (outcomeAt w x k .answer .refusal)
 both-next w l b false k =
     let g = goal (w .i) (w .a) (l .i) (l .a) (b .i) (b .a) (b .i-steps) (b .a-steps) k in
-    record { i = g .sound; a = b .a; i-steps = g .here-then; a-steps = g .there-then }
+    (record { i = g .sound; a = b .a; i-steps = g .here-then; a-steps = g .there-then }, g .unclosed)
 both-next w l b true k =
     let g = goal (w .a) (w .i) (l .a) (l .i) (b .a) (b .i) (b .a-steps) (b .i-steps) k in
-    record { i = b .i; a = g .sound; i-steps = g .there-then; a-steps = g .here-then }
+    (record { i = b .i; a = g .sound; i-steps = g .there-then; a-steps = g .here-then }, g .unclosed)
 
 both-behind : (w : World) (l : Logs) → Both w l → (cs : List (Bool × Call)) → Both (ends w cs) (logsBehind w l cs)
 both-behind w l b [] = b
-both-behind w l b (c ∷ cs) = both-behind (next w (c .0) (c .1)) (nextLogs w (c .0) (c .1) l) (both-next w l b (c .0) (c .1)) cs
+both-behind w l b (c ∷ cs) = both-behind (next w (c .0) (c .1)) (nextLogs w (c .0) (c .1) l) (both-next w l b (c .0) (c .1) .0) cs
+
+run-12 : (w : World) (l : Logs) → Both w l → (cs : List (Bool × Call)) (x : Entry) → List·Memᴰ x (run w cs) → Not12 (x .said .refusal)
+run-12 w l b [] x m = absurd (List·Memᴰ·not-nil m)
+run-12 w l b (c ∷ cs) x m =
+    let n = both-next w l b (c .0) (c .1) in
+    elim (List·Memᴰ·cases-cons m) [
+      | inl e ↦ subst (λ (y : Entry). Not12 (y .said .refusal)) (sym e) (n .1)
+      | inr i ↦ run-12 (next w (c .0) (c .1)) (nextLogs w (c .0) (c .1) l) (n .0) cs x i
+    ]
 
 -- a fresh record
 sound-fresh : (a : Bool) (l : List Id) (v d : List ℕ) → ((s : Id) → List·Memᴰ s l → length s ≡ 16) → oneTo16 l ≡ true → length v ≡ 16 → Sound (fresh a (joinIds l) v) d []
@@ -393,13 +429,18 @@ counted r d log s = record {
   transcript = s .transcript;
 }
 
+both-opened : (o : Opening) → Both (world o) (record { i = []; a = [] })
+both-opened o = record {
+  i = sound-fresh false (o .initiator) (o .conversation .0) (o .initiator-buffer) (each-whole (o .initiator) (o .initiator-whole)) (o .initiator-ok) (o .conversation .1);
+  a = sound-fresh true (o .acceptor) zeroId (o .acceptor-buffer) (each-whole (o .acceptor) (o .acceptor-whole)) (o .acceptor-ok) refl;
+  i-steps = record { shared = []; own = []; beyond = []; parts = refl; written = refl; begins = refl };
+  a-steps = record { shared = []; own = []; beyond = []; parts = refl; written = refl; begins = refl };
+}
+
 pub every-run : EveryRun
 every-run o cs =
-    let b = both-behind (world o) (record { i = []; a = [] })
-    (record {
-      i = sound-fresh false (o .initiator) (o .conversation .0) (o .initiator-buffer) (each-whole (o .initiator) (o .initiator-whole)) (o .initiator-ok) (o .conversation .1);
-      a = sound-fresh true (o .acceptor) zeroId (o .acceptor-buffer) (each-whole (o .acceptor) (o .acceptor-whole)) (o .acceptor-ok) refl;
-      i-steps = record { shared = []; own = []; beyond = []; parts = refl; written = refl; begins = refl };
-      a-steps = record { shared = []; own = []; beyond = []; parts = refl; written = refl; begins = refl };
-    }) cs in
+    let b = both-behind (world o) (record { i = []; a = [] }) (both-opened o) cs in
     record { initiator = counted _ _ _ (b .i); acceptor = counted _ _ _ (b .a); initiator-in-step = b .i-steps; acceptor-in-step = b .a-steps }
+
+pub twelve-never-run : TwelveNeverRun
+twelve-never-run o cs x m = run-12 (world o) (record { i = []; a = [] }) (both-opened o) cs x m

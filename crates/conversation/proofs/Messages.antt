@@ -2,33 +2,40 @@
 -- Assumes nothing.
 use Prim.Native.Nat.{ℕ, zero, suc, _+_, _*_, _-_, _≤_, _<_}
 use mathlib.Core.Path.{_≡_, refl, sym, ap, subst, _∙_}
-use mathlib.Core.Bool.{true, false}
+use mathlib.Core.Bool.{Bool, true, false, cond}
 use mathlib.Core.Logic.{_⊎_, inl, inr}
 use mathlib.Core.List.{List, [], _∷_, _++_, append-assoc, append-nil}
 use native.Mathlib.Nat.{add-zero}
 use native.Mathlib.Omega.{arith}
 use lib.ListN.{length, take, drop, length-append, take-append-drop}
-use lib.Seq.{take-at, drop-at, drop-nil}
+use lib.Seq.{take-at, take-length, drop-at, drop-nil}
+use lib.Dec.{eqb}
 use borrow.Author.Tests.{ne-eqb}
-use Rattle.octets.proofs.Bools.{which}
-use Rattle.message.specs.Layout.{Head, shapeOf, headerOf, headOf, size, front}
-use Rattle.message.specs.Check.{SIGNATURE}
-use Rattle.token.specs.Token.{passes, Chain, end, refused as cutAt, message, chainOf}
-use Rattle.token.specs.Split.{Numbered, join}
-use Rattle.token.proofs.Cuts.{passes-sized, drop-one}
+use Rattle.octets.specs.Octets.{le}
+use Rattle.octets.proofs.Bools.{which, no-true}
+use Rattle.message.specs.Layout.{Head, Shape, nego, exchange, verify, alert, shapeOf, headerOf, headOf, elementsAt, contentOf, vectorsOf, size, front}
+use Rattle.message.specs.Check.{SIGNATURE, Row, FirstFails, commonRows, versionOk, allKeepRule, noneCritical, criticalOk, checksumOk, contentRows, bodyRows, frontRows}
+use Rattle.message.proofs.Tables.{AllTrue, given, refuses-first, without}
+use Rattle.token.specs.Token.{orderRows, nextRows, passes, Chain, end, refused as cutAt, message, chainOf}
+use Rattle.token.specs.Split.{Message, Numbered, join}
+use Rattle.token.proofs.Cuts.{passes-sized, drop-one, turn-pass, turn-fail}
 use Rattle.token.proofs.Splits.{front-message, message-head, message-order, message-length}
 use Rattle.put.specs.Put.{joined}
 use Rattle.put.proofs.Laws.{joined-append}
 use Rattle.encode.specs.declared.Heading.{Heading}
-use Rattle.encode.specs.Encode.{Whole, Contents, ofNego, ofExchange, ofVerify, ofAlert, sizeOf, headFields, bodyFields, encoded}
+use Rattle.encode.specs.Encode.{Offer, Whole, Contents, ofNego, ofExchange, ofVerify, ofAlert, sizeOf, headFields, bodyFields, encoded}
 use Rattle.encode.proofs.Sizes.{length-encoded}
+use Rattle.roundtrip.proofs.Fields.{number-at}
 use Rattle.roundtrip.proofs.Heads.{head-fields}
 use Rattle.conversation.specs.declared.Record.{Record}
 use Rattle.conversation.specs.declared.Scan.{Scan}
+use Rattle.conversation.specs.Turns.{NEGO, typeOf}
+use Rattle.conversation.specs.Outcomes.{row}
 use Rattle.conversation.specs.Admitting.{Admitted, on, stop, admit}
 use Rattle.conversation.specs.Reading.{conversationOf, startOf, whole, halted, judge, chainFor, judged}
 use Rattle.conversation.specs.Logs.{messagesIn, InOrder}
-use Rattle.conversation.proofs.Tokens.{empty-judged}
+use Rattle.conversation.proofs.Rows.{fails-one, true-behind}
+use Rattle.conversation.proofs.Tokens.{empty-judged, Numbers, judged-numbers}
 
 -- 1. a message, whatever follows it
 
@@ -36,6 +43,7 @@ pub record Framed (q : ℕ) (m : List ℕ) : Type 0 where
   pub long : 64 ≤ length m
   pub exact : (rest : List ℕ) → size (m ++ rest) ≡ length m
   pub number : (rest : List ℕ) → headOf (m ++ rest) .sequence ≡ q
+  pub plain : (rest : List ℕ) → criticalOk (contentOf (shapeOf (headOf (m ++ rest) .kind)) m) ≡ true
 
 -- messages numbered on from q
 abbrev pub FramedFrom : ℕ → List (List ℕ) → Type 0
@@ -110,7 +118,8 @@ least (ofExchange p) = omega arith
 least (ofVerify k) = omega arith
 least (ofAlert p) = omega arith
 
-module _ (h : Heading) (c : Contents) (known : h .kind .0 ≤ 7) (number : h .sequence < 4294967296) (id : length (h .conversation) ≡ 16) (w : Whole c) (short : length (encoded h c) ≤ 65535) where
+module _ (h : Heading) (c : Contents) (known : h .kind .0 ≤ 7) (number : h .sequence < 4294967296) (id : length (h .conversation) ≡ 16) (w : Whole c) (short : length (encoded h c) ≤ 65535)
+    (plain : criticalOk (contentOf (shapeOf (h .kind .0)) (encoded h c)) ≡ true) where
   head-written : (rest : List ℕ) → headOf (encoded h c ++ rest) ≡ record { signature = SIGNATURE; kind = h .kind .0; sequence = h .sequence; header = headerOf (shapeOf (h .kind .0)); length = sizeOf c; conversation = h .conversation }
   unfolding encoded
   head-written rest =
@@ -126,9 +135,62 @@ module _ (h : Heading) (c : Contents) (known : h .kind .0 ≤ 7) (number : h .se
         long = omega (arith, least c);
         exact = λ rest. ap (λ (g : Head). g .length) (head-written rest) ∙ sym n;
         number = λ rest. ap (λ (g : Head). g .sequence) (head-written rest);
+        plain = λ rest. ap (λ (g : Head). criticalOk (contentOf (shapeOf (g .kind)) (encoded h c))) (head-written rest) ∙ plain;
       }
 
+-- a written NEGO has no extension, and no other kind of message has any
+none-written : (h : Heading) (o : Offer) → length (h .conversation) ≡ 16 → length (o .random) ≡ 32 → le 2 (encoded h (ofNego o)) 92 ≡ 0
+unfolding encoded
+none-written h o id w = number-at 12 92 (headFields h (sizeOf (ofNego o)) ++ bodyFields (ofNego o)) (simp (length-append, id, w)) 2 0 _ refl (omega arith)
+
+pub plain-nego : (h : Heading) (o : Offer) (s : Shape) → length (h .conversation) ≡ 16 → Whole (ofNego o) → criticalOk (contentOf s (encoded h (ofNego o))) ≡ true
+unfolding contentOf elementsAt noneCritical
+plain-nego h o nego id w = simp (none-written h o id w)
+plain-nego h o exchange id w = refl
+plain-nego h o verify id w = refl
+plain-nego h o alert id w = refl
+
+pub plain-kind : (a : Bool) (kind : ℕ) (m : List ℕ) → eqb kind NEGO ≡ false → criticalOk (contentOf (shapeOf (typeOf a kind)) m) ≡ true
+unfolding typeOf shapeOf contentOf
+plain-kind true kind m e = rw e (go (eqb kind 2) (eqb kind 3) (eqb kind 4)) where
+  go : (x y z : Bool) → criticalOk (contentOf (shapeOf (cond x 3 (cond y 4 (cond z 6 7)))) m) ≡ true
+  go true y z = refl
+  go false true z = refl
+  go false false true = refl
+  go false false false = refl
+plain-kind false kind m e = rw e (go (eqb kind 2) (eqb kind 3) (eqb kind 4)) where
+  go : (x y z : Bool) → criticalOk (contentOf (shapeOf (cond x 2 (cond y 5 (cond z 6 7)))) m) ≡ true
+  go true y z = refl
+  go false true z = refl
+  go false false true = refl
+  go false false false = refl
+
 -- 4. the messages of a token that is read
+
+-- the row of 12 in a message's table, between those before it and the one behind it
+abbrev before-12 : List ℕ → ℕ → List ℕ → List Row
+before-12 s q v =
+    commonRows (length s) (headOf s)
+    ++ (orderRows (headOf s) q v
+    ++ (row 10 (versionOk (contentOf (shapeOf (headOf s .kind)) (front s)))
+    ∷ row 11 (allKeepRule (headerOf (shapeOf (headOf s .kind))) (size s) (vectorsOf (contentOf (shapeOf (headOf s .kind)) (front s))))
+    ∷ []))
+
+abbrev critical-row : List ℕ → Bool
+critical-row s = criticalOk (contentOf (shapeOf (headOf s .kind)) (front s))
+
+abbrev behind-12 : List ℕ → List Row
+behind-12 s = row 13 (checksumOk (contentOf (shapeOf (headOf s .kind)) (front s))) ∷ []
+
+next-12 : (s : List ℕ) (q : ℕ) (v : List ℕ) → nextRows s q v ≡ before-12 s q v ++ (row 12 (critical-row s) ∷ behind-12 s)
+unfolding nextRows commonRows orderRows frontRows bodyRows contentRows
+next-12 s q v = refl
+
+passed-plain : (q : ℕ) (v m : List ℕ) → Message q v m → criticalOk (contentOf (shapeOf (headOf m .kind)) m) ≡ true
+passed-plain q v m e =
+    let all : AllTrue (before-12 m q v ++ (row 12 (critical-row m) ∷ behind-12 m)) = subst AllTrue (next-12 m q v) (given (nextRows m q v) (e .pass)) in
+    let is : front m ≡ m = ap (λ (k : ℕ). take k m) (e .exact) ∙ take-length m in
+    subst (λ (f : List ℕ). criticalOk (contentOf (shapeOf (headOf m .kind)) f) ≡ true) is (true-behind (before-12 m q v) (row 12 (critical-row m)) (behind-12 m) all)
 
 pub numbered-framed : (q : ℕ) (v : List ℕ) (ms : List (List ℕ)) → Numbered q v ms → FramedFrom q ms
 numbered-framed q v [] e = tt
@@ -137,6 +199,7 @@ numbered-framed q v (m ∷ ms) e = (
     long = message-length q v m (e .0);
     exact = λ rest. ap (λ (g : Head). g .length) (message-head q v m rest (e .0)) ∙ e .0 .exact;
     number = λ rest. ap (λ (g : Head). g .sequence) (message-head q v m rest (e .0)) ∙ message-order q v m (e .0) .0;
+    plain = λ rest. ap (λ (g : Head). criticalOk (contentOf (shapeOf (g .kind)) m)) (message-head q v m rest (e .0)) ∙ passed-plain q v m (e .0);
   },
   numbered-framed (q + 1) v ms (e .1),
 )
@@ -213,3 +276,41 @@ token-taken r (x ∷ t) n c e =
       framed = subst (λ (h : Chain). FramedFrom (r .sequence) (messagesIn h)) (sym is) (numbered-framed (r .sequence) v (messagesIn (chainOf (x ∷ t) 0 0 (r .sequence) v)) (g .numbered));
       count = let h = k .count in omega arith;
     }
+
+-- 5. messages that are written are never refused with 12
+
+abbrev pub Not12 : ℕ → Type 0
+Not12 n = n ≡ 12 → ⊥
+
+without-12 : (s : List ℕ) (q : ℕ) (v : List ℕ) → without 12 (before-12 s q v) ≡ true
+unfolding commonRows orderRows
+without-12 s q v = refl
+
+never-12 : (m rest : List ℕ) (p q : ℕ) (v : List ℕ) → Framed p m → (n : ℕ) → FirstFails n (nextRows (m ++ rest) q v) → Not12 n
+never-12 m rest p q v f n g e =
+    let s : List ℕ = m ++ rest in
+    let h : FirstFails n (before-12 s q v ++ (row 12 (critical-row s) ∷ behind-12 s)) = subst (FirstFails n) (next-12 s q v) g in
+    let is : front s ≡ m = ap (λ (k : ℕ). take k s) (f .exact rest) ∙ take-at m rest (length m) refl in
+    let plain : critical-row s ≡ true = ap (λ (l : List ℕ). criticalOk (contentOf (shapeOf (headOf s .kind)) l)) is ∙ f .plain rest in
+    no-true (sym (fails-one 12 (before-12 s q v) (critical-row s) (behind-12 s) n (without-12 s q v) refl h e .1) ∙ plain)
+
+chain-12 : (p : ℕ) (ms : List (List ℕ)) → FramedFrom p ms → (place q : ℕ) (v : List ℕ) → Numbers Not12 (chainOf (join ms) 0 place q v)
+chain-12 p [] f place q v = unfold chainOf in tt
+chain-12 p (m ∷ ms) f place q v = go (which (passes (m ++ join ms) q v)) (chain-12 (p + 1) ms (f .1) (place + length m) (q + 1) v) where
+  go : (passes (m ++ join ms) q v ≡ true) ⊎ (passes (m ++ join ms) q v ≡ false) → Numbers Not12 (chainOf (join ms) 0 (place + length m) (q + 1) v) → Numbers Not12 (chainOf (m ++ join ms) 0 place q v)
+  go (inl e) ih =
+      let z : size (m ++ join ms) ≡ length m = f .0 .exact (join ms) in
+      let same : chainOf (drop (size (m ++ join ms)) (m ++ join ms)) 0 (place + size (m ++ join ms)) (q + 1) v ≡ chainOf (join ms) 0 (place + length m) (q + 1) v =
+      ap (λ (k : ℕ). chainOf (drop k (m ++ join ms)) 0 (place + k) (q + 1) v) z ∙ ap (λ (l : List ℕ). chainOf l 0 (place + length m) (q + 1) v) (drop-at m (join ms) (length m) refl) in
+      subst (Numbers Not12) (sym (turn-pass place q v (m ++ join ms) e)) (subst (Numbers Not12) (sym same) ih)
+  go (inr e) ih =
+      let some : 0 < length (m ++ join ms) = (let l = f .0 .long in omega (arith, length-append m (join ms))) in
+      subst (Numbers Not12) (sym (turn-fail place q v (m ++ join ms) some e)) (never-12 m (join ms) p q v (f .0) _ (refuses-first (nextRows (m ++ join ms) q v) e))
+
+pub turn-12 : (r : Record) (t : List ℕ) (p : ℕ) (ms : List (List ℕ)) → FramedFrom p ms → join ms ≡ t → (n place : ℕ) → judged r t ≡ halted n place → Not12 n
+turn-12 r t p ms f is n place e = judged-numbers Not12 (λ z. omega arith) (λ z. omega arith) r t (numbers t is) n place e where
+  numbers : (s : List ℕ) → join ms ≡ s → Numbers Not12 (chainFor r s)
+  numbers [] is = λ z. omega arith
+  numbers (x ∷ s) is =
+      let some : length (x ∷ s) ≡ 0 → ⊥ = λ z. omega arith in
+      rw (ne-eqb _ _ some) (subst (λ (l : List ℕ). Numbers Not12 (chainOf l 0 0 (r .sequence) (conversationOf r (x ∷ s)))) is (chain-12 p ms f 0 (r .sequence) (conversationOf r (x ∷ s))))

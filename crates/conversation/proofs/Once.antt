@@ -16,9 +16,9 @@ use Rattle.schemes.specs.Sets.{left, named, below}
 use Rattle.conversation.specs.declared.Record.{Record}
 use Rattle.conversation.specs.declared.Answer.{Answer}
 use Rattle.conversation.specs.declared.Scan.{Scan}
-use Rattle.conversation.specs.State.{ownOf, limitRows}
+use Rattle.conversation.specs.State.{closed, ownOf, limitRows}
 use Rattle.conversation.specs.Turns.{NEGO, METADATA, EXCHANGE, VERIFY, ALERT, writing, reading, after, writes, placeAfter, mayWrite}
-use Rattle.conversation.specs.Outcomes.{Outcome, answered, refused, decide, row, room, fits, WrittenAs, appended, wrote}
+use Rattle.conversation.specs.Outcomes.{Outcome, answered, refused, closedBy, decide, row, room, fits, WrittenAs, appended, wrote}
 use Rattle.conversation.specs.Writing.{stageRows, thenFits, offered, offerRows, offering, someLeft, replyMessage, replyRows, naming, replying, metadataMessage, metadataRows, writingMetadata, namedRows, speaking, spoken, Speech, request, checksum, alarm, kindIn, spokenAs}
 use Rattle.conversation.specs.Reading.{Judged, whole, halted, judged, taken, finish, tokenRows, readingToken}
 use Rattle.conversation.specs.Choosing.{openTo, mayChoose, choiceRows, chose, choosing}
@@ -31,10 +31,10 @@ use Rattle.conversation.proofs.Tokens.{judged-number}
 
 -- 1. a call with marks
 
--- the acceptor's NEGO is written; the initiator has chosen
+-- the acceptor's NEGO is written; the initiator has chosen; or the record is closed
 abbrev Spent : Bool → Record → Type 0
-Spent true r = ((r .stage ≡ 1) × (1 ≤ r .position)) ⊎ (r .stage ≡ 3)
-Spent false r = r .stage ≡ 3
+Spent true r = ((r .stage ≡ 1) × (1 ≤ r .position)) ⊎ ((r .stage ≡ 3) ⊎ (r .stage ≡ 4))
+Spent false r = (r .stage ≡ 3) ⊎ (r .stage ≡ 4)
 
 -- behind the call k at an end of the role x: the role is kept, what is spent stays so, and an accepted call with marks spends
 record Behind (x : Bool) (r : Record) (k : Call) (a : Answer) : Type 0 where
@@ -85,7 +85,8 @@ module _ (x : Bool) (r : Record) (d : List ℕ) (role : r .acceptor ≡ x) where
       (spent st (z .1), inl (st, positive (placeAfter r NEGO) h)) where
         spent : r .stage ≡ 1 → r .position ≡ 0 → Spent true r → ⊥
         spent st p (inl s) = omega (arith, s .1)
-        spent st p (inr s) = omega arith
+        spent st p (inr (inl s)) = omega arith
+        spent st p (inr (inr s)) = omega arith
 
   write-reply : (m : ℕ) (random : Sized 32) → Goes (reply m random) (replying r d m (random .0))
   unfolding replying
@@ -107,7 +108,7 @@ module _ (x : Bool) (r : Record) (d : List ℕ) (role : r .acceptor ≡ x) where
   chosen true e h m = no-true (rw e at h)
   chosen false e h m =
       let st : r .stage ≡ 2 = eqb-true _ _ (and-r (not (r .acceptor)) (eqb (r .stage) 2) h) in
-      ((λ s. refl), ((λ s. omega arith), refl))
+      ((λ s. inl refl), ((λ s. elim s [ inl a ↦ omega arith | inr a ↦ omega arith ]), inl refl))
 
   choose-goes : (m : ℕ) → Goes (choose m) (choosing r d m)
   unfolding choosing
@@ -120,9 +121,22 @@ module _ (x : Bool) (r : Record) (d : List ℕ) (role : r .acceptor ≡ x) where
   -- a later token is read into stage 3
   taken-stays : (b : Bool) → r .acceptor ≡ b → (t : List ℕ) (n : ℕ) (c : Scan) → Spent b r → Spent b (taken r t n c)
   unfolding reading
-  taken-stays true e t n c (inl s) = inr (rw (e, s .0))
-  taken-stays true e t n c (inr s) = inr (rw (e, s))
-  taken-stays false e t n c s = rw (e, s)
+  taken-stays true e t n c (inl s) = inr (inl (rw (e, s .0)))
+  taken-stays true e t n c (inr (inl s)) = inr (inl (rw (e, s)))
+  taken-stays true e t n c (inr (inr s)) = inr (inr (rw (e, s)))
+  taken-stays false e t n c (inl s) = inl (rw (e, s))
+  taken-stays false e t n c (inr s) = inr (rw (e, s))
+
+  -- a record that closes is spent
+  shut : (b : Bool) → Spent b (closed r)
+  shut true = inr (inr refl)
+  shut false = inr refl
+
+  halted-goes : (n p : ℕ) → (n ≡ 0 → ⊥) → Goes read (refused (closedBy n r) d n p)
+  halted-goes n p z = elim (which (eqb n 12)) [
+    | inl h ↦ rw h (record { role = role; stays = λ s. shut x; spends = λ m a. no-true m })
+    | inr h ↦ rw h (refusal read n p z)
+  ]
 
   read-goes : (t : List ℕ) → Goes read (readingToken r d t)
   unfolding readingToken
@@ -130,7 +144,7 @@ module _ (x : Bool) (r : Record) (d : List ℕ) (role : r .acceptor ≡ x) where
       let rows : List Row = limitRows r ++ tokenRows r (length t) in
       decide-out (Goes read) rows r d (finish r d t (judged r t)) (stopped read rows refl) (λ g. token (judged r t) refl) where
         token : (j : Judged) → judged r t ≡ j → Goes read (finish r d t j)
-        token (halted n p) w = unfold finish in refusal read n p (judged-number r t n p w .0)
+        token (halted n p) w = unfold finish in halted-goes n p (judged-number r t n p w .0)
         token (whole n c) w = unfold finish in elim (which (leb (r .used + length t) (room d))) [
           | inl b ↦ rw b (record { role = role; stays = taken-stays x role t n c; spends = λ m a. no-true m })
           | inr b ↦ rw b (refusal read 16 0 (λ z. omega arith))
@@ -251,7 +265,7 @@ module _ (e : End) (peer : List ℕ) where
 
   finish-verified : (j : Judged) → r .verified ≡ true → finish r d peer j .answer .next .verified ≡ true
   unfolding finish
-  finish-verified (halted n p) h = h
+  finish-verified (halted n p) h = elim (which (eqb n 12)) [ inl b ↦ rw b h | inr b ↦ rw b h ]
   finish-verified (whole n c) h = elim (which (leb (r .used + length peer) (room d))) [ inl b ↦ rw b h | inr b ↦ rw b h ]
 
   still-verified : (q : Record) (s : Speech) → q .verified ≡ true → spokenAs q s .verified ≡ true

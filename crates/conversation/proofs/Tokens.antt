@@ -22,7 +22,7 @@ use Rattle.conversation.specs.declared.Record.{Record}
 use Rattle.conversation.specs.declared.Scan.{Scan}
 use Rattle.conversation.specs.Turns.{kindOf, after, reads}
 use Rattle.conversation.specs.Admitting.{listedBy, schemeIn, Admitted, on, stop, orStop, schemeFits, passed, admit}
-use Rattle.conversation.specs.Reading.{conversationOf, startOf, Judged, whole, halted, thenJudge, judge, judged}
+use Rattle.conversation.specs.Reading.{conversationOf, startOf, Judged, whole, halted, thenJudge, judge, chainFor, judged}
 use lib.Seq.{take-take, length-take-le}
 
 -- what begins with a NEGO of a type and a list, whatever follows: all that demand 3 asks of octets
@@ -88,44 +88,55 @@ rows-0 s q v = refl
 abbrev pub Other : ℕ → Type 0
 Other n = (n ≡ 0 → ⊥) × ((n ≡ 17 → ⊥) × (n ≡ 9 → ⊥))
 
--- every refusal of a chain has such a number
-abbrev Numbers : Chain → Type 0
-Numbers end = Unit {0}
-Numbers (cutAt n p) = Other n
-Numbers (message m ms) = Numbers ms
+-- every number that refuses a message of a chain has P
+abbrev pub Numbers : (ℕ → Type 0) → Chain → Type 0
+Numbers P end = Unit {0}
+Numbers P (cutAt n p) = P n
+Numbers P (message m ms) = Numbers P ms
 
-chain-numbers : (xs : List ℕ) (k place q : ℕ) (v : List ℕ) → Numbers (chainOf xs k place q v)
+chain-numbers : (xs : List ℕ) (k place q : ℕ) (v : List ℕ) → Numbers Other (chainOf xs k place q v)
 unfolding chainOf
 chain-numbers [] k place q v = tt
 chain-numbers (x ∷ xs) (suc k) place q v = chain-numbers xs k place q v
 chain-numbers (x ∷ xs) zero place q v = go (which (passes (x ∷ xs) q v)) (chain-numbers xs (size (x ∷ xs) - 1) (place + size (x ∷ xs)) (q + 1) v) where
-  go : (passes (x ∷ xs) q v ≡ true) ⊎ (passes (x ∷ xs) q v ≡ false) → Numbers (chainOf xs (size (x ∷ xs) - 1) (place + size (x ∷ xs)) (q + 1) v) → Numbers (chainOf (x ∷ xs) 0 place q v)
+  go : (passes (x ∷ xs) q v ≡ true) ⊎ (passes (x ∷ xs) q v ≡ false) → Numbers Other (chainOf xs (size (x ∷ xs) - 1) (place + size (x ∷ xs)) (q + 1) v) → Numbers Other (chainOf (x ∷ xs) 0 place q v)
   go (inl p) ih = rw p ih
   go (inr p) ih =
       let f = refuses-first (nextRows (x ∷ xs) q v) p in
       let rows = nextRows (x ∷ xs) q v in
       rw p (fails-other 0 rows _ (rows-0 (x ∷ xs) q v) f, (fails-other 17 rows _ (rows-17 (x ∷ xs) q v) f, fails-other 9 rows _ (rows-9 (x ∷ xs) q v) f))
 
-admit-number : (r : Record) (t : List ℕ) (c : Scan) (m : List ℕ) (n : ℕ) → admit r t c m ≡ stop n → Other n
-unfolding admit
-admit-number r t c m n e = go (not (eqb (after (reads r) (c .position) (c .heard) (kindOf (not (r .acceptor)) (headOf m .kind))) 0)) (schemeFits r t c (kindOf (not (r .acceptor)) (headOf m .kind)) (schemeIn m)) e where
-  go : (a b : Bool) → orStop a 14 (orStop b 15 (on (passed r c (kindOf (not (r .acceptor)) (headOf m .kind)) (after (reads r) (c .position) (c .heard) (kindOf (not (r .acceptor)) (headOf m .kind))) (schemeIn m)))) ≡ stop n → Other n
-  go false b e = let z : 14 ≡ n = cc in ((λ w. omega arith), ((λ w. omega arith), (λ w. omega arith)))
-  go true false e = let z : 15 ≡ n = cc in ((λ w. omega arith), ((λ w. omega arith), (λ w. omega arith)))
-  go true true e = let z : _≡_ {A = ℕ} 0 1 = cc in absurd (omega arith)
+-- what those numbers have, and 14 and 15, the number of a judged token has
+module _ (P : ℕ → Type 0) (p14 : P 14) (p15 : P 15) where
+  admit-number : (r : Record) (t : List ℕ) (c : Scan) (m : List ℕ) (n : ℕ) → admit r t c m ≡ stop n → P n
+  unfolding admit
+  admit-number r t c m n e = go (not (eqb (after (reads r) (c .position) (c .heard) (kindOf (not (r .acceptor)) (headOf m .kind))) 0)) (schemeFits r t c (kindOf (not (r .acceptor)) (headOf m .kind)) (schemeIn m)) e where
+    go : (a b : Bool) → orStop a 14 (orStop b 15 (on (passed r c (kindOf (not (r .acceptor)) (headOf m .kind)) (after (reads r) (c .position) (c .heard) (kindOf (not (r .acceptor)) (headOf m .kind))) (schemeIn m)))) ≡ stop n → P n
+    go false b e = let z : 14 ≡ n = cc in subst P z p14
+    go true false e = let z : 15 ≡ n = cc in subst P z p15
+    go true true e = let z : _≡_ {A = ℕ} 0 1 = cc in absurd (omega arith)
 
-judge-number : (r : Record) (t : List ℕ) (k : ℕ) (c : Scan) (ch : Chain) → Numbers ch → (n p : ℕ) → judge r t k c ch ≡ halted n p → Other n
-unfolding judge
-judge-number r t k c end h n p e = let z : _≡_ {A = ℕ} 0 1 = cc in absurd (omega arith)
-judge-number r t k c (cutAt m a) h n p e = let z : m ≡ n = cc in subst Other z h
-judge-number r t k c (message m ms) h n p e = go (admit r t c (m .octets)) refl (λ d. judge-number r t (k + 1) d ms h n p) where
-  go : (a : Admitted) → admit r t c (m .octets) ≡ a → ((d : Scan) → judge r t (k + 1) d ms ≡ halted n p → Other n) → Other n
-  go (on d) is ih = ih d (rw is at e)
-  go (stop j) is ih = let w : halted j (m .place) ≡ halted n p = rw is at e in let z : j ≡ n = cc in subst Other z (admit-number r t c (m .octets) j is)
+  judge-number : (r : Record) (t : List ℕ) (k : ℕ) (c : Scan) (ch : Chain) → Numbers P ch → (n p : ℕ) → judge r t k c ch ≡ halted n p → P n
+  unfolding judge
+  judge-number r t k c end h n p e = let z : _≡_ {A = ℕ} 0 1 = cc in absurd (omega arith)
+  judge-number r t k c (cutAt m a) h n p e = let z : m ≡ n = cc in subst P z h
+  judge-number r t k c (message m ms) h n p e = go (admit r t c (m .octets)) refl (λ d. judge-number r t (k + 1) d ms h n p) where
+    go : (a : Admitted) → admit r t c (m .octets) ≡ a → ((d : Scan) → judge r t (k + 1) d ms ≡ halted n p → P n) → P n
+    go (on d) is ih = ih d (rw is at e)
+    go (stop j) is ih = let w : halted j (m .place) ≡ halted n p = rw is at e in let z : j ≡ n = cc in subst P z (admit-number r t c (m .octets) j is)
+
+  pub judged-numbers : (r : Record) (t : List ℕ) → Numbers P (chainFor r t) → (n p : ℕ) → judged r t ≡ halted n p → P n
+  unfolding judged
+  judged-numbers r t h n p e = judge-number r t 0 (startOf r) (chainFor r t) h n p e
+
+other : (n : ℕ) → (n ≡ 0 → ⊥) → (n ≡ 17 → ⊥) → (n ≡ 9 → ⊥) → Other n
+other n a b c = (a, (b, c))
 
 pub judged-number : (r : Record) (t : List ℕ) (n p : ℕ) → judged r t ≡ halted n p → Other n
-unfolding judged judge
-judged-number r [] n p e = let z : 2 ≡ n = cc in ((λ w. omega arith), ((λ w. omega arith), (λ w. omega arith)))
-judged-number r (x ∷ t) n p e =
-    let some : length (x ∷ t) ≡ 0 → ⊥ = λ z. omega arith in
-    judge-number r (x ∷ t) 0 (startOf r) (chainOf (x ∷ t) 0 0 (r .sequence) (conversationOf r (x ∷ t))) (chain-numbers (x ∷ t) 0 0 (r .sequence) (conversationOf r (x ∷ t))) n p (rw (ne-eqb _ _ some) at e)
+judged-number r t =
+    judged-numbers Other (other 14 (λ w. omega arith) (λ w. omega arith) (λ w. omega arith)) (other 15 (λ w. omega arith) (λ w. omega arith) (λ w. omega arith)) r t (numbers t) where
+      numbers : (s : List ℕ) → Numbers Other (chainFor r s)
+      numbers [] = other 2 (λ w. omega arith) (λ w. omega arith) (λ w. omega arith)
+      numbers (x ∷ s) =
+          let some : length (x ∷ s) ≡ 0 → ⊥ = λ z. omega arith in
+          rw (ne-eqb _ _ some) (chain-numbers (x ∷ s) 0 0 (r .sequence) (conversationOf r (x ∷ s)))

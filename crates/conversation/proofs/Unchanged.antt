@@ -1,4 +1,4 @@
--- A refused call leaves record and transcript as they were: every call, on every record.
+-- A refused call leaves record and transcript as they were, but for the stage of a record that 12 closes: every call, on every record.
 -- Assumes nothing.
 use Prim.Native.Nat.{ℕ, _+_, _^_}
 use mathlib.Core.Path.{_≡_, refl}
@@ -6,6 +6,7 @@ use mathlib.Core.Bool.{Bool, true, false}
 use mathlib.Core.List.{List, _++_}
 use lib.ListN.{length}
 use lib.Dec.{leb}
+use borrow.Author.Tests.{ne-eqb}
 use Rattle.message.specs.Check.{Row}
 use Rattle.conversation.specs.declared.Record.{Record}
 use Rattle.schemes.specs.Lists.{Id, place}
@@ -18,11 +19,12 @@ use Rattle.conversation.specs.Reading.{Judged, whole, halted, judged, fi
 use Rattle.conversation.specs.Choosing.{openTo, choiceRows, chose, choosing}
 use Rattle.conversation.specs.Runs.{Call, offer, reply, metadata, speak, read, choose, End, act}
 use Rattle.conversation.specs.Claims.{Unchanged, RefusedUnchanged}
+use Rattle.message.proofs.Tables.{without, fails-other}
 use Rattle.conversation.proofs.Rows.{decide-out}
 
--- a call whose action is never a refusal
-decided : (rows : List Row) (r : Record) (d : List ℕ) (action : Outcome) → Unchanged r d action → Unchanged r d (decide rows r d action)
-decided rows r d action h = decide-out (Unchanged r d) rows r d action (λ n f z. (refl, refl)) (λ g. h)
+-- a call whose table has no 12, and whose action keeps this
+decided : (rows : List Row) (r : Record) (d : List ℕ) (action : Outcome) → without 12 rows ≡ true → Unchanged r d action → Unchanged r d (decide rows r d action)
+decided rows r d action w h = decide-out (Unchanged r d) rows r d action (λ n f z. (rw (ne-eqb n 12 (fails-other 12 rows n w f)), refl)) (λ g. h)
 
 finished : (r : Record) (d t : List ℕ) (j : Judged) → Unchanged r d (finish r d t j)
 unfolding finish
@@ -33,11 +35,11 @@ finished r d t (whole n c) = go (leb (r .used + length t) (room d)) refl where
   go false e = rw e (λ z. (refl, refl))
 
 -- a writer: what it does where no row refuses it is no refusal
-wrote-unchanged : (rows : List Row) (r : Record) (d : List ℕ) (position : ℕ) (m : List ℕ) (w : WrittenAs) → Unchanged r d (decide rows r d (appended r d position m w))
-wrote-unchanged rows r d position m w = decided rows r d (appended r d position m w) (λ z. absurd {0} (z refl))
+wrote-unchanged : (rows : List Row) (r : Record) (d : List ℕ) (position : ℕ) (m : List ℕ) (w : WrittenAs) → without 12 rows ≡ true → Unchanged r d (decide rows r d (appended r d position m w))
+wrote-unchanged rows r d position m w v = decided rows r d (appended r d position m w) v (λ z. absurd {0} (z refl))
 
-named-unchanged : (rows : List Row) (r : Record) (d : List ℕ) (l : List Id) (o : Outcome) → o .answer .refusal ≡ 0 → Unchanged r d (decide rows r d (naming l o))
-named-unchanged rows r d l o e = decided rows r d (naming l o) (λ z. absurd {0} (z e))
+named-unchanged : (rows : List Row) (r : Record) (d : List ℕ) (l : List Id) (o : Outcome) → without 12 rows ≡ true → o .answer .refusal ≡ 0 → Unchanged r d (decide rows r d (naming l o))
+named-unchanged rows r d l o v e = decided rows r d (naming l o) v (λ z. absurd {0} (z e))
 
 module _ (e : End) (peer : List ℕ) where
   abbrev r : Record
@@ -49,20 +51,20 @@ module _ (e : End) (peer : List ℕ) where
   unchanged-behind : (k : Call) → Unchanged r d (act e peer k)
   unfolding act offering replying writingMetadata speaking readingToken choosing
   unchanged-behind (offer random) =
-      wrote-unchanged (stageRows r NEGO ++ thenFits (offerRows r) r d (offered r (random .0))) r d (placeAfter r NEGO) (offered r (random .0)) (unchanged r)
+      wrote-unchanged (stageRows r NEGO ++ thenFits (offerRows r) r d (offered r (random .0))) r d (placeAfter r NEGO) (offered r (random .0)) (unchanged r) refl
   unchanged-behind (reply m random) =
       named-unchanged (stageRows r NEGO ++ thenFits (replyRows r m) r d (replyMessage r m (random .0))) r d
-      (left (ownOf r) (r .common) m) (appended r d (placeAfter r NEGO) (replyMessage r m (random .0)) (record { marks = m; told = r .told; asked = r .asked; verified = r .verified })) refl
+      (left (ownOf r) (r .common) m) (appended r d (placeAfter r NEGO) (replyMessage r m (random .0)) (record { marks = m; told = r .told; asked = r .asked; verified = r .verified })) refl refl
   unchanged-behind (metadata id value) =
       wrote-unchanged (stageRows r METADATA ++ thenFits (metadataRows r (id .0) (length value)) r d (metadataMessage r (id .0) value)) r d (placeAfter r METADATA) (metadataMessage r (id .0) value)
-      (record { marks = r .marks; told = r .told + 2 ^ place (ownOf r) (id .0); asked = r .asked; verified = r .verified })
+      (record { marks = r .marks; told = r .told + 2 ^ place (ownOf r) (id .0); asked = r .asked; verified = r .verified }) refl
   unchanged-behind (speak s) =
-      wrote-unchanged (stageRows r (kindIn s) ++ thenFits (namedRows r) r d (spoken r s)) r d (placeAfter r (kindIn s)) (spoken r s) (spokenAs r s)
+      wrote-unchanged (stageRows r (kindIn s) ++ thenFits (namedRows r) r d (spoken r s)) r d (placeAfter r (kindIn s)) (spoken r s) (spokenAs r s) refl
   unchanged-behind read =
-      decided (limitRows r ++ tokenRows r (length peer)) r d (finish r d peer (judged r peer)) (finished r d peer (judged r peer))
+      decided (limitRows r ++ tokenRows r (length peer)) r d (finish r d peer (judged r peer)) refl (finished r d peer (judged r peer))
   unchanged-behind (choose m) =
       named-unchanged (limitRows r ++ choiceRows r m) r d
-      (named (ownOf r) (openTo r m)) (record { answer = answered 0 0 (chose r m); transcript = d }) refl
+      (named (ownOf r) (openTo r m)) (record { answer = answered 0 0 (chose r m); transcript = d }) refl refl
 
 pub refused-unchanged : RefusedUnchanged
 refused-unchanged e peer k = unchanged-behind e peer k

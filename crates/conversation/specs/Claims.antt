@@ -1,12 +1,18 @@
 -- What is proved of the calls and of runs, a claim to a name. Demand 3 stands in Runs, what every run keeps in Logs, the worked examples in Worked.
 --
 -- Glossary
---   Unchanged          a refusal that leaves record and transcript as they were
+--   Unchanged          a refusal that leaves record and transcript as they were, but for the stage of a record that 12 closes
 --   RefusedUnchanged   every refused call does, on every record
+--   StageOnly          a record at another stage is the same in all else; ClosedInside: a closed one is inside its limits as it was before
+--   OnlyTwelveCloses   a record that a call closes is closed by a reading, refused with 12
+--   ClosedRefuses      at the stage CLOSED every call is refused with 18, and changes nothing
 --   NineNeverRead      no reading into a record is refused with 9
---   RefusedStays       a refused call leaves the two ends of a run as they were
---   acceptedOf         the calls of a list that are accepted, in order
---   AcceptedEnds       the two ends behind a list of calls are those of its accepted calls alone
+--   TwelveNeverRun     no call of a run is refused with 12
+--   decides            an answer that is no refusal, or that closes the record
+--   RefusedStays       a call that does not decide leaves the two ends as they were
+--   acceptedOf         the calls of a list that are accepted, in order; decidingOf: those that decide
+--   DecidingEnds       any two ends behind a list of calls are those of its deciding calls alone
+--   AcceptedEnds       the two ends of a run are those of its accepted calls alone
 --   OpeningFresh       the records that a run starts with are those that opening answers
 --   leftWith o ma mi   what rule 2 leaves of the lists of an opening, with the marks of either end; replyWith o m: the reply's list with the acceptor's
 --   RuleTwoAnswer      what a choosing call of a run answers, by rule 2
@@ -24,7 +30,7 @@
 --   WrittenReads       demand 2's round trip: what an accepted writing call appended does, on every record
 use Prim.Native.Nat.{ℕ, _*_, _≤_}
 use mathlib.Core.Path.{_≡_}
-use mathlib.Core.Bool.{Bool, true, false, cond, not, _&&_}
+use mathlib.Core.Bool.{Bool, true, false, cond, not, _&&_, _||_}
 use mathlib.Core.Logic.{_⊎_}
 use mathlib.Core.List.{List, [], _∷_, List·Memᴰ}
 use mathlib.Core.Option.{Option, none, some}
@@ -36,35 +42,69 @@ use Rattle.schemes.specs.Lists.{Id, keep, first, leftOver, rule2, replyOf, oneT
 use Rattle.schemes.specs.Sets.{left}
 use Rattle.conversation.specs.declared.Record.{Record}
 use Rattle.conversation.specs.declared.Answer.{Answer}
-use Rattle.conversation.specs.State.{ownOf, schemeAt, fresh}
+use Rattle.conversation.specs.State.{CLOSED, withStage, closed, ownOf, schemeAt, limitRows, fresh}
 use Rattle.conversation.specs.Turns.{NEGO, METADATA, VERIFY}
-use Rattle.conversation.specs.Outcomes.{Outcome, zeroId, answered}
+use Rattle.conversation.specs.Outcomes.{Outcome, zeroId, answered, refused, closedBy}
 use Rattle.conversation.specs.Writing.{heading, schemeNow, kindIn, contentsIn, opening}
 use Rattle.conversation.specs.Reading.{readingToken}
 use Rattle.conversation.specs.Runs.{Sized, Call, offer, reply, metadata, speak, read, choose, End, act, Opening, World, world, outcomeAt, next, ends, Entry, run, isAccepted, isLawful, Replied}
 
--- "Record and lent octets are unchanged."
+-- "Record and lent octets are unchanged.", as C-18 has it: "Refusal 12 now returns the record closed, everything else in it unchanged, and the lent
+-- octets too"
 abbrev pub Unchanged : Record → List ℕ → Outcome → Type 0
-Unchanged r d o = (o .answer .refusal ≡ 0 → ⊥) → (o .answer .next ≡ r) × (o .transcript ≡ d)
+Unchanged r d o = (o .answer .refusal ≡ 0 → ⊥) → (o .answer .next ≡ closedBy (o .answer .refusal) r) × (o .transcript ≡ d)
 
 abbrev pub RefusedUnchanged : Type 0
 RefusedUnchanged = (e : End) (peer : List ℕ) (k : Call) → Unchanged (e .record-of) (e .transcript) (act e peer k)
+
+-- C-18: "everything else in it unchanged"
+abbrev pub StageOnly : Type 0
+StageOnly = (r : Record) (stage : ℕ) → withStage (r .stage) (withStage stage r) ≡ r
+
+abbrev pub ClosedInside : Type 0
+ClosedInside = (r : Record) → limitRows (closed r) ≡ limitRows r
+
+-- nothing else closes: no writer, no choice, no token that is read, and no other refusal
+abbrev pub OnlyTwelveCloses : Type 0
+OnlyTwelveCloses =
+    (e : End) (peer : List ℕ) (k : Call) → (e .record-of .stage ≡ CLOSED → ⊥) → act e peer k .answer .next .stage ≡ CLOSED
+    → (k ≡ read) × (act e peer k .answer .refusal ≡ 12)
+
+-- C-18: "A closed record answers every later call with 18.": later ones too, since this one changes nothing
+abbrev pub ClosedRefuses : Type 0
+ClosedRefuses =
+    (e : End) (peer : List ℕ) (k : Call) → e .record-of .stage ≡ CLOSED → act e peer k ≡ refused (e .record-of) (e .transcript) 18 0
 
 -- C-11: "number 9 is never given again"
 abbrev pub NineNeverRead : Type 0
 NineNeverRead = (r : Record) (d t : List ℕ) → readingToken r d t .answer .refusal ≡ 9 → ⊥
 
--- "In a run the call and those accepted (not refused) before it decide 18."
+-- what our ends write has no critical extension, so that no record of a run closes
+abbrev pub TwelveNeverRun : Type 0
+TwelveNeverRun = (o : Opening) (cs : List (Bool × Call)) (x : Entry) → List·Memᴰ x (run (world o) cs) → x .said .refusal ≡ 12 → ⊥
+
+abbrev pub decides : Answer → Bool
+decides a = isAccepted a || eqb (a .refusal) 12
+
 abbrev pub RefusedStays : Type 0
-RefusedStays = (w : World) (x : Bool) (k : Call) → isAccepted (outcomeAt w x k .answer) ≡ false → next w x k ≡ w
+RefusedStays = (w : World) (x : Bool) (k : Call) → decides (outcomeAt w x k .answer) ≡ false → next w x k ≡ w
+
+abbrev pub decidingOf : World → List (Bool × Call) → List (Bool × Call)
+decidingOf w [] = []
+decidingOf w (c ∷ cs) =
+    cond (decides (outcomeAt w (c .0) (c .1) .answer)) (c ∷ decidingOf (next w (c .0) (c .1)) cs) (decidingOf (next w (c .0) (c .1)) cs)
+
+abbrev pub DecidingEnds : Type 0
+DecidingEnds = (w : World) (cs : List (Bool × Call)) → ends w (decidingOf w cs) ≡ ends w cs
 
 abbrev pub acceptedOf : World → List (Bool × Call) → List (Bool × Call)
 acceptedOf w [] = []
 acceptedOf w (c ∷ cs) =
     cond (isAccepted (outcomeAt w (c .0) (c .1) .answer)) (c ∷ acceptedOf (next w (c .0) (c .1)) cs) (acceptedOf (next w (c .0) (c .1)) cs)
 
+-- "In a run the call and those accepted (not refused) before it decide 18."
 abbrev pub AcceptedEnds : Type 0
-AcceptedEnds = (w : World) (cs : List (Bool × Call)) → ends w (acceptedOf w cs) ≡ ends w cs
+AcceptedEnds = (o : Opening) (cs : List (Bool × Call)) → ends (world o) (acceptedOf (world o) cs) ≡ ends (world o) cs
 
 -- "A run starts with a record of each role, fresh from opening"
 abbrev pub OpeningFresh : Type 0

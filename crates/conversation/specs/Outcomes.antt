@@ -5,6 +5,7 @@
 --   zeroId           sixteen zeros: no choice
 --   answered n p r   the answer with the number n, the place p and the record r, and nothing else to say
 --   refused r d n p  "Each returns its number and the token place of the message at fault .. Record and lent octets are unchanged."
+--   closedBy n r     the record behind a reading that the number n refuses: closed by 12, else as it was
 --   decide           the first row that fails refuses; where all hold, the action; row makes a row
 --   room d           "Its room is the smaller of the buffer's length and 65,535."
 --   fits             16: used plus the length to add is within the room
@@ -15,11 +16,12 @@ use Prim.Native.Nat.{ℕ, _+_, min}
 use mathlib.Core.Bool.{Bool, cond}
 use mathlib.Core.List.{List, [], _∷_}
 use lib.ListN.{length, replicate}
-use lib.Dec.{leb}
+use lib.Dec.{eqb, leb}
 use Rattle.message.specs.Check.{Row}
 use Rattle.put.specs.Put.{put}
 use Rattle.conversation.specs.declared.Record.{Record}
 use Rattle.conversation.specs.declared.Answer.{Answer}
+use Rattle.conversation.specs.State.{closed}
 
 pub record Outcome : Type 0 where
   pub answer : Answer
@@ -33,6 +35,10 @@ answered number place r = record { refusal = number; place = record { 0 = place 
 
 abbrev pub refused : Record → List ℕ → ℕ → ℕ → Outcome
 refused r d number place = record { answer = answered number place r; transcript = d }
+
+-- C-18: "Refusal 12 now returns the record closed, everything else in it unchanged"
+abbrev pub closedBy : ℕ → Record → Record
+closedBy number r = cond (eqb number 12) (closed r) r
 
 abbrev pub decide : List Row → Record → List ℕ → Outcome → Outcome
 decide [] r d action = action

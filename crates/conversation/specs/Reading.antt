@@ -10,7 +10,7 @@
 --   commonAfter     the common set behind a token; keptAfter: the kept places
 --   taken           the record behind an accepted token; takenAs: its answer
 --   accepted        the outcome of a whole token that has room
---   finish          16, behind all messages; then that outcome
+--   finish          the first refusal, by which 12 closes the record; 16, behind all messages; then that outcome
 --   readingToken    the call: record, transcript and token in, outcome out; tokenRows: 18 and 1
 use Prim.Native.Nat.{ℕ, _+_}
 use mathlib.Core.Bool.{cond}
@@ -28,7 +28,7 @@ use Rattle.conversation.specs.declared.Answer.{Answer}
 use Rattle.conversation.specs.declared.Scan.{Scan}
 use Rattle.conversation.specs.State.{ownOf, limitRows}
 use Rattle.conversation.specs.Turns.{FIRST, ANSWER, reads, mayRead}
-use Rattle.conversation.specs.Outcomes.{Outcome, zeroId, refused, decide, row, room}
+use Rattle.conversation.specs.Outcomes.{Outcome, zeroId, refused, closedBy, decide, row, room}
 use Rattle.conversation.specs.Admitting.{listedBy, Admitted, on, stop, admit}
 
 -- 8: "an acceptor takes it from the first message"
@@ -67,7 +67,7 @@ commonAfter r t =
 unfoldable pub keptAfter : Record → List ℕ → List ℕ
 keptAfter r t = cond (eqb (reads r) ANSWER) (padTo 16 (keptPlaces (ownOf r) (listedBy t))) (r .kept)
 
--- the stage behind the first token is REPLY, behind the reply CHOOSING, behind a later one LATER
+-- the stage behind the first token is REPLY, behind the reply CHOOSING, behind a later one LATER; where no token is read (`mayRead`), none is taken
 abbrev pub taken : Record → List ℕ → ℕ → Scan → Record
 taken r t n c = record {
   acceptor = r .acceptor;
@@ -95,8 +95,9 @@ takenAs r n = record { refusal = 0; place = record { 0 = 0 }; messages = n; choi
 abbrev pub accepted : Record → List ℕ → List ℕ → ℕ → Scan → Outcome
 accepted r d t n c = record { answer = takenAs (taken r t n c) n; transcript = put d (r .used) t }
 
+-- C-18: "Refusal 12 now returns the record closed, everything else in it unchanged, and the lent octets too"; any other leaves the record as it was
 unfoldable pub finish : Record → List ℕ → List ℕ → Judged → Outcome
-finish r d t (halted number place) = refused r d number place
+finish r d t (halted number place) = refused (closedBy number r) d number place
 finish r d t (whole n c) = cond (leb (r .used + length t) (room d)) (accepted r d t n c) (refused r d 16 0)
 
 -- before any message is looked at, by the token's length

@@ -7,6 +7,8 @@
 --   REPLY        the acceptor has read it
 --   CHOOSING     the initiator has read the reply
 --   LATER        the initiator has chosen, or the acceptor has read a later token
+--   CLOSED       a reading was refused with 12: every call is refused with 18
+--   withStage    a record at another stage; closed r: the record r at the stage CLOSED
 --   ownOf r      the own list, as ids; schemeAt: the scheme at an own place
 --   replied r    the reply's list: the common schemes less the marks, in the acceptor's order
 --   limitRows r  a record's limits, as one table; limit: a row of it, 18
@@ -36,6 +38,33 @@ CHOOSING = 2
 
 abbrev pub LATER : ℕ
 LATER = 3
+
+-- C-18: "The record gets a closed stage."
+abbrev pub CLOSED : ℕ
+CLOSED = 4
+
+abbrev pub withStage : ℕ → Record → Record
+withStage stage r = record {
+  acceptor = r .acceptor;
+  stage = stage;
+  position = r .position;
+  list = r .list;
+  count = r .count;
+  conversation = r .conversation;
+  marks = r .marks;
+  common = r .common;
+  kept = r .kept;
+  told = r .told;
+  asked = r .asked;
+  chosen = r .chosen;
+  verified = r .verified;
+  heard = r .heard;
+  sequence = r .sequence;
+  used = r .used;
+}
+
+abbrev pub closed : Record → Record
+closed r = withStage CLOSED r
 
 abbrev pub ownOf : Record → List Id
 ownOf r = idsAt (r .count) (r .list)

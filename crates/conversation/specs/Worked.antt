@@ -15,6 +15,8 @@
 --   LongerRun       demand 3, for that opening behind the first's choice; LongerChoice: what is chosen there
 --   conversation    calls of a whole conversation; allAccepted: every entry of a run is accepted
 --   WholeConversation   every call of it is accepted; WholeLogs: and each end has all of its messages
+--   readInTurn      the numbers that an end answers to tokens, read one behind the other
+--   StaysRejected   C-18, with the examples' tokens
 use Prim.Native.Nat.{ℕ}
 use mathlib.Core.Path.{_≡_, refl}
 use mathlib.Core.Bool.{Bool, true, false, _&&_}
@@ -30,7 +32,7 @@ use Rattle.token.specs.Token.{Reading, Accepted, Refused, tokenOf}
 use Rattle.schemes.specs.Lists.{Id, mem, distinct}
 use Rattle.conversation.specs.Outcomes.{zeroId}
 use Rattle.conversation.specs.Writing.{request, checksum, alarm}
-use Rattle.conversation.specs.Runs.{Sized, Call, offer, reply, metadata, speak, read, choose, Opening, world, Entry, run, isAccepted, NotLost}
+use Rattle.conversation.specs.Runs.{Sized, Call, offer, reply, metadata, speak, read, choose, End, act, moved, Opening, world, Entry, run, isAccepted, NotLost}
 use Rattle.conversation.specs.Logs.{logsOf}
 
 abbrev pub negoToken : ℕ → ℕ → ℕ → ℕ → ℕ → List ℕ → List ℕ
@@ -222,3 +224,13 @@ WholeConversation = allAccepted (run (world opened) conversation) ≡ true
 
 abbrev pub WholeLogs : Type 0
 WholeLogs = (length (logsOf opened conversation .i) ≡ 13) × (length (logsOf opened conversation .a) ≡ 13)
+
+abbrev pub readInTurn : End → List (List ℕ) → List ℕ
+readInTurn e [] = []
+readInTurn e (t ∷ ts) = act e t read .answer .refusal ∷ readInTurn (moved e read (act e t read)) ts
+
+-- an acceptor that was sent P8's token, a critical extension, does not read P9's; one that was sent P4's, a vector that breaks its rule, does
+abbrev pub StaysRejected : Type 0
+StaysRejected =
+    (readInTurn (world opened .a) (withExtension (0xFE ∷ 0xFF ∷ 0xFF ∷ 0xFF ∷ []) ∷ withExtension (0xFF ∷ 0xFF ∷ 0xFF ∷ 0x7F ∷ []) ∷ []) ≡ 12 ∷ 18 ∷ [])
+    × (readInTurn (world opened .a) (withScheme 95 1 ∷ withExtension (0xFF ∷ 0xFF ∷ 0xFF ∷ 0x7F ∷ []) ∷ []) ≡ 11 ∷ 0 ∷ [])

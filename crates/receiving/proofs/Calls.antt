@@ -7,7 +7,7 @@ use mathlib.Core.List.{List, [], _∷_, _++_}
 use native.Mathlib.Omega.{arith}
 use lib.ListN.{length}
 use lib.Dec.{eqb, leb}
-use borrow.Author.Tests.{le-leb, lt-leb, leb-true}
+use borrow.Author.Tests.{le-leb, lt-leb, leb-true, ne-eqb}
 use Rattle.vector.specs.declared.TokenPlace.{TokenPlace}
 use Rattle.message.specs.Layout.{size, front}
 use Rattle.message.specs.Check.{firstFailing}
@@ -17,9 +17,9 @@ use Rattle.put.specs.Put.{Written}
 use Rattle.conversation.specs.declared.Record.{Record}
 use Rattle.conversation.specs.declared.Scan.{Scan}
 use Rattle.conversation.specs.declared.Answer.{Answer}
-use Rattle.conversation.specs.State.{limitRows}
+use Rattle.conversation.specs.State.{closed, limitRows}
 use Rattle.conversation.specs.Turns.{mayRead}
-use Rattle.conversation.specs.Outcomes.{Outcome, answered, row}
+use Rattle.conversation.specs.Outcomes.{Outcome, answered, closedBy, row}
 use Rattle.conversation.specs.Admitting.{Admitted, on, stop, admit}
 use Rattle.conversation.specs.Reading.{conversationOf, startOf, Judged, whole, thenJudge, judge, judged, taken, takenAs, accepted, finish, tokenRows, readingToken}
 use Rattle.conversation.proofs.Rows.{true-behind}
@@ -69,10 +69,20 @@ judged-few r t n d e = go (eqb (length t) 0) refl where
     none f = unfold judge in (let z : _≡_ {A = ℕ} 0 1 = cc in absurd (omega arith))
   go false p = let i = few r t t 0 0 (r .sequence) (conversationOf r t) 0 (startOf r) n d (rw p at e) in omega arith
 
+-- 12 closes the record
+module _ (r : Record) (n : ℕ) where
+  pub closed-now : n ≡ 12 → closed r ≡ closedBy n r
+  closed-now e = rw e
+
+  pub closed-not : (n ≡ 12 → ⊥) → r ≡ closedBy n r
+  closed-not e = rw (ne-eqb n 12 e)
+
+pub ruleset closings = (closed-now, closed-not)
+
 -- the answer to a token that is halted
 module _ (r : Record) (j : Judgement) where
-  pub halted-answer : (n : ℕ) (p : TokenPlace) → j ≡ judgement.Halted n p → (a : Answer) → a ≡ answered n (p .0) r → a ≡ haltedAs r (judgedAs j)
-  halted-answer n p e a a-is = a-is ∙ sym (ap (λ (z : Judgement). haltedAs r (judgedAs z)) e)
+  pub halted-answer : (n : ℕ) (p : TokenPlace) → j ≡ judgement.Halted n p → (next : Record) → next ≡ closedBy n r → (a : Answer) → a ≡ answered n (p .0) next → a ≡ haltedAs r (judgedAs j)
+  halted-answer n p e next next-is a a-is = a-is ∙ ap (answered n (p .0)) next-is ∙ sym (ap (λ (z : Judgement). haltedAs r (judgedAs z)) e)
 
   pub whole-answer : (n : ℕ) (c : Scan) → j ≡ judgement.Whole n c → (a : Answer) → a ≡ answered 0 0 r → a ≡ haltedAs r (judgedAs j)
   whole-answer n c e a a-is = a-is ∙ sym (ap (λ (z : Judgement). haltedAs r (judgedAs z)) e)

@@ -16,7 +16,7 @@ use Rattle.message.specs.Check.{Verdict, read, refused as V·refused}
 use Rattle.conversation.specs.declared.Record.{Record}
 use Rattle.conversation.specs.declared.Scan.{Scan}
 use Rattle.conversation.specs.declared.Answer.{Answer}
-use Rattle.conversation.specs.Outcomes.{answered}
+use Rattle.conversation.specs.Outcomes.{answered, closedBy}
 use Rattle.conversation.specs.Admitting.{Admitted, on, stop}
 use Rattle.conversation.specs.Reading.{Judged, whole, halted, judged, taken}
 use Rattle.calls.specs.Calls.{Inside}
@@ -74,4 +74,4 @@ pub record Judging (r : Record) (t : List ℕ) (j : Judgement) : Type 0 where
 -- a whole token has no refusal, and 0 stands for that
 abbrev pub haltedAs : Record → Judged → Answer
 haltedAs r (whole n c) = answered 0 0 r
-haltedAs r (halted number place) = answered number place r
+haltedAs r (halted number place) = answered number place (closedBy number r)

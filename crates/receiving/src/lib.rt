@@ -2,7 +2,7 @@
 ghost use mathlib.Core.Path.{_≡_};
 ghost use Prim.Native.Nat.{_+_, _≤_};
 ghost use lib.ListN.{length};
-ghost use Rattle.conversation.specs.Outcomes.{Outcome};
+ghost use Rattle.conversation.specs.Outcomes.{Outcome, closedBy};
 ghost use Rattle.conversation.specs.Reading.{accepted, finish, tokenRows, readingToken};
 ghost use Rattle.calls.specs.Calls.{callRefusal};
 ghost use Rattle.receiving.specs.Receiving.{Taking, Judging, judgedAs, haltedAs};
@@ -44,12 +44,24 @@ fn refusal_before(r: Record, size: usize) -> u32
     0
 }
 
+// The record behind a token's refusal: 12 closes it.
+fn closed_by(number: u32, r: Record) -> Record
+    ensures { λ a. ⌜ a ≡ closedBy number r ⌝ }
+{
+    if number != 12 {
+        return r;
+    }
+    let mut next = r;
+    next.stage = Record::CLOSED;
+    next
+}
+
 // A token's refusal, at its place.
 fn refuse_halted(r: Record, j: Judgement) -> Answer
     ensures { λ a. ⌜ a ≡ haltedAs r (judgedAs j) ⌝ }
 {
     match j {
-        Judgement::Halted(number, place) => answer(number, place, r),
+        Judgement::Halted(number, place) => answer(number, place, closed_by(number, r)),
         Judgement::Whole(_, _) => answer(0, TokenPlace(0), r),
     }
 }

@@ -7,6 +7,9 @@ use Rattle.receiving.proofs.refuse_halted.Tie as tie
 enum-known-j : tie.Need-enum-known-j
 enum-known-j c = search needs
 
+closed-by-requires : tie.Need-closed-by-requires
+closed-by-requires c κs = search needs
+
 answer-requires : tie.Need-answer-requires
 answer-requires c κs = search needs
 
@@ -24,4 +27,4 @@ returns-2 c = search finishes
 
 pub refuse-halted-spec : {M : Type 1} → statement M
 refuse-halted-spec =
-    tie.close (tie.spec enum-known-j answer-requires enum-told answer-requires-2 returns returns-2)
+    tie.close (tie.spec enum-known-j closed-by-requires answer-requires enum-told answer-requires-2 returns returns-2)
