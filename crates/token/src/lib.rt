@@ -126,9 +126,9 @@ fn walk_to(token: &[u8], k: usize) -> TokenPlace
     let mut place = TokenPlace(0);
     let mut left = k;
     while 0 < left {
-        let length = first(rest).len();
-        let end = length as u32;
-        rest = &rest[length..];
+        let m = first(rest);
+        let end = m.len() as u32;
+        rest = &rest[m.len()..];
         place = in_token(place, MessageOffset(end));
         left -= 1;
     }
