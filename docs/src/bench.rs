@@ -294,7 +294,7 @@ fn sizes() {
 fn sizes() {
     let row = |what: &str, size: usize, unit: usize, mut f: Box<dyn FnMut()>| {
         let calls = calls_for(&mut f);
-        let ns = median((0..301).map(|_| time(calls, &mut f)).collect());
+        let ns = (0..301).map(|_| time(calls, &mut f)).fold(f64::INFINITY, f64::min);
         println!("{what} {size} {ns:.1} {:.3}", ns / unit as f64);
     };
     let reading = |token: Vec<u8>| -> Box<dyn FnMut()> {
