@@ -14,9 +14,12 @@ use message::read_header;
 use message::walk::first;
 use octets::le_u32;
 use octets::same_id;
+use step::read_step;
 use vector::MessageOffset;
 use vector::TokenPlace;
 use vector::in_token;
+
+mod step;
 
 // What the structural reading answers: the number of messages, or a refusal with the place of the message at fault.
 pub enum Answer {
@@ -64,7 +67,7 @@ fn refused_at(r: Read, place: TokenPlace) -> Answer
 
 // The messages of a token, the first of which has the number `first`.
 fn read_messages(token: &[u8], first: u64, conversation: &[u8]) -> Answer
-    requires { ⌜ (length (now token) ≤ 65535) × (first < 4294967296) ⌝ }
+    requires { ⌜ (length (now token) ≤ 65535) × (first < 4294967296) × (length (now conversation) ≡ 16) ⌝ }
     ensures { λ a. ⌜ told a ≡ outcomeOf (readingOf (chainOf (now (token .entry)) 0 0 first (now (conversation .entry)))) ⌝ }
 {
     let mut rest = token;
@@ -72,7 +75,7 @@ fn read_messages(token: &[u8], first: u64, conversation: &[u8]) -> Answer
     let mut sequence = first;
     let mut n: u32 = 0;
     while 0 < rest.len() {
-        let r = read_next(rest, sequence, conversation);
+        let r = read_step(rest, sequence, conversation);
         let Read::Message(h) = r else {
             return refused_at(r, place);
         };
@@ -123,9 +126,9 @@ fn walk_to(token: &[u8], k: usize) -> TokenPlace
     let mut place = TokenPlace(0);
     let mut left = k;
     while 0 < left {
-        let length = first(rest).len();
-        let end = length as u32;
-        rest = &rest[length..];
+        let m = first(rest);
+        let end = m.len() as u32;
+        rest = &rest[m.len()..];
         place = in_token(place, MessageOffset(end));
         left -= 1;
     }
