@@ -6,14 +6,13 @@ use mathlib.Core.Bool.{Bool, true, false, _||_}
 use mathlib.Core.List.{List, [], _∷_, _++_, append-assoc}
 use mathlib.Core.Logic.{_⊎_, inl, inr}
 use native.Mathlib.Omega.{arith}
-use lib.ListN.{length, take, drop, getD, length-append, length-drop, take-append-drop}
-use lib.Seq.{take-append-seam, drop-append-seam, drop-drop, length-take-le}
+use lib.ListN.{length, take, drop, length-append, take-append-drop}
+use lib.Seq.{take-append-seam, drop-append-seam, drop-drop}
 use lib.Dec.{leb, ltb, eqb}
-use borrow.Author.Tests.{le-leb, leb-true, eq-eqb, eqb-true, ltb-true}
-use Rattle.octets.specs.Octets.{sameOctets}
+use borrow.Author.Tests.{le-leb, eq-eqb, eqb-true, ltb-true}
 use Rattle.octets.proofs.Bools.{which}
 use Rattle.octets.proofs.Same.{same-refl, same-eq}
-use Rattle.der.specs.Got.{Got, ok, no, bind, check}
+use Rattle.der.specs.Got.{ok, check}
 use Rattle.der.specs.Element.{lengthOf, leadOf, sizeOf, Frame, framed, framedFrom, frame, indefinite, judged, element, cut, Part}
 use Rattle.der.proofs.Gots.{bind-ok, check-ok, no-ok}
 use Rattle.der.proofs.Lengths.{Reads, length-reads}

@@ -1,18 +1,18 @@
 -- One element, in the words of the code.
 -- Assumes nothing.
-use Prim.Native.Nat.{ℕ, _+_, _-_, _<_, _≤_, min}
+use Prim.Native.Nat.{ℕ, _+_, _-_, _<_, _≤_}
 use mathlib.Core.Path.{_≡_, refl, sym, ap, _∙_}
 use mathlib.Core.Bool.{Bool, true, false, cond, _||_}
 use mathlib.Core.List.{List, [], _∷_}
 use native.Mathlib.Nat.{add-zero, add-assoc}
 use native.Mathlib.Omega.{arith}
 use lib.ListN.{length, take, drop, getD}
-use lib.Dec.{leb, eqb}
+use lib.Dec.{leb}
 use borrow.Author.Tests.{le-leb, lt-leb, eq-eqb, ne-eqb}
 use Rattle.octets.specs.Octets.{sameOctets}
-use Rattle.der.specs.Got.{Got, ok, no, bind, check}
-use Rattle.der.specs.Element.{Frame, Part, lengthOf, lengthIn, leadOf, sizeOf, framed, framedFrom, frame, indefinite, shortest, judged, cut}
-use Rattle.der.specs.Holder.{Holder, part, capped, toldFrame, FrameInside, Frames, told, Inside, Cuts, verdict}
+use Rattle.der.specs.Got.{ok, check}
+use Rattle.der.specs.Element.{lengthIn, leadOf, sizeOf, framed, framedFrom, frame, indefinite, shortest, judged, cut}
+use Rattle.der.specs.Holder.{Holder, part, capped, toldFrame, FrameInside, Frames, Inside, Cuts, verdict}
 use Rattle.der.specs.declared.Framed.{Framed}
 use Rattle.der.specs.declared.Framed.the-variants as frames
 use Rattle.der.specs.declared.Cut.{Cut}

@@ -1,20 +1,19 @@
 -- Elements in elements, written and read.
 -- Assumes nothing.
-use Prim.Native.Nat.{ℕ, suc, _+_, _<_, _≤_}
-use mathlib.Core.Path.{_≡_, refl, sym, ap, _∙_}
+use Prim.Native.Nat.{ℕ, _<_, _≤_}
+use mathlib.Core.Path.{_≡_, refl, ap, _∙_}
 use mathlib.Core.Bool.{Bool, true, false}
-use mathlib.Core.List.{List, [], _∷_, _++_, append-assoc, append-nil}
+use mathlib.Core.List.{List, [], _++_, append-nil}
 use mathlib.Core.Option.{Option, none, some}
 use mathlib.Core.Logic.{_⊎_, inl, inr}
 use native.Mathlib.Omega.{arith}
 use lib.ListN.{length, length-append}
-use lib.Dec.{eqb}
-use borrow.Author.Tests.{eq-eqb, eqb-true, ne-eqb}
+use borrow.Author.Tests.{eq-eqb, ne-eqb}
 use Rattle.octets.proofs.Bools.{which}
-use Rattle.der.specs.Got.{Got, ok, no, bind, check}
+use Rattle.der.specs.Got.{Got, ok}
 use Rattle.der.specs.Element.{element, cut, Part, any}
-use Rattle.der.specs.Grammar.{closed, within, only, starts, sole, field, optional, fieldOctets}
-use Rattle.der.proofs.Gots.{check-ok, no-ok, bind-ok, closed-ok}
+use Rattle.der.specs.Grammar.{closed, within, only, starts, field, optional, fieldOctets}
+use Rattle.der.proofs.Gots.{bind-ok, closed-ok}
 use Rattle.der.proofs.Cuts.{cut-back, cut-forth}
 
 -- an element is longer than its contents

@@ -1,13 +1,12 @@
 -- Parts of a buffer.
 -- Assumes nothing.
 use Prim.Native.Nat.{ℕ, zero, suc, _+_, _-_, _<_, _≤_}
-use mathlib.Core.Path.{_≡_, refl, sym, ap, _∙_}
+use mathlib.Core.Path.{_≡_, sym, _∙_}
 use mathlib.Core.List.{List, [], _∷_}
-use native.Mathlib.Nat.{add-zero}
 use native.Mathlib.Numerals.{add-one}
 use native.Mathlib.Omega.{arith}
 use lib.ListN.{length, take, drop, getD, length-drop}
-use lib.Seq.{take-nil, take-all, take-take, drop-drop, drop-cons, length-take-le, getD-take, getD-drop}
+use lib.Seq.{take-nil, take-take, drop-drop, drop-cons, length-take-le, getD-take, getD-drop}
 use Rattle.der.specs.Holder.{part}
 
 drop-take : (i n : ℕ) (l : List ℕ) → drop i (take n l) ≡ take (n - i) (drop i l)

@@ -1,16 +1,16 @@
 -- A length's octets, and an octet's limit, in the words of the code.
 -- Assumes nothing.
-use Prim.Native.Nat.{ℕ, suc, _+_, _-_, _/_, _%_, _<_, _≤_, min}
-use mathlib.Core.Path.{_≡_, refl, sym, ap, _∙_}
-use mathlib.Core.Bool.{Bool, true, false}
+use Prim.Native.Nat.{ℕ, suc, _-_, _/_, _%_, _<_, _≤_}
+use mathlib.Core.Path.{_≡_, refl, ap, _∙_}
+use mathlib.Core.Bool.{Bool, false}
 use mathlib.Core.List.{List, [], _∷_}
 use native.Mathlib.Omega.{arith}
 use lib.ListN.{length, take, drop, getD}
 use lib.Seq.{take-all}
-use lib.Dec.{ltb, leb}
+use lib.Dec.{leb}
 use borrow.Author.Tests.{lt-ltb, le-ltb}
 use Rattle.octets.specs.Octets.{sameOctets}
-use Rattle.der.specs.Element.{lengthOf, lengthIn, number, numberFrom, shortest, atMost}
+use Rattle.der.specs.Element.{lengthOf, lengthIn, number, shortest, atMost}
 use Rattle.der.specs.Holder.{capped}
 
 pub size-none : (v : List ℕ) → length v ≡ 0 → 0 ≡ capped (lengthIn v)

@@ -1,8 +1,7 @@
 // Elements in DER. A holder is the part of the buffer from `at` to `end`.
 ghost use mathlib.Core.Path.{_≡_};
-ghost use Prim.Native.Nat.{_+_, _-_, _*_, _≤_, min};
+ghost use Prim.Native.Nat.{_+_, _-_, _*_, _≤_};
 ghost use mathlib.Core.Bool.{_||_};
-ghost use lib.ListN.{length};
 ghost use Rattle.octets.specs.Octets.{sameOctets};
 ghost use Rattle.der.specs.Element.{number, lengthIn, shortest as Element·shortest, framedFrom, frame, indefinite, cut, any, exactly, atMost};
 ghost use Rattle.der.specs.Holder.{Holder, part, capped, Frames, Cuts, verdict};

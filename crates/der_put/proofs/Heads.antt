@@ -1,6 +1,6 @@
 -- Heads and sizes, in the words of the code.
 -- Assumes nothing.
-use Prim.Native.Nat.{ℕ, _+_, _/_, _%_, _<_, _≤_, min}
+use Prim.Native.Nat.{ℕ, _+_, _/_, _%_, _<_, _≤_}
 use mathlib.Core.Path.{_≡_, refl, sym, ap, _∙_}
 use mathlib.Core.Bool.{Bool, true, false}
 use mathlib.Core.List.{List, [], _∷_, _++_, append-nil}
@@ -10,7 +10,7 @@ use lib.ListN.{length, length-append}
 use lib.Dec.{ltb}
 use borrow.Author.Tests.{lt-ltb, le-ltb, ltb-true, ltb-false}
 use Rattle.octets.proofs.Bools.{which}
-use Rattle.put.specs.Put.{Written, put}
+use Rattle.put.specs.Put.{Written}
 use Rattle.put.proofs.Laws.{wrote, step, done, put-none}
 use Rattle.der.specs.Element.{lengthOf, element}
 use Rattle.der.specs.Grammar.{fieldOctets}

@@ -1,13 +1,11 @@
 -- An element that was cut, and its holder, in the words of the code.
 -- Assumes nothing.
-use Prim.Native.Nat.{ℕ, _+_, _<_, _≤_}
-use mathlib.Core.Path.{_≡_, refl, sym, ap, _∙_}
-use mathlib.Core.Bool.{Bool, true, false}
-use mathlib.Core.List.{List, [], _∷_}
+use Prim.Native.Nat.{ℕ}
+use mathlib.Core.Path.{_≡_, sym, ap, _∙_}
+use mathlib.Core.List.{List}
 use native.Mathlib.Omega.{arith}
-use lib.ListN.{length}
-use Rattle.der.specs.Got.{Got, ok, no, bind}
-use Rattle.der.specs.Element.{Part, cut}
+use Rattle.der.specs.Got.{Got, ok, no}
+use Rattle.der.specs.Element.{Part}
 use Rattle.der.specs.Grammar.{closed}
 use Rattle.der.specs.Holder.{Holder, part, told, Inside, Cuts}
 use Rattle.der.specs.declared.Cut.{Cut}

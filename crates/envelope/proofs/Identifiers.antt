@@ -1,15 +1,15 @@
 -- The list of mechanism identifiers, written and read.
 -- Assumes nothing.
-use Prim.Native.Nat.{ℕ, zero, suc, _+_, _<_, _≤_}
-use mathlib.Core.Path.{_≡_, refl, sym, ap, _∙_}
-use mathlib.Core.Bool.{Bool, true, false}
+use Prim.Native.Nat.{ℕ, zero, suc, _<_, _≤_}
+use mathlib.Core.Path.{_≡_, refl, ap, _∙_}
+use mathlib.Core.Bool.{true, false}
 use mathlib.Core.List.{List, [], _∷_, _++_}
 use mathlib.Core.Logic.{_⊎_, inl, inr}
 use native.Mathlib.Omega.{arith}
 use lib.ListN.{length, length-append}
 use Rattle.octets.proofs.Bools.{which}
-use Rattle.der.specs.Got.{Got, ok, no, bind, check}
-use Rattle.der.specs.Element.{Part, element, cut, any}
+use Rattle.der.specs.Got.{ok, check}
+use Rattle.der.specs.Element.{element, cut, any}
 use Rattle.der.proofs.Gots.{no-ok, bind-ok, check-ok}
 use Rattle.der.proofs.Cuts.{cut-back, cut-forth}
 use Rattle.der.proofs.Nesting.{Forth, Back, longer}

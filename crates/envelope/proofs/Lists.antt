@@ -1,18 +1,17 @@
 -- The list of mechanisms, in the words of the code.
 -- Assumes nothing.
-use Prim.Native.Nat.{ℕ, zero, suc, _+_, _-_, _<_, _≤_}
+use Prim.Native.Nat.{ℕ, zero, suc, _-_, _<_, _≤_}
 use mathlib.Core.Path.{_≡_, refl, sym, ap, _∙_}
 use mathlib.Core.Bool.{Bool, true, false}
 use mathlib.Core.List.{List, [], _∷_}
 use mathlib.Core.Logic.{_⊎_, inl, inr}
 use native.Mathlib.Omega.{arith}
 use lib.ListN.{length}
-use lib.Dec.{leb}
 use borrow.Author.Tests.{le-leb}
 use Rattle.octets.proofs.Bools.{which}
 use Rattle.der.specs.Got.{Got, ok, no, bind, check}
 use Rattle.der.specs.Element.{Part, cut, any}
-use Rattle.der.specs.Grammar.{closed, within, only}
+use Rattle.der.specs.Grammar.{within, only}
 use Rattle.der.specs.Holder.{Holder, part, Cuts}
 use Rattle.der.specs.declared.Cut.{Cut}
 use Rattle.der.specs.declared.Cut.the-variants.{Element, Refused}

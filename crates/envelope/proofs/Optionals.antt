@@ -1,19 +1,19 @@
 -- Fields that may be missing, in the words of the code.
 -- Assumes nothing.
-use Prim.Native.Nat.{ℕ, _+_, _<_, _≤_}
+use Prim.Native.Nat.{ℕ}
 use mathlib.Core.Path.{_≡_, refl, sym, ap, _∙_}
-use mathlib.Core.Bool.{Bool, true, false, cond}
-use mathlib.Core.List.{List, [], _∷_}
-use mathlib.Core.Option.{Option, none, some}
+use mathlib.Core.Bool.{Bool, true, false}
+use mathlib.Core.List.{List}
+use mathlib.Core.Option.{Option, some}
 use mathlib.Core.Logic.{_⊎_, inl, inr}
 use native.Mathlib.Omega.{arith}
-use lib.ListN.{length, getD}
+use lib.ListN.{getD}
 use lib.Dec.{eqb}
 use borrow.Author.Tests.{eq-eqb, ne-eqb, eqb-true, eqb-false}
 use Rattle.octets.proofs.Bools.{which}
-use Rattle.der.specs.Got.{Got, ok, no, bind}
+use Rattle.der.specs.Got.{Got, ok, no}
 use Rattle.der.specs.Element.{Part, cut, any}
-use Rattle.der.specs.Grammar.{closed, within, only, starts, sole, field, optional}
+use Rattle.der.specs.Grammar.{within, only, starts, sole, field, optional}
 use Rattle.der.specs.Holder.{Holder, part, Cuts}
 use Rattle.der.specs.declared.Cut.{Cut}
 use Rattle.der.specs.declared.Cut.the-variants.{Element, Refused}

@@ -1,9 +1,9 @@
 -- What is written reads back equal, and what is read is what would be written.
 -- Assumes nothing.
-use Prim.Native.Nat.{ℕ, zero, suc, _+_, _<_, _≤_}
-use mathlib.Core.Path.{_≡_, refl, sym, ap, _∙_}
-use mathlib.Core.Bool.{Bool, true, false, cond}
-use mathlib.Core.List.{List, [], _∷_, _++_}
+use Prim.Native.Nat.{ℕ, _≤_}
+use mathlib.Core.Path.{_≡_, refl, ap, _∙_}
+use mathlib.Core.Bool.{true, false, cond}
+use mathlib.Core.List.{List, [], _++_}
 use mathlib.Core.Option.{Option, none, some}
 use mathlib.Core.Logic.{_⊎_, inl, inr}
 use native.Mathlib.Omega.{arith}
@@ -12,10 +12,10 @@ use lib.Dec.{leb}
 use borrow.Author.Tests.{le-leb, leb-true}
 use Rattle.octets.proofs.Bools.{which}
 use Rattle.octets.proofs.Same.{same-eq, same-refl}
-use Rattle.der.specs.Got.{Got, ok, no, bind, check}
+use Rattle.der.specs.Got.{ok, check}
 use Rattle.der.specs.Element.{Part, element, cut, any, exactly}
-use Rattle.der.specs.Grammar.{closed, within, only, starts, optional, fieldOctets}
-use Rattle.der.proofs.Gots.{no-ok, bind-ok, check-ok, closed-ok}
+use Rattle.der.specs.Grammar.{closed, only, starts, optional, fieldOctets}
+use Rattle.der.proofs.Gots.{bind-ok, check-ok, closed-ok}
 use Rattle.der.proofs.Cuts.{cut-back, cut-forth}
 use Rattle.der.proofs.Nesting.{Forth, Back, Suits, within-forth, only-forth, within-back, only-back, optional-forth, optional-back, starts-past}
 use Rattle.envelope.specs.Envelope.{Envelope, Init, Resp, spnego, isState, identifiers, tailOctets, encoded, fineState, fine, few}

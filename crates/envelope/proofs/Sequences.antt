@@ -1,15 +1,14 @@
 -- The token's sequences, in the words of the code.
 -- Assumes nothing.
 use Prim.Native.Nat.{ℕ, _+_, _<_, _≤_}
-use mathlib.Core.Path.{_≡_, refl, sym, ap, _∙_}
+use mathlib.Core.Path.{_≡_, sym}
 use mathlib.Core.Bool.{Bool, true, false}
-use mathlib.Core.List.{List, [], _∷_}
-use mathlib.Core.Option.{Option}
+use mathlib.Core.List.{List, _∷_}
 use native.Mathlib.Omega.{arith}
-use lib.ListN.{length, getD}
+use lib.ListN.{getD}
 use lib.Dec.{leb}
 use borrow.Author.Tests.{le-leb, lt-leb}
-use Rattle.der.specs.Got.{Got, ok, no, bind, check}
+use Rattle.der.specs.Got.{check}
 use Rattle.der.specs.Grammar.{optional}
 use Rattle.der.specs.Holder.{Holder, part}
 use Rattle.der.proofs.Parts.{part-none, part-cons}
@@ -23,7 +22,6 @@ use Rattle.envelope.specs.declared.Listed.{Listed}
 use Rattle.envelope.specs.declared.Listed.the-variants as lists
 use Rattle.envelope.specs.declared.Tailed.{Tailed}
 use Rattle.envelope.specs.declared.Tailed.the-variants as tails
-use Rattle.envelope.specs.declared.Read.{Read}
 use Rattle.envelope.specs.declared.Read.the-variants as reads
 use Rattle.envelope.proofs.Optionals.{option-got-no, option-got, option-to, option-behind, field-in}
 use Rattle.envelope.proofs.Tails.{tail-got-no, tail-got, tail-placed}

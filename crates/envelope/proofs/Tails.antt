@@ -1,20 +1,16 @@
 -- The three fields behind the first, in the words of the code.
 -- Assumes nothing.
-use Prim.Native.Nat.{ℕ, _+_, _<_, _≤_}
-use mathlib.Core.Path.{_≡_, refl, sym, ap, _∙_}
-use mathlib.Core.Bool.{Bool, true, false}
-use mathlib.Core.List.{List, [], _∷_, _++_, append-nil}
-use mathlib.Core.Option.{Option, none, some}
-use native.Mathlib.Omega.{arith}
-use lib.ListN.{length}
-use Rattle.der.specs.Got.{Got, ok, no, bind}
-use Rattle.der.specs.Element.{Part, any}
-use Rattle.der.specs.Grammar.{closed, optional, fieldOctets}
+use Prim.Native.Nat.{ℕ}
+use mathlib.Core.Path.{_≡_, sym, ap, _∙_}
+use mathlib.Core.List.{List, append-nil}
+use Rattle.der.specs.Got.{Got, ok, no}
+use Rattle.der.specs.Element.{any}
+use Rattle.der.specs.Grammar.{optional}
 use Rattle.der.specs.Holder.{Holder, part}
 use Rattle.der.proofs.Parts.{part-none}
 use Rattle.der.proofs.Nesting.{optional-forth}
 use Rattle.envelope.specs.Reading.{Tail, tailOf}
-use Rattle.envelope.specs.Answers.{shown, Before, FieldTo, Optionals, TailPlaced, TailIn, toldTail, Tails}
+use Rattle.envelope.specs.Answers.{shown, Before, FieldTo, Optionals, TailPlaced, toldTail, Tails}
 use Rattle.envelope.specs.declared.Field.{Field}
 use Rattle.envelope.specs.declared.Field.the-variants as fields
 use Rattle.envelope.specs.declared.Optional.{Optional}

@@ -14,7 +14,7 @@
 --   leftOf k v       how many of k identifiers are still allowed behind those in v; countOf v: behind a list, of sixteen
 --   refusalOf        an element's refusal
 --   closedRead b r   the reading r, in a holder of which b says that it ends behind it
-use Prim.Native.Nat.{ℕ, zero, suc, _+_, _≤_}
+use Prim.Native.Nat.{ℕ, zero, suc, _≤_}
 use mathlib.Core.Path.{_≡_}
 use mathlib.Core.Bool.{Bool, true, false, cond}
 use mathlib.Core.List.{List, []}

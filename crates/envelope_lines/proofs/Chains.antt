@@ -4,7 +4,7 @@ use Prim.Native.Nat.{ℕ, suc, _+_, _-_, _≤_, _<_}
 use mathlib.Core.Path.{_≡_, refl, sym, ap, _∙_}
 use mathlib.Core.Bool.{Bool, true, false}
 use mathlib.Core.List.{List, [], _∷_, _++_}
-use mathlib.Core.Option.{Option, none, some}
+use mathlib.Core.Option.{Option, some}
 use native.Mathlib.Numerals.{add-one}
 use native.Mathlib.Omega.{arith}
 use lib.ListN.{length, drop, take, getD, drop-of-length-le, length-take}
@@ -12,7 +12,6 @@ use lib.Seq.{drop-cons}
 use mathlib.Core.Logic.{_⊎_, inl, inr}
 use lib.Dec.{leb}
 use borrow.Author.Tests.{leb-true}
-use Rattle.octets.specs.Octets.{sameOctets}
 use Rattle.octets.proofs.Same.{same-sizes}
 use Rattle.octets.proofs.Bools.{which}
 use Rattle.text.specs.Text.{quoted, decimal, decimal64, hexOf, Text, written}
@@ -21,9 +20,8 @@ use Rattle.der.specs.Got.{Got, ok, no, check}
 use Rattle.der.specs.Grammar.{fieldOctets}
 use Rattle.der.specs.Holder.{part}
 use Rattle.der.proofs.Parts.{length-part}
-use Rattle.envelope.specs.Envelope.{Envelope}
 use Rattle.envelope.specs.Reading.{listOf, envelopeOf}
-use Rattle.envelope.specs.Answers.{shown, mechanismsIn, valueOf, Placed, told, Reads}
+use Rattle.envelope.specs.Answers.{shown, mechanismsIn, told, Reads}
 use Rattle.envelope.specs.declared.Field.{Field}
 use Rattle.envelope.specs.declared.Field.the-variants as fields
 use Rattle.envelope.specs.declared.Init.{Init}
@@ -32,7 +30,7 @@ use Rattle.envelope.specs.declared.Read.{Read}
 use Rattle.envelope.specs.declared.Read.the-variants as reads
 use Rattle.envelope_parts.specs.Parts.{octetsIn, mechanismOf, isNegoex}
 use Rattle.envelope_parts.proofs.Mechanisms.{each-mechanism}
-use Rattle.envelope_lines.specs.Lines.{digitsOf, octetsText, mechanismLine, mechanismLines, octetsLine, namedLines, stateLine, tokenPlace, tokenLine, lastLines, headLine, refusedLine, textOf, envelopeText, tokenOf, octetsOf, tokenIn, begun, wroteLine}
+use Rattle.envelope_lines.specs.Lines.{digitsOf, octetsText, mechanismLine, mechanismLines, octetsLine, namedLines, stateLine, tokenPlace, tokenLine, lastLines, headLine, refusedLine, textOf, envelopeText, octetsOf, tokenIn, begun, wroteLine}
 use Rattle.envelope_lines.specs.Answers.{TokenAt, InitAt, toldInit, RespAt, toldResp}
 
 -- the digits of the octets that are left

@@ -4,7 +4,6 @@
 --   TokenAt s f k   the token f lies in s, and behind it stands the checksum k alone
 --   InitAt s i      the parts of an Init lie in s where they should; toldInit: what it says of the buffer
 --   RespAt s r      the parts of a Resp lie in s where they should; toldResp: what it says of the buffer
-use mathlib.Core.Path.{_≡_}
 use mathlib.Core.List.{List}
 use Prim.Native.Nat.{ℕ}
 use lib.ListN.{length}

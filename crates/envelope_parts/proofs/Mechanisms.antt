@@ -1,11 +1,10 @@
 -- The mechanisms shown one by one are those of the list; NEGOEX is recognised exactly.
 -- Assumes nothing.
-use Prim.Native.Nat.{ℕ, zero, suc, _<_, _≤_}
+use Prim.Native.Nat.{ℕ, zero, suc}
 use mathlib.Core.Path.{_≡_, refl}
 use mathlib.Core.Bool.{true, false}
 use mathlib.Core.List.{List, [], _∷_}
 use mathlib.Core.Logic.{_⊎_, inl, inr}
-use native.Mathlib.Omega.{arith}
 use lib.ListN.{length, getD}
 use borrow.Author.Tests.{le-leb}
 use Rattle.octets.proofs.Bools.{which}
@@ -16,7 +15,7 @@ use Rattle.der.proofs.Gots.{bind-ok, check-ok, no-ok}
 use Rattle.envelope.specs.Envelope.{negoex}
 use Rattle.envelope.specs.Reading.{filled, identifiersOf, listOf}
 use Rattle.envelope.proofs.Identifiers.{filled-false}
-use Rattle.envelope_parts.specs.Parts.{shownOf, identifierOf, mechanismOf}
+use Rattle.envelope_parts.specs.Parts.{identifierOf, mechanismOf}
 use Rattle.envelope_parts.specs.Claims.{EachMechanism, NegoexExactly, Dotted}
 
 nothing : (k : ℕ) → identifierOf k [] ≡ []

@@ -1,17 +1,17 @@
 -- One identifier of a list, in the words of the code.
 -- Assumes nothing.
 use Prim.Native.Nat.{ℕ, zero, suc, _-_, _<_, _≤_}
-use mathlib.Core.Path.{_≡_, refl, sym, ap, _∙_}
+use mathlib.Core.Path.{_≡_, refl, sym, _∙_}
 use mathlib.Core.List.{List, []}
 use native.Mathlib.Omega.{arith}
 use lib.ListN.{length, take, drop}
-use Rattle.der.specs.Element.{Part, frame, cut, any}
+use Rattle.der.specs.Element.{frame, cut, any}
 use Rattle.der.specs.Holder.{Holder, part, Cuts}
 use Rattle.der.specs.declared.Cut.{Cut}
 use Rattle.der.specs.declared.Cut.the-variants.{Element, Refused}
 use Rattle.der.proofs.Parts.{part-none}
 use Rattle.envelope.proofs.Holders.{got-no, got-ok, got-inside, holder-behind}
-use Rattle.envelope_parts.specs.Parts.{shownOf, identifierOf}
+use Rattle.envelope_parts.specs.Parts.{identifierOf}
 
 module _ (s : List ℕ) (at end left : ℕ) (x : List ℕ) (h : Holder s at end) (inv : x ≡ identifierOf left (part s at end)) where
   pub nth-end : end ≤ at → [] ≡ x

@@ -1,7 +1,5 @@
 // The parts of an envelope that was read, where they stand in the caller's buffer.
 ghost use mathlib.Core.Path.{_≡_};
-ghost use Prim.Native.Nat.{_≤_};
-ghost use lib.ListN.{length};
 ghost use Rattle.der.specs.Holder.{Holder, part};
 ghost use Rattle.envelope_parts.specs.Parts.{octetsIn, identifierOf, mechanismOf, isNegoex};
 use der::Cut;

@@ -1,6 +1,6 @@
 -- Which number is given when.
 -- Assumes nothing.
-use Prim.Native.Nat.{ℕ, zero, suc, _+_, _<_, _≤_}
+use Prim.Native.Nat.{ℕ, zero, suc, _+_, _≤_}
 use mathlib.Core.Path.{_≡_, refl, sym, ap, _∙_}
 use mathlib.Core.Bool.{Bool, true, false, _||_}
 use mathlib.Core.List.{List, [], _∷_, _++_, append-assoc}
@@ -13,12 +13,12 @@ use Rattle.octets.specs.Octets.{sameOctets}
 use Rattle.octets.proofs.Bools.{which}
 use Rattle.octets.proofs.Same.{same-eq, same-refl}
 use Rattle.der.specs.Got.{Got, ok, no, bind, check}
-use Rattle.der.specs.Element.{Part, Frame, element, lengthOf, leadOf, sizeOf, framed, framedFrom, frame, indefinite, shortest, judged, cut, any}
+use Rattle.der.specs.Element.{Part, element, leadOf, sizeOf, framed, framedFrom, frame, indefinite, shortest, judged, cut, any}
 use Rattle.der.specs.Grammar.{within, only, closed, starts}
 use Rattle.der.proofs.Cuts.{cut-forth}
 use Rattle.envelope.specs.Envelope.{Envelope, identifiers}
 use Rattle.envelope.specs.Reading.{filled, identifiersOf, listOf, wrappedOf, respOf, envelopeOf}
-use Rattle.envelope_refusals.specs.Refusals.{Exactly, ElementFault, missing, tag, past, contents, long, ElementExactly, WithinFault, outer, inner, WithinExactly, OnlyFault, before, left, OnlyExactly, EnvelopeFault, large, wrapper, response, EnvelopeExactly, SeventeenthFault, SeventeenthLast}
+use Rattle.envelope_refusals.specs.Refusals.{ElementFault, missing, tag, past, contents, long, ElementExactly, WithinFault, outer, inner, WithinExactly, OnlyFault, before, left, OnlyExactly, EnvelopeFault, large, wrapper, response, EnvelopeExactly, SeventeenthFault, SeventeenthLast}
 
 ok-no : {A B : Type 0} (a : A) (n : ℕ) → ok a ≡ no n → B
 ok-no a n e = let z : _≡_ {A = ℕ} 0 1 = cc in absurd (omega arith)

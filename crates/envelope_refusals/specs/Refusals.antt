@@ -16,7 +16,7 @@ use lib.ListN.{length}
 use Rattle.der.specs.Got.{Got, ok, no}
 use Rattle.der.specs.Element.{Part, lengthOf, leadOf, sizeOf, framed, cut, any}
 use Rattle.der.specs.Grammar.{within, only, starts}
-use Rattle.envelope.specs.Envelope.{Envelope, identifiers}
+use Rattle.envelope.specs.Envelope.{identifiers}
 use Rattle.envelope.specs.Reading.{listOf, wrappedOf, respOf, envelopeOf}
 
 pub record Exactly {A : Type 0} (g : Got A) (F : ℕ → Type 0) : Type 0 where

@@ -1,22 +1,21 @@
 -- What a line says, in the words of the code.
 -- Assumes nothing.
 use Prim.Native.Nat.{ℕ, _-_, _<_, _≤_}
-use mathlib.Core.Path.{_≡_, refl, sym, ap, _∙_}
+use mathlib.Core.Path.{_≡_, _∙_}
 use mathlib.Core.Bool.{Bool, true, false}
 use mathlib.Core.List.{List}
 use native.Mathlib.Omega.{arith}
 use lib.ListN.{length, take, drop, length-drop}
 use lib.Seq.{take-all}
-use lib.Dec.{ltb}
 use borrow.Author.Tests.{lt-ltb, le-ltb}
 use Rattle.octets.specs.Octets.{sameOctets}
 use Rattle.text.specs.Text.{quoted}
-use Rattle.fields.specs.Fields.{part, Numeral, is, nothing, numberOf, roomOf, Front, front, bad, decodedAs, fit, octetsOf}
+use Rattle.fields.specs.Fields.{numberOf, roomOf, Front, decodedAs, fit, octetsOf}
 use Rattle.fields.specs.declared.number.Number.{Number}
 use Rattle.fields.specs.declared.number.Number.the-variants as numbers
 use Rattle.fields.specs.declared.hex.Decoded.{Decoded}
 use Rattle.fields.specs.declared.hex.Decoded.the-variants as decoded
-use Rattle.envelope_script.specs.Grammar.{Said, nonsense, init, resp, state, octets, begins, behind, stateSaid, octetsSaid, fieldOf, lineOf}
+use Rattle.envelope_script.specs.Grammar.{Said, nonsense, init, resp, state, octets, begins, stateSaid, octetsSaid, fieldOf, lineOf}
 
 pub starts-is : (w s v : List ℕ) (b : Bool) → v ≡ take (length w - 0) (drop 0 s) → b ≡ sameOctets v w → b ≡ begins w s
 unfolding begins

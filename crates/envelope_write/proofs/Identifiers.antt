@@ -1,15 +1,15 @@
 -- Identifiers put one behind the other, in the words of the code.
 -- Assumes nothing.
 use Prim.Native.Nat.{ℕ, suc, _+_, _-_, _<_, _≤_}
-use mathlib.Core.Path.{_≡_, refl, sym, ap, _∙_}
-use mathlib.Core.List.{List, [], _∷_, _++_}
+use mathlib.Core.Path.{_≡_, refl, ap, _∙_}
+use mathlib.Core.List.{List, [], _∷_}
 use native.Mathlib.Omega.{arith}
 use lib.ListN.{length, take, drop, getD, length-drop}
 use lib.Seq.{take-all, length-take-le}
-use Rattle.put.specs.Put.{Written, put}
+use Rattle.put.specs.Put.{Written}
 use Rattle.put.proofs.Laws.{length-put}
 use Rattle.der.specs.Element.{element}
-use Rattle.der_put.specs.Size.{elementSize, headSize}
+use Rattle.der_put.specs.Size.{elementSize}
 use Rattle.der_put.proofs.Heads.{both, nothing}
 use Rattle.envelope.specs.Envelope.{identifiers}
 use Rattle.envelope_write.specs.Given.{sumOf, splitBy, identifiersSize, IdentifiersRoom}

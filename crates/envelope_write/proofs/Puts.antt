@@ -1,19 +1,19 @@
 -- Parts put one behind the other, in the words of the code.
 -- Assumes nothing.
-use Prim.Native.Nat.{ℕ, _+_, _<_, _≤_, min}
-use mathlib.Core.Path.{_≡_, refl, sym, ap, _∙_}
-use mathlib.Core.Bool.{Bool, true, false}
-use mathlib.Core.List.{List, [], _∷_, _++_, append-nil, append-assoc}
-use mathlib.Core.Option.{Option, none, some}
+use Prim.Native.Nat.{ℕ, _+_, _≤_}
+use mathlib.Core.Path.{_≡_, sym, ap, _∙_}
+use mathlib.Core.Bool.{Bool, true}
+use mathlib.Core.List.{List, [], _∷_, _++_, append-nil}
+use mathlib.Core.Option.{some}
 use native.Mathlib.Omega.{arith}
 use lib.ListN.{length, length-append}
-use Rattle.put.specs.Put.{Written, put, joined}
+use Rattle.put.specs.Put.{Written, joined}
 use Rattle.put.proofs.Laws.{Wrote, wrote, wrote-after, wrote-holds, length-put, step, done}
 use Rattle.der.specs.Element.{element}
 use Rattle.der.specs.Grammar.{fieldOctets}
 use Rattle.der_put.specs.Size.{head, headSize, elementSize, given, fieldSize}
 use Rattle.der_put.proofs.Heads.{length-element, length-field, size-bounds, size-one}
-use Rattle.envelope.specs.Envelope.{Envelope, Init, Resp, spnego, identifiers, tailOctets, sequence, encoded}
+use Rattle.envelope.specs.Envelope.{spnego, identifiers, tailOctets, sequence, encoded}
 use Rattle.envelope_write.specs.Given.{sumOf, splitBy, initGiven, respGiven, identifiersSize, tailSize, initSize, respSize, IdentifiersRoom, ListRoom, TailRoom, InitRoom, RespRoom}
 
 -- what is left of the room behind parts that were put

@@ -1,10 +1,10 @@
 -- An envelope stored or refused, in the words of the code.
 -- Assumes nothing.
-use Prim.Native.Nat.{ℕ, zero, suc, _+_, _<_, _≤_, min}
+use Prim.Native.Nat.{ℕ, suc, _+_, _<_, _≤_}
 use mathlib.Core.Path.{_≡_, refl, sym, ap, _∙_}
-use mathlib.Core.Bool.{Bool, true, false, cond}
+use mathlib.Core.Bool.{Bool, true, false}
 use mathlib.Core.List.{List, [], _∷_, _++_}
-use mathlib.Core.Option.{Option, none, some}
+use mathlib.Core.Option.{Option, some}
 use mathlib.Core.Logic.{_⊎_, inl, inr}
 use native.Mathlib.Omega.{arith}
 use lib.ListN.{length, take, drop, length-append, length-drop}
@@ -12,13 +12,13 @@ use lib.Seq.{length-take-le}
 use lib.Dec.{leb, eqb}
 use borrow.Author.Tests.{le-leb, lt-leb, leb-true, eqb-true, eq-eqb}
 use Rattle.octets.proofs.Bools.{which}
-use Rattle.put.specs.Put.{Written, put}
+use Rattle.put.specs.Put.{Written}
 use Rattle.der.specs.Element.{element}
 use Rattle.der.specs.Grammar.{fieldOctets}
 use Rattle.der.specs.Holder.{capped}
 use Rattle.der_put.specs.Size.{headSize, elementSize, given, fieldSize}
 use Rattle.der_put.proofs.Heads.{length-element, length-field, capped-element, size-bounds, size-one}
-use Rattle.envelope.specs.Envelope.{Envelope, Init, Resp, spnego, identifiers, tailOctets, sequence, encoded, fineState, fine, few}
+use Rattle.envelope.specs.Envelope.{Envelope, spnego, identifiers, tailOctets, sequence, encoded, fineState, fine, few}
 use Rattle.envelope_write.specs.Given.{sumOf, splitBy, initGiven, respGiven, identifiersSize, tailSize, initSize, respSize, mechanismsRefusal, Mechanisms, InitSized, InitRoom, RespSized, RespRoom}
 use Rattle.envelope_write.specs.Writing.{Outcome, stored, unstored, storing, storingInit}
 use Rattle.envelope_write.proofs.Puts.{length-tail}

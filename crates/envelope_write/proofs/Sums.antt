@@ -1,7 +1,7 @@
 -- Sizes and their sums, in the words of the code.
 -- Assumes nothing.
-use Prim.Native.Nat.{ℕ, zero, suc, _+_, _-_, _<_, _≤_, min}
-use mathlib.Core.Path.{_≡_, refl, sym, ap, _∙_}
+use Prim.Native.Nat.{ℕ, _+_, _-_, _<_, _≤_}
+use mathlib.Core.Path.{_≡_, sym, _∙_}
 use mathlib.Core.Bool.{Bool, true, false}
 use mathlib.Core.List.{List, [], _∷_}
 use mathlib.Core.Logic.{_⊎_, inl, inr}
@@ -14,10 +14,10 @@ use borrow.Author.Tests.{eq-eqb, ne-eqb, eqb-true, eqb-false, le-leb, lt-leb}
 use Rattle.octets.proofs.Bools.{which}
 use Rattle.der.specs.Element.{atMost}
 use Rattle.der.specs.Holder.{capped}
-use Rattle.der_put.specs.Size.{headSize, elementSize, fieldSize, given}
+use Rattle.der_put.specs.Size.{elementSize, fieldSize, given}
 use Rattle.der_put.proofs.Heads.{size-bounds}
 use Rattle.envelope.specs.Envelope.{fineState}
-use Rattle.envelope_write.specs.Given.{sumOf, identifiersSize, tailSize, mechanismsRefusal, Mechanisms}
+use Rattle.envelope_write.specs.Given.{sumOf, identifiersSize, tailSize, mechanismsRefusal}
 
 eqb-same : (a b c d : ℕ) → (a ≡ b → c ≡ d) → (c ≡ d → a ≡ b) → eqb a b ≡ eqb c d
 eqb-same a b c d f g = go (which (eqb a b)) where

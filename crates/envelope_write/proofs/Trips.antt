@@ -1,9 +1,9 @@
 -- What is written reads back equal, what is read and written again gives the same octets, and a refusal changes nothing.
 -- Assumes nothing.
-use Prim.Native.Nat.{ℕ, _≤_}
-use mathlib.Core.Path.{_≡_, refl, sym, ap, _∙_}
-use mathlib.Core.Bool.{Bool, true, false}
-use mathlib.Core.List.{List, _++_}
+use Prim.Native.Nat.{ℕ}
+use mathlib.Core.Path.{_≡_, sym, _∙_}
+use mathlib.Core.Bool.{true, false}
+use mathlib.Core.List.{List}
 use mathlib.Core.Logic.{_⊎_, inl, inr}
 use native.Mathlib.Omega.{arith}
 use lib.ListN.{length, take}
@@ -17,7 +17,7 @@ use Rattle.envelope.specs.Envelope.{Envelope, encoded, fine, few}
 use Rattle.envelope.specs.Reading.{envelopeOf}
 use Rattle.envelope.specs.Claims.{OneReading}
 use Rattle.envelope.proofs.RoundTrip.{encoded-read, read-encoded}
-use Rattle.envelope_write.specs.Writing.{Outcome, stored, unstored, storing}
+use Rattle.envelope_write.specs.Writing.{stored, unstored, storing}
 use Rattle.envelope_write.specs.Claims.{WrittenReads, ReadWritten, RefusedKeeps}
 
 no-stored : {A : Type 0} (k n : ℕ) (d d' : List ℕ) → unstored k d ≡ stored n d' → A

@@ -14,7 +14,7 @@
 --   InitRoom        a whole Init may be put, `list` being the octets of its identifiers and `inner` those of its fields; RespRoom: a whole Resp
 --   initSize, respSize   how many octets the whole has, where its fields have so many
 use mathlib.Core.Path.{_≡_}
-use Prim.Native.Nat.{ℕ, _+_, _≤_, min}
+use Prim.Native.Nat.{ℕ, _+_, _≤_}
 use mathlib.Core.Bool.{Bool, true, cond}
 use mathlib.Core.List.{List, [], _∷_}
 use mathlib.Core.Option.{Option}

@@ -1,10 +1,10 @@
 -- Every line of a token has fewer than 128 octets, so windows in buffers of 128 octets and more hold the whole listing.
 -- Assumes nothing.
-use Prim.Native.Nat.{ℕ, _+_, _<_, _≤_}
-use mathlib.Core.Path.{_≡_, refl}
+use Prim.Native.Nat.{ℕ, _+_, _≤_}
+use mathlib.Core.Path.{refl}
 use mathlib.Core.List.{List, [], _∷_, List·Memᴰ, List·Memᴰ·head, List·Memᴰ·tail}
 use native.Mathlib.Omega.{arith}
-use lib.ListN.{length, getD}
+use lib.ListN.{length}
 use Rattle.windows.specs.Windows.{Request, windowOf, EachShows}
 use Rattle.windows.proofs.Covers.{gets-on, windows-all}
 use Rattle.windows.proofs.Stepping.{getD-texts}

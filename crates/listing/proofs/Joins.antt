@@ -1,6 +1,6 @@
 -- The listing of joined tokens.
 -- Assumes nothing.
-use Prim.Native.Nat.{ℕ, _+_, _-_}
+use Prim.Native.Nat.{ℕ, _-_}
 use mathlib.Core.Path.{_≡_, refl, sym, ap, _∙_}
 use mathlib.Core.List.{List, [], _∷_, _++_, append-assoc}
 use native.Mathlib.Nat.{zero-add}
@@ -16,7 +16,7 @@ use Rattle.lines.specs.Lines.{messageLines, endLine}
 use Rattle.windows.specs.Windows.{texts}
 use Rattle.windows.proofs.Stepping.{texts-append}
 use Rattle.listing.specs.Listing.{allLines, readingLines, linesOf}
-use Rattle.listing.specs.Joined.{frontLines, movedLines, JoinedListing, MovedMessage}
+use Rattle.listing.specs.Joined.{frontLines, JoinedListing, MovedMessage}
 
 lines-append : (xs ys : List Placed) → allLines (xs ++ ys) ≡ allLines xs ++ allLines ys
 unfolding allLines

@@ -8,7 +8,7 @@ use native.Mathlib.Omega.{arith}
 use lib.ListN.{length, take, drop, length-append, length-drop}
 use lib.Seq.{take-all}
 use Rattle.octets.proofs.Slices.{tail-all}
-use Rattle.message.specs.Layout.{headOf, headerOf, contentOf, vectorsOf, size, front}
+use Rattle.message.specs.Layout.{headerOf, contentOf, vectorsOf, size, front}
 use Rattle.message.specs.Check.{allKeepRule, bodyRows, contentRows, frontRows}
 use Rattle.message.specs.Show.{firstOf}
 use Rattle.message.proofs.Tables.{given}

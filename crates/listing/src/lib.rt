@@ -1,6 +1,6 @@
 // The lines of a token, and windows of them.
 ghost use mathlib.Core.Path.{_≡_};
-ghost use Prim.Native.Nat.{_+_, _-_};
+ghost use Prim.Native.Nat.{_-_};
 ghost use mathlib.Core.List.{[]};
 ghost use lib.ListN.{length, drop, getD};
 ghost use Rattle.token.specs.Token.{tokenOf};

@@ -9,7 +9,6 @@ use native.Mathlib.Omega.{arith}
 use lib.ListN.{length}
 use borrow.Author.Tests.{le-leb, lt-leb, eq-eqb, ne-eqb, leb-true, eqb-true}
 use Rattle.octets.specs.Octets.{le}
-use Rattle.message.specs.declared.Header.{Header}
 use Rattle.message.specs.declared.Kind.{Kind}
 use Rattle.message.specs.Layout.{Head, shapeOf, headerOf, headOf}
 use Rattle.message.specs.Check.{SIGNATURE, read, refused, commonRows, allPass, headerVerdict, fieldsOf, Passed, HeaderPassed}

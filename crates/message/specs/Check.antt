@@ -15,12 +15,12 @@
 --   fieldsOf h           the header's fields that later checks and the listing go by
 --   headerVerdict        the verdict by 2 to 6; bodyVerdict: by 10 to 13; messageVerdict: by both
 --   Passed s h           the header of the message at the front of s passed 2 to 6 as h; HeaderPassed: as each that reading answers did
-use Prim.Native.Nat.{ℕ, zero, suc, _+_, _≤_}
+use Prim.Native.Nat.{ℕ, _≤_}
 use mathlib.Core.Path.{_≡_}
 use mathlib.Core.Bool.{Bool, true, false, cond, not, _&&_}
 use mathlib.Core.Logic.{_⊎_}
 use mathlib.Core.List.{List, [], _∷_, _++_}
-use lib.ListN.{length, getD}
+use lib.ListN.{length}
 use lib.Dec.{leb, eqb}
 use Rattle.octets.specs.Octets.{le, signed32, negative}
 use Rattle.vector.specs.declared.Vector.{Vector}
@@ -28,7 +28,7 @@ use Rattle.vector.specs.Vector.{keepsRule}
 use Rattle.message.specs.declared.Header.{Header}
 use Rattle.message.specs.declared.Read.{Read}
 use Rattle.message.specs.declared.Read.the-variants as answer
-use Rattle.message.specs.Layout.{Shape, shapeOf, headerOf, Pad, padsOf, signature, Head, headOf, Element, Content, Nego, Exchange, Verify, Alert, contentOf, vectorsOf, size, front}
+use Rattle.message.specs.Layout.{Shape, shapeOf, headerOf, signature, Head, headOf, Element, Content, Nego, Exchange, Verify, Alert, contentOf, vectorsOf, size, front}
 
 pub record Row : Type 0 where
   pub number : ℕ

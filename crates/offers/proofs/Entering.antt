@@ -1,27 +1,26 @@
 -- The table's functions in the words of the code, and what they keep.
 -- Assumes nothing.
 use Prim.Native.Nat.{ℕ, zero, suc, _+_, _*_, _-_, _≤_, _<_, _^_}
-use mathlib.Core.Path.{_≡_, refl, sym, ap, _∙_}
-use mathlib.Core.Bool.{Bool, true, false, cond, not, _||_, _&&_}
-use mathlib.Core.Logic.{_⊎_, inl, inr}
-use mathlib.Core.List.{List, [], _∷_, _++_}
+use mathlib.Core.Path.{_≡_, refl, sym, _∙_}
+use mathlib.Core.Bool.{Bool, true, false, not, _||_}
+use mathlib.Core.Logic.{inl, inr}
+use mathlib.Core.List.{List, [], _∷_}
 use native.Mathlib.Nat.{add-sub-cancel-left}
 use native.Mathlib.Numerals.{sub-one}
 use native.Mathlib.Omega.{arith}
-use lib.ListN.{length, getD, set, take, drop, length-take, length-drop}
+use lib.ListN.{length, getD, set, take, drop}
 use lib.Seq.{drop-drop, set-out, getD-set-same, getD-set-other}
 use lib.Dec.{leb, ltb, eqb}
 use borrow.Author.Tests.{le-leb, lt-leb, leb-false, ltb-true, ltb-false, eqb-true, eqb-false}
-use Rattle.octets.specs.Octets.{octets}
 use Rattle.octets.proofs.Bools.{which}
-use Rattle.message.specs.Show.{idsAt, idsOf}
+use Rattle.message.specs.Show.{idsAt}
 use Rattle.put.specs.Put.{put, Written}
 use Rattle.schemes.specs.Lists.{Id, mem}
 use Rattle.offers.specs.declared.Table.{Table}
 use Rattle.coverage.specs.Coverage.{one}
 use Rattle.coverage.proofs.Marks.{one-le}
 use Rattle.offers.specs.Offers.{allIn}
-use Rattle.offers.specs.Table.{namesIn, pickTable, enteredIn, enteredAllIn, tickedFrom, tickedIn, offeredIn, Counting}
+use Rattle.offers.specs.Table.{namesIn, pickTable, enteredIn, enteredAllIn, tickedFrom, offeredIn, Counting}
 
 -- ---- `enter`
 module _ (t : Table) (id : Id) (b : Bool) (b-is : b ≡ mem id (idsAt (t .count) (t .ids))) where

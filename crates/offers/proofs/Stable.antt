@@ -1,20 +1,20 @@
 -- A table that takes messages one by one is the table of all of them.
 -- Assumes nothing.
-use Prim.Native.Nat.{ℕ, zero, suc, _+_, _≤_, _<_}
+use Prim.Native.Nat.{ℕ, _+_, _≤_, _<_}
 use mathlib.Core.Path.{_≡_, refl, sym, ap, _∙_}
-use mathlib.Core.Bool.{Bool, true, false, cond, not, _&&_, _||_}
+use mathlib.Core.Bool.{Bool, true, false, cond, not, _||_}
 use mathlib.Core.Logic.{_⊎_, inl, inr}
 use mathlib.Core.List.{List, [], _∷_, _++_, append-assoc, append-nil}
 use native.Mathlib.Omega.{arith}
 use lib.ListN.{length, length-append}
 use lib.Dec.{leb}
-use borrow.Author.Tests.{le-leb, lt-leb, leb-true, leb-false}
+use borrow.Author.Tests.{le-leb, leb-true, leb-false}
 use Rattle.octets.proofs.Bools.{which}
 use Rattle.octets.specs.Octets.{sameOctets}
 use Rattle.octets.proofs.Same.{same-eq, same-refl}
 use Rattle.schemes.specs.Lists.{Id, mem}
 use Rattle.schemes.proofs.Choice.{mem-head, mem-tail}
-use Rattle.offers.specs.Offers.{entered, enteredAll, mentioned, firstSchemes, listing, allIn, beyond, listings, Offers, offersOf, ticked, withOffer, withOffers, OfferCounted}
+use Rattle.offers.specs.Offers.{entered, enteredAll, mentioned, firstSchemes, listing, allIn, beyond, listings, offersOf, ticked, withOffer, withOffers, OfferCounted}
 use Rattle.coverage.specs.Coverage.{one}
 
 -- ---- membership

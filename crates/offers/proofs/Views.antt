@@ -3,13 +3,13 @@
 use Prim.Native.Nat.{ℕ, zero, suc, _+_, _*_, _≤_, _<_}
 use mathlib.Core.Path.{_≡_, refl, sym, ap, _∙_}
 use mathlib.Core.Bool.{Bool, true, false, cond, not, _||_}
-use mathlib.Core.Logic.{_⊎_, inl, inr}
+use mathlib.Core.Logic.{inl, inr}
 use mathlib.Core.List.{List, [], _∷_, _++_, append-assoc}
 use native.Mathlib.Nat.{mul-comm}
 use native.Mathlib.Numerals.{add-one}
 use native.Mathlib.Omega.{arith}
-use lib.ListN.{length, getD, take, drop, set, length-set, List·getD-eq-default, length-append, length-take, length-drop, take-append-drop}
-use lib.Seq.{set-out, getD-set-same, getD-set-other, take-append-le, drop-append-le, take-at as front-at, drop-at, length-take-le}
+use lib.ListN.{length, getD, take, drop, set, length-set, List·getD-eq-default, length-take, length-drop, take-append-drop}
+use lib.Seq.{getD-set-same, getD-set-other, take-append-le, drop-append-le, take-at as front-at, drop-at, length-take-le}
 use lib.Dec.{leb, ltb, eqb}
 use borrow.Author.Tests.{leb-false, ltb-true, ltb-false, eqb-true, eqb-false}
 use Rattle.octets.proofs.Bools.{which}
@@ -23,7 +23,7 @@ use Rattle.schemes.proofs.Mentions.{ids-snoc}
 use Rattle.offers.specs.declared.Table.{Table}
 use Rattle.offers.specs.Offers.{Offers, entered, enteredAll, allIn, ticked, withOffer}
 use Rattle.coverage.specs.Coverage.{one}
-use Rattle.offers.specs.Table.{namesIn, pickTable, enteredIn, enteredAllIn, tickedFrom, tickedIn, offeredIn, offersIn, Kept, AllIds, TableOffers}
+use Rattle.offers.specs.Table.{namesIn, pickTable, enteredIn, enteredAllIn, tickedFrom, offeredIn, Kept, AllIds, TableOffers}
 
 -- ids stand in the octets before them alone
 ids-front : (j : ℕ) (a b : List ℕ) → length a ≡ j * 16 → idsAt j (a ++ b) ≡ idsAt j a

@@ -1,21 +1,20 @@
 -- Every line has fewer than 128 octets, and there is at most one line more than the file has octets.
 -- Assumes nothing.
 use Prim.Native.Nat.{ℕ, _+_, _<_, _≤_}
-use mathlib.Core.Path.{_≡_, refl, ap}
+use mathlib.Core.Path.{refl, ap}
 use mathlib.Core.Bool.{Bool, true, false, cond}
 use mathlib.Core.List.{List, [], _∷_, _++_, List·Memᴰ, List·Memᴰ·head, List·Memᴰ·tail}
 use native.Mathlib.Omega.{arith}
 use lib.ListN.{length, drop, length-append}
 use lib.Dec.{leb}
 use Rattle.message.specs.Layout.{headOf, front}
-use Rattle.token.specs.Token.{Placed}
 use Rattle.text.proofs.Digits.{length-decimal}
 use Rattle.lines.specs.Lines.{messageLines, endLine, refusedLine}
 use Rattle.lines.proofs.Shorts.{Short, Shorts, short-end, short-refused, shorts-append, shorts-message, short-at}
 use Rattle.windows.proofs.Stepping.{getD-texts, length-texts}
 use Rattle.listing.proofs.Bounds.{message-few}
 use Rattle.recovery.specs.Recovery.{Piece, taken, skipped, takenOf, piecesOf, skippedLine, pieceLines, allPieceLines, recoveryLines, recoveredLines}
-use Rattle.recovery.specs.Pieces.{start, extent, FollowOn, ShortRecovered, FewRecovered}
+use Rattle.recovery.specs.Pieces.{extent, FollowOn, ShortRecovered, FewRecovered}
 use Rattle.recovery.proofs.Turns.{readable-message}
 use Rattle.recovery.proofs.Firsts.{pieces-cover, taken-readable}
 

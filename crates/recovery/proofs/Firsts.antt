@@ -13,9 +13,8 @@ use borrow.Author.Tests.{ltb-true, ltb-false, lt-ltb, le-ltb}
 use Rattle.octets.proofs.Bools.{which}
 use Rattle.message.specs.Layout.{size, front}
 use Rattle.token.specs.Token.{Placed}
-use Rattle.token.proofs.Cuts.{placed}
 use Rattle.recovery.specs.Recovery.{readable, takenFrom, takenOf, Piece, taken, skipped, skipTo, piecesFrom, piecesOf}
-use Rattle.recovery.specs.Pieces.{start, extent, FollowOn, octetsIn, joinedIn, Apart, PiecesCover, PiecesApart, TakenReadable, SkippedUnreadable}
+use Rattle.recovery.specs.Pieces.{extent, FollowOn, joinedIn, Apart, PiecesCover, PiecesApart, TakenReadable, SkippedUnreadable}
 use Rattle.recovery.proofs.Turns.{readable-front, take-first, skip-first}
 
 -- at no place from a up to b can a message be read

@@ -4,11 +4,11 @@ use Prim.Native.Nat.{ℕ, zero, suc, _+_, _-_, _<_, _≤_}
 use mathlib.Core.Path.{_≡_, refl, sym, ap, _∙_}
 use mathlib.Core.Bool.{Bool, true, false, cond}
 use mathlib.Core.Logic.{_⊎_, inl, inr}
-use mathlib.Core.List.{List, [], _∷_, _++_, map, append-assoc, head-eq-of-cons-eq, tail-eq-of-cons-eq}
-use native.Mathlib.Nat.{zero-add, add-assoc}
+use mathlib.Core.List.{List, [], _∷_, _++_, append-assoc, head-eq-of-cons-eq, tail-eq-of-cons-eq}
+use native.Mathlib.Nat.{zero-add}
 use native.Mathlib.Omega.{arith}
 use lib.ListN.{length, length-append}
-use lib.Dec.{leb, ltb}
+use lib.Dec.{ltb}
 use borrow.Author.Tests.{le-leb, lt-ltb, le-ltb, ltb-true, ltb-false}
 use Rattle.octets.proofs.Bools.{which}
 use Rattle.message.specs.Layout.{size, front}
@@ -20,7 +20,7 @@ use Rattle.lines.specs.Lines.{endLine}
 use Rattle.windows.specs.Windows.{texts}
 use Rattle.windows.proofs.Stepping.{texts-append}
 use Rattle.recovery.specs.Recovery.{readable, takenFrom, takenOf, Piece, taken, skipped, skipTo, piecesFrom, piecesOf, pieceLines, allPieceLines, recoveryLines, recoveredLines}
-use Rattle.recovery.specs.Pieces.{movedPiece, movedPieces, TailAlone, TailLines, DamageBefore}
+use Rattle.recovery.specs.Pieces.{movedPieces, TailAlone, TailLines, DamageBefore}
 use Rattle.recovery.proofs.Turns.{take-first, skip-first}
 use Rattle.recovery.proofs.Firsts.{skip-none}
 

@@ -1,13 +1,12 @@
 -- One turn of the reading: a message is taken, or an octet is skipped.
 -- Assumes nothing.
 use Prim.Native.Nat.{ℕ, zero, suc, _+_, _-_, _<_, _≤_}
-use mathlib.Core.Path.{_≡_, refl, sym, ap, subst, _∙_}
+use mathlib.Core.Path.{_≡_, refl, sym, ap, _∙_}
 use mathlib.Core.Bool.{true, false}
 use mathlib.Core.List.{List, [], _∷_, _++_}
 use native.Mathlib.Omega.{arith}
-use lib.ListN.{length, take, drop, length-append, length-take, length-drop}
+use lib.ListN.{length, take, drop, length-take, length-drop}
 use lib.Seq.{drop-nil, take-at, drop-at, length-take-le}
-use Rattle.octets.specs.Octets.{octets}
 use Rattle.octets.proofs.Same.{id-refl}
 use Rattle.message.specs.Layout.{Head, headOf, size, front}
 use Rattle.message.specs.Check.{allPass, commonRows, frontRows, messageRows}

@@ -2,11 +2,11 @@
 -- Assumes nothing.
 use Prim.Native.Nat.{ℕ, _+_, _≤_}
 use mathlib.Core.Path.{_≡_, refl, sym, ap, _∙_}
-use mathlib.Core.List.{List, [], _∷_, _++_, map, append-nil}
+use mathlib.Core.List.{List, [], _∷_, _++_, map}
 use native.Mathlib.Omega.{arith}
 use lib.ListN.{length, length-append}
 use Rattle.message.specs.Layout.{headOf}
-use Rattle.token.specs.Token.{Placed, Reading, Accepted, tokenOf}
+use Rattle.token.specs.Token.{Placed, Reading}
 use Rattle.token.specs.Split.{Numbered, join, placedFrom}
 use Rattle.token.proofs.Cuts.{placed}
 use Rattle.token.proofs.Splits.{accepted-splits}

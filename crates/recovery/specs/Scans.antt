@@ -7,7 +7,7 @@
 --   advanced r s d    the reading s after one turn, the octets from its place on being r
 --   ShowsPieces f t s d  the reading s of the file f, and the buffer d, are what all pieces come to from t on
 --   InFile s n        the reading s is inside a file that has n octets from its place on, and that is not too long
-use Prim.Native.Nat.{ℕ, _+_, _<_, _≤_}
+use Prim.Native.Nat.{ℕ, _+_, _≤_}
 use mathlib.Core.Path.{_≡_}
 use mathlib.Core.Bool.{cond}
 use mathlib.Core.List.{List, []}

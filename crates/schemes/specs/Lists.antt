@@ -13,7 +13,7 @@
 --   oneTo16 l         1 to 16 different schemes; wholeIds l: each has 16 octets
 --   joinIds l         the octets of the schemes, one behind the other
 --   listOk octets     what 19 asks of an own list, handed over as octets
-use Prim.Native.Nat.{ℕ, zero, suc, _+_, _/_, _%_}
+use Prim.Native.Nat.{ℕ, zero, suc, _/_, _%_}
 use mathlib.Core.Bool.{Bool, true, false, cond, not, _&&_}
 use mathlib.Core.List.{List, [], _∷_, _++_}
 use mathlib.Core.Option.{Option, none, some}

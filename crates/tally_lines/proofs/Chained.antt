@@ -2,21 +2,17 @@
 -- Assumes nothing.
 use Prim.Native.Nat.{ℕ, zero, suc, _+_, _*_, _-_, _≤_, _<_}
 use mathlib.Core.Path.{_≡_, refl, sym, ap, _∙_}
-use mathlib.Core.Bool.{true, false, cond}
 use mathlib.Core.List.{List, [], _∷_, _++_}
-use native.Mathlib.Nat.{add-sub-cancel-left}
 use native.Mathlib.Numerals.{add-one, sub-one}
 use native.Mathlib.Omega.{arith}
 use lib.ListN.{length, getD, take, drop, drop-of-length-le}
 use lib.Seq.{drop-cons, drop-drop}
-use lib.Dec.{leb, eqb}
 use borrow.Author.Tests.{eq-eqb, ne-eqb, le-leb, lt-leb}
 use Rattle.message.specs.Show.{idsAt}
 use Rattle.text.specs.Text.{quoted, decimal64, idText, Text, written}
 use Rattle.text.proofs.Pieces.{then, written-append}
 use Rattle.schemes.specs.Lists.{Id}
 use Rattle.tallying.specs.declared.Tally.{Tally}
-use Rattle.tallying.specs.Files.{Totals}
 use Rattle.tallying.specs.Tally.{totalsIn}
 use Rattle.tally_lines.specs.Lines.{totalLine, numberLine, typeLines, refusedLine, refusedLines, schemeLine, schemeLines, octetLines, lastLines, tallyText, shownText}
 

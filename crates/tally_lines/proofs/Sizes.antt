@@ -1,7 +1,7 @@
 -- The text of a tally has fewer than 8,192 octets.
 -- Assumes nothing.
-use Prim.Native.Nat.{ℕ, zero, suc, _+_, _*_, _≤_, _<_}
-use mathlib.Core.Path.{_≡_, refl, sym, ap, _∙_}
+use Prim.Native.Nat.{ℕ, _+_, _*_, _≤_}
+use mathlib.Core.Path.{_≡_, refl, ap, _∙_}
 use mathlib.Core.Bool.{Bool, true, false, cond}
 use mathlib.Core.List.{List, [], _∷_, _++_}
 use native.Mathlib.Nat.{zero-add}
@@ -12,7 +12,7 @@ use borrow.Author.Tests.{leb-true}
 use Rattle.message.specs.Show.{idsAt}
 use Rattle.message.proofs.Ids.{length-ids}
 use Rattle.put.specs.Put.{put, joined}
-use Rattle.text.specs.Text.{quoted, decimal64, idText, idOrder, text, written}
+use Rattle.text.specs.Text.{quoted, decimal64, idText, idOrder, text}
 use Rattle.text.proofs.Pieces.{length-glyphs, length-joined, written-joined}
 use Rattle.text.proofs.Digits.{length-decimal}
 use Rattle.schemes.specs.Lists.{Id}

@@ -1,27 +1,25 @@
 -- How far the counts can go.
 -- Assumes nothing.
-use Prim.Native.Nat.{ℕ, zero, suc, _+_, _*_, _-_, _≤_, _<_}
-use mathlib.Core.Path.{_≡_, refl, sym, ap, subst, _∙_}
-use mathlib.Core.Bool.{Bool, true, false, _&&_}
-use mathlib.Core.Logic.{_⊎_, inl, inr}
-use mathlib.Core.List.{List, [], _∷_, _++_}
+use Prim.Native.Nat.{ℕ, zero, suc, _+_, _≤_}
+use mathlib.Core.Path.{_≡_, refl}
+use mathlib.Core.Bool.{Bool, true, false}
+use mathlib.Core.List.{List, [], _∷_}
 use native.Mathlib.Omega.{arith}
-use lib.ListN.{length, getD, set, length-append}
+use lib.ListN.{length, getD}
 use lib.Dec.{leb}
-use borrow.Author.Tests.{le-leb, lt-leb, leb-true}
-use Rattle.octets.proofs.Bools.{which, both, and-i}
+use borrow.Author.Tests.{le-leb, leb-true}
+use Rattle.octets.proofs.Bools.{both}
 use Rattle.message.specs.Layout.{headOf}
 use Rattle.message.specs.Show.{schemesIn}
-use Rattle.token.specs.Split.{join}
 use Rattle.coverage.specs.Coverage.{inHeader, inVector, isBare, count, headerOctets, vectorOctets, bareOctets}
 use Rattle.coverage.proofs.Sums.{count-not}
 use Rattle.offers.specs.declared.Table.{Table}
-use Rattle.offers.specs.Table.{pickTable, offeredIn, Counting}
+use Rattle.offers.specs.Table.{pickTable, offeredIn}
 use Rattle.offers.proofs.Mosts.{set-most, offered-few, offered-counts, offered-others}
 use Rattle.tallying.specs.declared.Tally.{Tally}
 use Rattle.tallying.specs.Files.{isNego}
-use Rattle.tallying.specs.Tally.{oneMore, withMessage, withMessages, withAnswer, LIMIT, allWithin, totalsWithin, inLimits}
-use Rattle.tallying.specs.Counting.{Small, Bounded}
+use Rattle.tallying.specs.Tally.{oneMore, withMessage, withAnswer, LIMIT, allWithin, totalsWithin, inLimits}
+use Rattle.tallying.specs.Counting.{Bounded}
 
 -- ---- what a message adds
 count-most : (f : ℕ → Bool) (n : ℕ) → count f n 0 ≤ n

@@ -3,14 +3,12 @@
 use Prim.Native.Nat.{ℕ, zero, suc, _+_, _*_, _/_, _≤_, _<_}
 use mathlib.Core.Path.{_≡_, refl, sym, ap, subst, _∙_}
 use mathlib.Core.Bool.{Bool, true, false, cond}
-use mathlib.Core.Logic.{_⊎_, inl, inr}
 use mathlib.Core.List.{List, [], _∷_, _++_, append-assoc, append-nil}
 use native.Mathlib.Nat.{zero-add}
 use native.Mathlib.Omega.{arith}
-use lib.ListN.{length, getD, set, replicate, length-append, length-replicate}
-use lib.Dec.{leb, eqb}
-use borrow.Author.Tests.{eqb-true, eqb-false, eq-eqb, ne-eqb}
-use Rattle.octets.proofs.Bools.{which}
+use lib.ListN.{length, getD, replicate, length-append, length-replicate}
+use lib.Dec.{eqb}
+use borrow.Author.Tests.{eq-eqb, ne-eqb}
 use Rattle.vector.specs.Vector.{shown}
 use Rattle.message.specs.Layout.{headOf, schemeVector}
 use Rattle.message.specs.Show.{idsAt, idsOf, schemesIn}
@@ -18,18 +16,16 @@ use Rattle.token.specs.Token.{Reading, Accepted, Refused, tokenOf}
 use Rattle.token.specs.Walk.{messagesOf, Accepts}
 use Rattle.token.specs.Split.{Numbered, join}
 use Rattle.token.proofs.Splits.{message-length}
-use Rattle.token.proofs.Walks.{Left, whole, accepted-short}
-use Rattle.schemes.specs.Lists.{Id}
+use Rattle.token.proofs.Walks.{whole, accepted-short}
 use Rattle.coverage.specs.Coverage.{one, headerOctets, vectorOctets, bareOctets}
-use Rattle.offers.specs.declared.Table.{Table}
 use Rattle.offers.specs.Offers.{Offers, enteredAll, mentioned, firstSchemes, listings, beyond, offersOf, withOffer}
 use Rattle.offers.specs.Table.{pickTable, offeredIn, offersIn, Kept, AllIds}
 use Rattle.offers.proofs.Stable.{offer-counted}
 use Rattle.offers.proofs.Views.{table-offers, kept-offered, ids-each}
 use Rattle.tallying.specs.declared.Tally.{Tally}
 use Rattle.tallying.specs.declared.Counted.{Counted}
-use Rattle.tallying.specs.Files.{File, Opened, Missing, allOctets, numberOf, messagesIn, answerOf, allMessages, typed, sumOf, isNego, listsIn, answered, ofEach, Totals, totalsOf}
-use Rattle.tallying.specs.Tally.{totalsIn, emptyTally, oneMore, withMessage, withMessages, withAnswer, tallied, LIMIT, inLimits, pickCounted, countedOf, runOf, TallyOfFiles, NeverRefused, RefusedAlone, MissingAlone, OutsideUnchanged}
+use Rattle.tallying.specs.Files.{File, Opened, Missing, allOctets, messagesIn, answerOf, allMessages, typed, sumOf, isNego, listsIn, answered, ofEach, totalsOf}
+use Rattle.tallying.specs.Tally.{emptyTally, oneMore, withMessage, withMessages, withAnswer, tallied, LIMIT, inLimits, countedOf, runOf, TallyOfFiles, NeverRefused, RefusedAlone, MissingAlone, OutsideUnchanged}
 use Rattle.tallying.specs.Counting.{Bounded}
 use Rattle.tallying.proofs.Bounds.{bounded-message, bounded-answer, bounded-more, bounded-limits}
 use Rattle.tallying.proofs.Steps.{left-octets}

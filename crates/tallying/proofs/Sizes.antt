@@ -7,8 +7,6 @@ use mathlib.Core.List.{List, [], _∷_, _++_, List·Memᴰ}
 use native.Mathlib.Omega.{arith}
 use lib.ListN.{length, length-append}
 use lib.Dec.{leb}
-use Rattle.vector.specs.declared.Vector.{Vector}
-use Rattle.vector.specs.Vector.{extent}
 use Rattle.message.specs.Layout.{contentIn, vectorsOf}
 use Rattle.token.specs.Token.{Reading, Accepted, Refused, tokenOf}
 use Rattle.token.specs.Walk.{messagesOf, Accepts}

@@ -1,12 +1,12 @@
 -- The functions in the words of the code.
 -- Assumes nothing.
-use Prim.Native.Nat.{ℕ, zero, suc, _+_, _*_, _-_, _≤_, _<_, _^_}
+use Prim.Native.Nat.{ℕ, _+_, _-_, _≤_, _<_, _^_}
 use mathlib.Core.Path.{_≡_, refl, sym, ap, subst, _∙_}
 use mathlib.Core.Bool.{Bool, true, false, _&&_}
-use mathlib.Core.List.{List, [], _∷_, _++_}
+use mathlib.Core.List.{List, [], _∷_}
 use native.Mathlib.Numerals.{add-one}
 use native.Mathlib.Omega.{arith}
-use lib.ListN.{length, getD, set, take, drop, length-drop, length-append, drop-of-length-le}
+use lib.ListN.{length, getD, take, drop, length-drop, length-append, drop-of-length-le}
 use lib.Seq.{set-out, drop-cons}
 use lib.Dec.{leb}
 use borrow.Author.Tests.{le-leb, lt-leb}
@@ -18,7 +18,7 @@ use Rattle.message.specs.Layout.{headOf, schemeVector}
 use Rattle.message.specs.Show.{idsOf, schemesIn, firstOf}
 use Rattle.token.specs.declared.Answer.{Answer}
 use Rattle.token.specs.declared.Answer.the-variants as answer
-use Rattle.token.specs.Token.{Placed, Reading, Accepted, Refused, tokenOf, outcomeOf, told}
+use Rattle.token.specs.Token.{Reading, Refused, tokenOf, outcomeOf, told}
 use Rattle.token.specs.Split.{Numbered, join, placedFrom}
 use Rattle.token.specs.Walk.{messagesOf, Accepts}
 use Rattle.token.proofs.Splits.{message-length}
@@ -30,7 +30,7 @@ use Rattle.offers.specs.Table.{pickTable, offeredIn, Counting}
 use Rattle.tallying.specs.declared.Tally.{Tally}
 use Rattle.tallying.specs.declared.Counted.{Counted}
 use Rattle.tallying.specs.Files.{Opened, Missing, File, allOctets, numberOf, answerOf}
-use Rattle.tallying.specs.Tally.{oneMore, withMessage, withMessages, withAnswer, tallied, LIMIT, allWithin, inLimits, pickCounted, countedOf}
+use Rattle.tallying.specs.Tally.{oneMore, withMessage, withMessages, withAnswer, tallied, LIMIT, allWithin, inLimits, countedOf}
 use Rattle.tallying.specs.Counting.{Small, Bounded, Ready, Start}
 use Rattle.tallying.proofs.Bounds.{bounded-message, bounded-more, limits-bounded}
 

@@ -1,17 +1,17 @@
 -- Tokens joined, and cut at an end of a message.
 -- Assumes nothing.
-use Prim.Native.Nat.{ℕ, zero, suc, _+_, _<_, _≤_}
+use Prim.Native.Nat.{ℕ, suc, _+_, _≤_}
 use mathlib.Core.Path.{_≡_, refl, sym, ap, subst, _∙_}
 use mathlib.Core.List.{List, [], _∷_, _++_, append-assoc}
-use native.Mathlib.Nat.{add-zero, add-assoc}
+use native.Mathlib.Nat.{add-zero}
 use native.Mathlib.Omega.{arith}
 use lib.ListN.{length, take, drop, length-append}
 use lib.Seq.{take-at, drop-at}
-use Rattle.message.specs.Layout.{Head, headOf}
+use Rattle.message.specs.Layout.{headOf}
 use Rattle.token.specs.Token.{Placed, Accepted, tokenOf}
-use Rattle.token.specs.Split.{Message, Numbered, join, placedFrom, Split}
-use Rattle.token.specs.Joined.{moved, lastOf, endOf, Follows, JoinedAccepted, CutAccepted}
-use Rattle.token.proofs.Splits.{message-head, message-order, accepted-splits, splits-accepted, numbered-accepted}
+use Rattle.token.specs.Split.{Numbered, join, placedFrom, Split}
+use Rattle.token.specs.Joined.{moved, lastOf, endOf, JoinedAccepted, CutAccepted}
+use Rattle.token.proofs.Splits.{message-order, accepted-splits, numbered-accepted}
 
 pub join-append : (xs ys : List (List ℕ)) → join (xs ++ ys) ≡ join xs ++ join ys
 join-append [] ys = refl

@@ -11,7 +11,7 @@ use lib.Dec.{ltb}
 use borrow.Author.Tests.{le-leb, le-ltb, ltb-true, ltb-false}
 use Rattle.octets.proofs.Slices.{tail-all}
 use Rattle.vector.specs.declared.TokenPlace.{TokenPlace}
-use Rattle.message.specs.Layout.{Head, headOf, size, front}
+use Rattle.message.specs.Layout.{Head, headOf, size}
 use Rattle.message.specs.Show.{firstOf}
 use Rattle.token.specs.declared.Answer.{Answer}
 use Rattle.token.specs.declared.Answer.the-variants as answer

@@ -1,7 +1,7 @@
 -- The text of an envelope has room.
 -- Assumes nothing.
-use Prim.Native.Nat.{ℕ, suc, _+_, _*_, _<_, _≤_}
-use mathlib.Core.Path.{_≡_, refl, sym, ap, _∙_}
+use Prim.Native.Nat.{ℕ, _+_, _*_, _≤_}
+use mathlib.Core.Path.{_≡_, refl, ap}
 use mathlib.Core.Bool.{Bool, true, false}
 use mathlib.Core.List.{List, [], _∷_, _++_}
 use mathlib.Core.Option.{Option, none, some}
@@ -9,19 +9,19 @@ use native.Mathlib.Omega.{arith}
 use lib.ListN.{length, getD, length-append}
 use borrow.Author.Tests.{leb-true}
 use Rattle.put.specs.Put.{joined}
-use Rattle.text.specs.Text.{quoted, decimal, decimal64, decimalTo, hexOf}
+use Rattle.text.specs.Text.{quoted, decimal64, decimalTo, hexOf}
 use Rattle.text.proofs.Pieces.{length-joined}
 use Rattle.text.proofs.Digits.{length-decimal}
 use Rattle.der.specs.Got.{Got, ok, no}
 use Rattle.der.specs.Element.{element}
 use Rattle.der.specs.Grammar.{fieldOctets}
 use Rattle.der.proofs.Nesting.{longer}
-use Rattle.envelope.specs.Envelope.{Envelope, Init, Resp, spnego, identifiers, tailOctets, sequence, encoded, few}
+use Rattle.envelope.specs.Envelope.{Envelope, Init, Resp, spnego, identifiers, tailOctets, encoded, few}
 use Rattle.envelope.specs.Reading.{envelopeOf}
 use Rattle.envelope.specs.Claims.{OneReading}
 use Rattle.envelope.proofs.RoundTrip.{read-encoded}
 use Rattle.envelope_parts.specs.Parts.{isNegoex}
-use Rattle.envelope_lines.specs.Lines.{digitsOf, octetsText, mark, mechanismLine, mechanismLines, octetsLine, namedLines, stateLine, tokenPlace, tokenLine, lastLines, headLine, refusedLine, textOf, envelopeText}
+use Rattle.envelope_lines.specs.Lines.{digitsOf, octetsText, mark, mechanismLine, mechanismLines, octetsLine, namedLines, stateLine, tokenPlace, tokenLine, lastLines, headLine, refusedLine, textOf}
 use Rattle.unwrapping.specs.Claims.{TextFits}
 
 abbrev size : List (List ℕ) → ℕ

@@ -8,7 +8,6 @@
 --   shownSoFar p  what a window shows at the progress p
 --   Going p n     the progress p stays inside a buffer of n octets and the numbers of 64 bits
 use Prim.Native.Nat.{ℕ, _+_, _-_, _<_, _≤_}
-use mathlib.Core.Path.{_≡_}
 use mathlib.Core.Bool.{cond}
 use mathlib.Core.List.{List, [], _∷_}
 use lib.ListN.{length}

@@ -1,5 +1,5 @@
 -- Assumes nothing.
-use Rattle.envelope_lines.proofs.Chains.{init-text, init-token, init-counted}
+use Rattle.envelope_lines.proofs.Chains.{init-text}
 use borrow.Author.Needs.{needs}
 use Rattle.envelope_lines.proofs.init_text.Statement.{statement}
 use Rattle.envelope_lines.proofs.init_text.Tie as tie

@@ -1,5 +1,5 @@
 -- Assumes nothing.
-use Rattle.envelope_lines.proofs.Chains.{resp-text, resp-token}
+use Rattle.envelope_lines.proofs.Chains.{resp-text}
 use borrow.Author.Needs.{needs}
 use Rattle.envelope_lines.proofs.resp_text.Statement.{statement}
 use Rattle.envelope_lines.proofs.resp_text.Tie as tie

@@ -1,11 +1,10 @@
 -- Assumes nothing.
-use Prim.Native.Nat.{_+_, _-_, _≤_, min}
-use mathlib.Core.Path.{_≡_, refl}
+use Prim.Native.Nat.{_+_, _-_, _≤_}
+use mathlib.Core.Path.{_≡_}
 use borrow.Author.Needs.{needs}
 use lib.ListN.{length, drop}
-use lib.Dec.{eqb}
 use Rattle.der.specs.Holder.{capped}
-use Rattle.envelope_write.specs.Given.{sumOf, identifiersSize}
+use Rattle.envelope_write.specs.Given.{identifiersSize}
 use Rattle.envelope_write.proofs.Sums.{sizes, sizes-start}
 use Rattle.envelope_write.proofs.identifiers_size.Statement.{statement}
 use Rattle.envelope_write.proofs.identifiers_size.Tie as tie

@@ -1,11 +1,10 @@
 -- Assumes nothing.
-use Prim.Native.Nat.{_+_, _-_, _≤_, min}
+use Prim.Native.Nat.{_-_}
 use mathlib.Core.Path.{_≡_, refl}
 use borrow.Author.Needs.{needs}
 use lib.ListN.{length, drop}
 use lib.Dec.{eqb}
-use Rattle.der.specs.Holder.{capped}
-use Rattle.envelope_write.specs.Given.{sumOf, identifiersSize}
+use Rattle.envelope_write.specs.Given.{sumOf}
 use Rattle.envelope_write.proofs.Sums.{sums}
 use Rattle.envelope_write.proofs.sums_to.Statement.{statement}
 use Rattle.envelope_write.proofs.sums_to.Tie as tie

@@ -1,5 +1,5 @@
 -- Assumes nothing.
-use Rattle.envelope_write.proofs.Sums.{withs, with-limit}
+use Rattle.envelope_write.proofs.Sums.{with-limit}
 use borrow.Author.Needs.{needs}
 use Rattle.envelope_write.proofs.with_element.Statement.{statement}
 use Rattle.envelope_write.proofs.with_element.Tie as tie

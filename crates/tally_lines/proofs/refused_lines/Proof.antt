@@ -1,9 +1,9 @@
 -- Assumes nothing.
 use Rattle.tally_lines.proofs.Chained.{loops}
-use Prim.Native.Nat.{_+_, _*_, _-_, _≤_}
+use Prim.Native.Nat.{_-_, _≤_}
 use mathlib.Core.Path.{_≡_, refl}
 use native.Mathlib.Omega.{arith}
-use lib.ListN.{length, drop, take}
+use lib.ListN.{length, drop}
 use Rattle.text.specs.Text.{text, written}
 use Rattle.tally_lines.specs.Lines.{refusedLines}
 use borrow.Author.Needs.{needs}

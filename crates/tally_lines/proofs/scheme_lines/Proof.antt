@@ -1,6 +1,6 @@
 -- Assumes nothing.
 use Rattle.tally_lines.proofs.Chained.{loops}
-use Prim.Native.Nat.{_+_, _*_, _-_, _≤_}
+use Prim.Native.Nat.{_+_, _*_}
 use mathlib.Core.Path.{_≡_, refl}
 use native.Mathlib.Omega.{arith}
 use lib.ListN.{length, drop, take}
