@@ -30,7 +30,7 @@ use Rattle.envelope.specs.declared.Read.{Read}
 use Rattle.envelope.specs.declared.Read.the-variants as reads
 use Rattle.envelope_parts.specs.Parts.{octetsIn, mechanismOf, isNegoex}
 use Rattle.envelope_parts.proofs.Mechanisms.{each-mechanism}
-use Rattle.envelope_lines.specs.Lines.{digitsOf, octetsText, mechanismLine, mechanismLines, octetsLine, namedLines, stateLine, tokenPlace, tokenLine, lastLines, headLine, refusedLine, textOf, envelopeText, octetsOf, tokenIn, begun, wroteLine}
+use Rattle.envelope_lines.specs.Lines.{digitsOf, octetsText, mechanismLine, mechanismLines, octetsLine, namedLines, stateLine, tokenPlace, tokenLine, lastLines, headLine, refusedText, textOf, envelopeText, octetsOf, tokenIn, begun, wroteLine}
 use Rattle.envelope_lines.specs.Answers.{TokenAt, InitAt, toldInit, RespAt, toldResp}
 
 -- the digits of the octets that are left
@@ -177,8 +177,8 @@ pub head-line : (t a u : Text) (w s : List ℕ) → a ≡ written (w ∷ decimal
 unfolding headLine
 head-line t a u w s e g = then t a u _ _ e g
 
-pub refused-line : (t a u : Text) (n : ℕ) → a ≡ written (quoted "refused " ∷ decimal n ∷ []) t → u ≡ written (quoted " at=0\n" ∷ []) a → u ≡ written (refusedLine n) t
-unfolding refusedLine
+pub refused-line : (t a u : Text) (n : ℕ) → a ≡ written (quoted "refused " ∷ decimal n ∷ []) t → u ≡ written (quoted " at=0\n" ∷ []) a → u ≡ written (refusedText n) t
+unfolding refusedText
 refused-line t a u n e g = then t a u _ _ e g
 
 pub wrote-line : (t a u : Text) (v : List ℕ) → a ≡ written (quoted "wrote " ∷ decimal64 (length v) ∷ []) t → u ≡ written (quoted " " ∷ (octetsText v ++ (quoted "\n" ∷ []))) a → u ≡ written (wroteLine v) t
@@ -208,7 +208,7 @@ module _ (s : List ℕ) (r : Resp) (t a b c u : Text) where
   resp-text e f g h = then t a u _ _ e (then a b u _ _ f (then b c u _ _ g h))
 
 module _ (s : List ℕ) (r : Read) (says : Reads s (length s) (envelopeOf s) r) where
-  pub text-refused : (t u : Text) (n : ℕ) → r ≡ reads.Refused n → u ≡ written (refusedLine n) t → u ≡ written (envelopeText s) t
+  pub text-refused : (t u : Text) (n : ℕ) → r ≡ reads.Refused n → u ≡ written (refusedText n) t → u ≡ written (envelopeText s) t
   unfolding textOf
   text-refused t u n e h = rw (sym (says .same) ∙ ap (told s) e) h
 

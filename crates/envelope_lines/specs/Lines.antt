@@ -8,9 +8,9 @@
 --   tokenPlace s v k  where the token v stands in the envelope s, whose checksum is k; tokenLine: the token's line
 --   lastLines         the lines of the token and the checksum
 --   headLine w s      the first line: what the envelope s is, and its length
---   refusedLine n     the line of a refusal
+--   refusedText n     the line of a refusal
 --   textOf s g        the text of the envelope in s, which was read as g; envelopeText s: the same of the buffer s
---   tokenOf g         the token of what was read, where there is one; tokenIn s: of the envelope in s, nothing where there is none
+--   carried g         the token of what was read, where there is one; tokenIn s: of the envelope in s, nothing where there is none
 --   octetsOf o        the octets of a field, nothing where it is not there
 --   begun v           the octets v begin with NEGOEX's signature
 --   wroteLine v       what `wrap` answers: the envelope written
@@ -81,29 +81,29 @@ unfoldable pub headLine : List ℕ → List ℕ → List (List ℕ)
 headLine w s = w ∷ decimal64 (length s) ∷ quoted "\n" ∷ []
 
 -- "refused N at=0"
-unfoldable pub refusedLine : ℕ → List (List ℕ)
-refusedLine n = quoted "refused " ∷ decimal n ∷ quoted " at=0\n" ∷ []
+unfoldable pub refusedText : ℕ → List (List ℕ)
+refusedText n = quoted "refused " ∷ decimal n ∷ quoted " at=0\n" ∷ []
 
 -- "in the order in which they stand in the file"
 unfoldable pub textOf : List ℕ → Got Envelope → List (List ℕ)
-textOf s (no n) = refusedLine n
+textOf s (no n) = refusedText n
 textOf s (ok (Init ms f t k)) = headLine (quoted "envelope init length=") s ++ (mechanismLines 0 ms ++ (octetsLine (quoted "flags ") f ++ lastLines s t k))
 textOf s (ok (Resp x m t k)) = headLine (quoted "envelope resp length=") s ++ (stateLine x ++ (namedLines m ++ lastLines s t k))
 
 abbrev pub envelopeText : List ℕ → List (List ℕ)
 envelopeText s = textOf s (envelopeOf s)
 
-abbrev pub tokenOf : Got Envelope → Option (List ℕ)
-tokenOf (ok (Init ms f t k)) = t
-tokenOf (ok (Resp x m t k)) = t
-tokenOf (no n) = none
+abbrev pub carried : Got Envelope → Option (List ℕ)
+carried (ok (Init ms f t k)) = t
+carried (ok (Resp x m t k)) = t
+carried (no n) = none
 
 abbrev pub octetsOf : Option (List ℕ) → List ℕ
 octetsOf none = []
 octetsOf (some v) = v
 
 abbrev pub tokenIn : List ℕ → List ℕ
-tokenIn s = octetsOf (tokenOf (envelopeOf s))
+tokenIn s = octetsOf (carried (envelopeOf s))
 
 -- "where the token's first eight octets are NEGOEX's signature"
 abbrev pub begun : List ℕ → Bool

@@ -6,7 +6,7 @@ ghost use Rattle.text.specs.Text.{text, written, quoted};
 ghost use Rattle.der.specs.Holder.{part};
 ghost use Rattle.envelope.specs.Answers.{shown, mechanismsIn};
 ghost use Rattle.envelope_lines.specs.Answers.{TokenAt, InitAt, toldInit, RespAt, toldResp};
-ghost use Rattle.envelope_lines.specs.Lines.{digitsOf, octetsText, mechanismLine, mechanismLines, octetsLine, namedLines, stateLine, tokenLine, lastLines, headLine, refusedLine, textOf, envelopeText, tokenIn, begun as Lines·begun, wroteLine};
+ghost use Rattle.envelope_lines.specs.Lines.{digitsOf, octetsText, mechanismLine, mechanismLines, octetsLine, namedLines, stateLine, tokenLine, lastLines, headLine, refusedText, textOf, envelopeText, tokenIn, begun as Lines·begun, wroteLine};
 use der::same;
 use envelope::Field;
 use envelope::Init;
@@ -170,7 +170,7 @@ fn head_line(d: &mut [u8], word: &[u8], s: &[u8]) -> usize
 
 // A refusal's line.
 pub fn refused_line(d: &mut [u8], n: u32) -> usize
-    ensures { λ r. ⌜ text (now (d .exit)) r ≡ written (refusedLine n) (text (now (d .entry)) 0) ⌝ }
+    ensures { λ r. ⌜ text (now (d .exit)) r ≡ written (refusedText n) (text (now (d .entry)) 0) ⌝ }
 {
     let a = field(d, 0, b"refused ", n);
     append(d, a, b" at=0\n")

@@ -6,7 +6,7 @@
 --   WithinFault      with it or with what it holds; OnlyFault: or with the octets behind it
 --   EnvelopeFault    what is wrong with a buffer
 --   ElementExactly, WithinExactly, OnlyExactly, EnvelopeExactly   the numbers are those
---   SeventeenthFault how far a list was read that is refused with 23; SeventeenthLast: it is refused so there
+--   SeventeenthFault sixteen of a list were read, and a seventeenth is one; SeventeenthLast: so it is wherever a list is refused with 23
 use Prim.Native.Nat.{ℕ, _+_, _<_, _≤_}
 use mathlib.Core.Path.{_≡_}
 use mathlib.Core.Bool.{Bool, true, false}

@@ -14,7 +14,7 @@ use Rattle.text.proofs.Pieces.{then, written-append}
 use Rattle.schemes.specs.Lists.{Id}
 use Rattle.tallying.specs.declared.Tally.{Tally}
 use Rattle.tallying.specs.Tally.{totalsIn}
-use Rattle.tally_lines.specs.Lines.{totalLine, numberLine, typeLines, refusedLine, refusedLines, schemeLine, schemeLines, octetLines, lastLines, tallyText, shownText}
+use Rattle.tally_lines.specs.Lines.{totalLine, numberLine, typeLines, answerLine, answerLines, schemeLine, schemeLines, octetLines, lastLines, tallyText, shownText}
 
 nothing : (t : Text) → t ≡ written [] t
 unfolding written
@@ -47,17 +47,17 @@ module _ (t u : Text) where
 
 -- ---- `refused_line`
 module _ (t : Text) (k n : ℕ) where
-  pub refused-accepted : k ≡ 0 → t ≡ written (refusedLine k n) t
-  unfolding refusedLine
+  pub refused-accepted : k ≡ 0 → t ≡ written (answerLine k n) t
+  unfolding answerLine
   refused-accepted e = rw (eq-eqb k 0 e) (nothing t)
 
   module _ (some : k ≡ 0 → ⊥) where
-    pub refused-none : n ≡ 0 → t ≡ written (refusedLine k n) t
-    unfolding refusedLine
+    pub refused-none : n ≡ 0 → t ≡ written (answerLine k n) t
+    unfolding answerLine
     refused-none e = rw (ne-eqb k 0 some, eq-eqb n 0 e) (nothing t)
 
-    pub refused-some : (n ≡ 0 → ⊥) → (u : Text) → u ≡ written (numberLine (quoted "refused ") k n) t → u ≡ written (refusedLine k n) t
-    unfolding refusedLine
+    pub refused-some : (n ≡ 0 → ⊥) → (u : Text) → u ≡ written (numberLine (quoted "refused ") k n) t → u ≡ written (answerLine k n) t
+    unfolding answerLine
     refused-some e u f = rw (ne-eqb k 0 some, ne-eqb n 0 e) f
 
 pub ruleset refusals = (refused-accepted, refused-none, refused-some)
@@ -75,16 +75,16 @@ module _ (ns : List ℕ) (k : ℕ) (x t : Text) where
         let s : typeLines k (drop k ns) ≡ numberLine (quoted "type ") k (getD ns k 0) ++ typeLines (k + 1) (drop (k + 1) ns) = rw (drop-cons ns k 0 h, add-one) in
         inv ∙ ap (λ (l : List (List ℕ)). written l t) s ∙ written-append _ _ t ∙ ap (written (typeLines (k + 1) (drop (k + 1) ns))) (sym e)
 
-  module _ (inv : x ≡ written (refusedLines k (drop k ns)) t) where
+  module _ (inv : x ≡ written (answerLines k (drop k ns)) t) where
     pub refusals-done : length ns ≤ k → t ≡ x
-    unfolding refusedLines
+    unfolding answerLines
     refusals-done h = sym (inv ∙ rw (drop-of-length-le ns h) (sym (nothing t)))
 
-    pub refusals-more : k < length ns → (u : Text) → u ≡ written (refusedLine k (getD ns k 0)) t → x ≡ written (refusedLines (k + 1) (drop (k + 1) ns)) u
-    unfolding refusedLines
+    pub refusals-more : k < length ns → (u : Text) → u ≡ written (answerLine k (getD ns k 0)) t → x ≡ written (answerLines (k + 1) (drop (k + 1) ns)) u
+    unfolding answerLines
     refusals-more h u e =
-        let s : refusedLines k (drop k ns) ≡ refusedLine k (getD ns k 0) ++ refusedLines (k + 1) (drop (k + 1) ns) = rw (drop-cons ns k 0 h, add-one) in
-        inv ∙ ap (λ (l : List (List ℕ)). written l t) s ∙ written-append _ _ t ∙ ap (written (refusedLines (k + 1) (drop (k + 1) ns))) (sym e)
+        let s : answerLines k (drop k ns) ≡ answerLine k (getD ns k 0) ++ answerLines (k + 1) (drop (k + 1) ns) = rw (drop-cons ns k 0 h, add-one) in
+        inv ∙ ap (λ (l : List (List ℕ)). written l t) s ∙ written-append _ _ t ∙ ap (written (answerLines (k + 1) (drop (k + 1) ns))) (sym e)
 
 module _ (ids counts : List ℕ) (k : ℕ) (x t : Text) where
   abbrev pub schemesLeft : ℕ → ℕ → List (List ℕ)
@@ -115,7 +115,7 @@ module _ (t u : Text) (r : Tally) (n : ℕ) where
   unfolding shownText
   tally-none h = rw (lt-leb _ _ h) (nothing t)
 
-  pub tally-all : r .table .count ≤ 64 → (a b c d : Text) → a ≡ written (typeLines 0 (r .types)) t → b ≡ written (octetLines (totalsIn r)) a → c ≡ written (refusedLines 0 (r .answers)) b
+  pub tally-all : r .table .count ≤ 64 → (a b c d : Text) → a ≡ written (typeLines 0 (r .types)) t → b ≡ written (octetLines (totalsIn r)) a → c ≡ written (answerLines 0 (r .answers)) b
       → d ≡ written (schemeLines (idsAt (r .table .count) (r .table .ids)) (take (r .table .count) (r .table .counts))) c → u ≡ written (lastLines (totalsIn r) n) d
       → u ≡ written (shownText r n) t
   unfolding shownText tallyText

@@ -19,7 +19,7 @@ use Rattle.schemes.specs.Lists.{Id}
 use Rattle.tallying.specs.declared.Tally.{Tally}
 use Rattle.tallying.specs.Files.{Totals}
 use Rattle.tallying.specs.Tally.{totalsIn}
-use Rattle.tally_lines.specs.Lines.{totalLine, numberLine, typeLines, refusedLine, refusedLines, schemeLine, schemeLines, octetLines, lastLines, tallyText, shownText, TextWhole}
+use Rattle.tally_lines.specs.Lines.{totalLine, numberLine, typeLines, answerLine, answerLines, schemeLine, schemeLines, octetLines, lastLines, tallyText, shownText, TextWhole}
 
 -- how many octets pieces have
 abbrev octetsOf : List (List ℕ) → ℕ
@@ -39,18 +39,18 @@ types-size k [] = omega arith
 types-size k (n ∷ ns) =
     omega (arith, length-joined (numberLine (quoted "type ") k n) (typeLines (k + 1) ns), number-size (quoted "type ") k n, types-size (k + 1) ns)
 
-refused-size : (k n : ℕ) → octetsOf (refusedLine k n) ≤ 56
-unfolding refusedLine
+refused-size : (k n : ℕ) → octetsOf (answerLine k n) ≤ 56
+unfolding answerLine
 refused-size k n = go (eqb k 0) (eqb n 0) where
   go : (a b : Bool) → octetsOf (cond a [] (cond b [] (numberLine (quoted "refused ") k n))) ≤ 56
   go true b = omega arith
   go false true = omega arith
   go false false = omega (arith, number-size (quoted "refused ") k n)
 
-refusals-size : (k : ℕ) (ns : List ℕ) → octetsOf (refusedLines k ns) ≤ 56 * length ns
-unfolding refusedLines
+refusals-size : (k : ℕ) (ns : List ℕ) → octetsOf (answerLines k ns) ≤ 56 * length ns
+unfolding answerLines
 refusals-size k [] = omega arith
-refusals-size k (n ∷ ns) = omega (arith, length-joined (refusedLine k n) (refusedLines (k + 1) ns), refused-size k n, refusals-size (k + 1) ns)
+refusals-size k (n ∷ ns) = omega (arith, length-joined (answerLine k n) (answerLines (k + 1) ns), refused-size k n, refusals-size (k + 1) ns)
 
 scheme-size : (s : Id) (n : ℕ) → octetsOf (schemeLine s n) ≤ 75
 unfolding schemeLine
@@ -80,7 +80,7 @@ module _ (t : Tally) (u : ℕ) (types : length (t .types) ≡ 8) (answers : leng
   all-size few =
       let a = typeLines 0 (t .types) in
       let b = octetLines (totalsIn t) in
-      let c = refusedLines 0 (t .answers) in
+      let c = answerLines 0 (t .answers) in
       let d = schemeLines (idsAt (t .table .count) (t .table .ids)) (take (t .table .count) (t .table .counts)) in
       let e = lastLines (totalsIn t) u in
       omega (

@@ -4,8 +4,8 @@
 --   totalLine w n         a word and a number
 --   numberLine w k n      a word, the number that is counted, and its count
 --   typeLines k ns        the counts of the types from k on
---   refusedLine k n       the count of the refusals with the number k; none for 0, which is accepted, nor where none was given
---   refusedLines k ns     those of the numbers from k on
+--   answerLine k n       the count of the refusals with the number k; none for 0, which is accepted, nor where none was given
+--   answerLines k ns     those of the numbers from k on
 --   schemeLine s n        a scheme and its count; schemeLines l ns: those of schemes
 --   octetLines t          the totals of octets
 --   lastLines t u         the count of the messages that list other schemes, and that of the names which aren't opened
@@ -38,12 +38,12 @@ typeLines k [] = []
 typeLines k (n ∷ ns) = numberLine (quoted "type ") k n ++ typeLines (k + 1) ns
 
 -- "for each number given, ascending"
-unfoldable pub refusedLine : ℕ → ℕ → List (List ℕ)
-refusedLine k n = cond (eqb k 0) [] (cond (eqb n 0) [] (numberLine (quoted "refused ") k n))
+unfoldable pub answerLine : ℕ → ℕ → List (List ℕ)
+answerLine k n = cond (eqb k 0) [] (cond (eqb n 0) [] (numberLine (quoted "refused ") k n))
 
-unfoldable pub refusedLines : ℕ → List ℕ → List (List ℕ)
-refusedLines k [] = []
-refusedLines k (n ∷ ns) = refusedLine k n ++ refusedLines (k + 1) ns
+unfoldable pub answerLines : ℕ → List ℕ → List (List ℕ)
+answerLines k [] = []
+answerLines k (n ∷ ns) = answerLine k n ++ answerLines (k + 1) ns
 
 -- `scheme ID count=N`
 unfoldable pub schemeLine : Id → ℕ → List (List ℕ)
@@ -64,7 +64,7 @@ unfoldable pub tallyText : Totals → ℕ → List (List ℕ)
 tallyText t unopened =
     typeLines 0 (t .types)
     ++ (octetLines t
-    ++ (refusedLines 0 (t .answers)
+    ++ (answerLines 0 (t .answers)
     ++ (schemeLines (t .offers .ids) (t .offers .counts)
     ++ lastLines t unopened)))
 

@@ -5,7 +5,7 @@ ghost use lib.ListN.{length, take};
 ghost use Rattle.message.specs.Show.{idsAt};
 ghost use Rattle.text.specs.Text.{text, written};
 ghost use Rattle.tallying.specs.Tally.{totalsIn};
-ghost use Rattle.tally_lines.specs.Lines.{totalLine, numberLine, typeLines, refusedLine, refusedLines, schemeLine, schemeLines, octetLines, lastLines, shownText};
+ghost use Rattle.tally_lines.specs.Lines.{totalLine, numberLine, typeLines, answerLine, answerLines, schemeLine, schemeLines, octetLines, lastLines, shownText};
 use message::field;
 use offers::Table;
 use tallying::Tally;
@@ -45,7 +45,7 @@ fn type_lines(d: &mut [u8], at: usize, types: &[u64]) -> usize
 
 // The count of a refusal; nothing for 0, which is accepted, and nothing where it was not given.
 fn refused_line(d: &mut [u8], at: usize, k: usize, n: u64) -> usize
-    ensures { λ r. ⌜ text (now (d .exit)) r ≡ written (refusedLine k n) (text (now (d .entry)) at) ⌝ }
+    ensures { λ r. ⌜ text (now (d .exit)) r ≡ written (answerLine k n) (text (now (d .entry)) at) ⌝ }
 {
     if k == 0 {
         return at;
@@ -58,7 +58,7 @@ fn refused_line(d: &mut [u8], at: usize, k: usize, n: u64) -> usize
 
 // The counts of the refusals.
 fn refused_lines(d: &mut [u8], at: usize, answers: &[u64]) -> usize
-    ensures { λ r. ⌜ text (now (d .exit)) r ≡ written (refusedLines 0 (now (answers .entry))) (text (now (d .entry)) at) ⌝ }
+    ensures { λ r. ⌜ text (now (d .exit)) r ≡ written (answerLines 0 (now (answers .entry))) (text (now (d .entry)) at) ⌝ }
 {
     let mut next = at;
     let mut k: usize = 0;

@@ -21,7 +21,7 @@ use Rattle.envelope.specs.Reading.{envelopeOf}
 use Rattle.envelope.specs.Claims.{OneReading}
 use Rattle.envelope.proofs.RoundTrip.{read-encoded}
 use Rattle.envelope_parts.specs.Parts.{isNegoex}
-use Rattle.envelope_lines.specs.Lines.{digitsOf, octetsText, mark, mechanismLine, mechanismLines, octetsLine, namedLines, stateLine, tokenPlace, tokenLine, lastLines, headLine, refusedLine, textOf}
+use Rattle.envelope_lines.specs.Lines.{digitsOf, octetsText, mark, mechanismLine, mechanismLines, octetsLine, namedLines, stateLine, tokenPlace, tokenLine, lastLines, headLine, refusedText, textOf}
 use Rattle.unwrapping.specs.Claims.{TextFits}
 
 abbrev size : List (List ℕ) → ℕ
@@ -125,7 +125,7 @@ resp-holds x m t k =
     omega (arith, tail-holds 0x06 m t k, length-append l tl, longer 0x30 (l ++ tl), longer 0xA1 (element 0x30 (l ++ tl)))
 
 pub text-fits : TextFits
-unfolding textOf few refusedLine
+unfolding textOf few refusedText
 text-fits s = go (envelopeOf s) refl where
   read : (e : Envelope) → envelopeOf s ≡ ok e → OneReading s e → size (textOf s (ok e)) ≤ 262144
   read (Init ms f t k) h w =

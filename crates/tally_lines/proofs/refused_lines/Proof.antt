@@ -5,13 +5,13 @@ use mathlib.Core.Path.{_≡_, refl}
 use native.Mathlib.Omega.{arith}
 use lib.ListN.{length, drop}
 use Rattle.text.specs.Text.{text, written}
-use Rattle.tally_lines.specs.Lines.{refusedLines}
+use Rattle.tally_lines.specs.Lines.{answerLines}
 use borrow.Author.Needs.{needs}
 use Rattle.tally_lines.proofs.refused_lines.Statement.{statement}
 use Rattle.tally_lines.proofs.refused_lines.Tie as tie
 
 abbrev Inv-loop : tie.InvT-loop
-Inv-loop d₀ at answers next₀ k₀ d next k = (k ≤ length answers) × (length d ≡ length d₀) × (written (refusedLines 0 answers) (text d₀ at) ≡ written (refusedLines k (drop k answers)) (text d next))
+Inv-loop d₀ at answers next₀ k₀ d next k = (k ≤ length answers) × (length d ≡ length d₀) × (written (answerLines 0 answers) (text d₀ at) ≡ written (answerLines k (drop k answers)) (text d next))
 
 abbrev μ-loop : tie.MeasureT-loop
 μ-loop d₀ at answers next₀ k₀ d next k = length answers - k
