@@ -4,7 +4,7 @@ use lib.ListN.{length}
 use lib.Seq.{length-take-le}
 use mathlib.Core.Path.{sym}
 use Rattle.envelope_write.proofs.Identifiers.{ids-none, ids-fit, ids-first, ids-rest, ids-put, ids-less}
-use Prim.Native.Nat.{ℕ}
+use Prim.Native.Nat.{ℕ, _<_}
 use borrow.Fn.Kinds.{In}
 use borrow.Fn.PlainCycle.{Measures, is, falls, and}
 use Rattle.envelope_write.proofs.put_identifiers.Reads as put-identifiers
