@@ -149,10 +149,10 @@ module _ (r : Record) (d : List ℕ) (m : ℕ) (s : Speech) (n : ℕ) (n-is : n 
     unfolding choosing
     chosen = decide-last rows last r d (naming (named (ownOf r) (openTo r m)) message) (given r m (kindIn s) n n-is z)
 
-    pub choose-made : (q : Record) → q ≡ chose r m → (o : Answer) (d' : List ℕ) → _≡_ {A = Outcome} (record { answer = o; transcript = d' }) (speaking q d s) → (a : Answer) → a ≡ namedChoice r m o
+    pub choose-made : (q : Record) → q ≡ chose r m → (v : Speech) → v ≡ s → (o : Answer) (d' : List ℕ) → _≡_ {A = Outcome} (record { answer = o; transcript = d' }) (speaking q d v) → (a : Answer) → a ≡ namedChoice r m o
         → _≡_ {A = Outcome} (record { answer = a; transcript = d' }) (choosing r d m s)
-    choose-made q q-is o d' o-is a a-is =
-        let w : _≡_ {A = Outcome} (record { answer = o; transcript = d' }) (speaking (chose r m) d s) = o-is ∙ ap (λ (x : Record). speaking x d s) q-is in
+    choose-made q q-is v v-is o d' o-is a a-is =
+        let w : _≡_ {A = Outcome} (record { answer = o; transcript = d' }) (speaking (chose r m) d s) = o-is ∙ ap (speaking q d) v-is ∙ ap (λ (x : Record). speaking x d s) q-is in
         let e : _≡_ {A = Outcome} (record { answer = a; transcript = d' }) (record { answer = namedChoice r m o; transcript = d' }) = ap (λ (x : Answer). record { answer = x; transcript = d' }) a-is in
         e ∙ ap then (w ∙ said) ∙ (by-room (leb (r .used + length (spoken (chose r m) s)) (room d)) ∙ sym chosen) where
           then : Outcome → Outcome

@@ -65,6 +65,7 @@ pub fn name_choice(r: Record, marks: u16, a: Answer) -> Answer
     requires { ⌜ ChoiceReady r marks ⌝ }
     ensures { λ b. ⌜ b ≡ namedChoice r marks a ⌝ }
 {
+    let next = a.next;
     if a.refusal != 0 {
         return answer(a.refusal, TokenPlace(0), r);
     }
@@ -72,6 +73,5 @@ pub fn name_choice(r: Record, marks: u16, a: Answer) -> Answer
     let choice = choose_kept(kept, r.common, marks);
     let list = r.list;
     let id = id_of(list, choice.place);
-    let next = a.next;
     naming(next, id, choice.left)
 }
