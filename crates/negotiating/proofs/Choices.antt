@@ -3,13 +3,12 @@
 use Prim.Native.Nat.{ℕ, _+_, _*_, _≤_, _<_}
 use mathlib.Core.Path.{_≡_, refl, sym, ap, _∙_}
 use mathlib.Core.Bool.{Bool, true, false, cond, not, _||_}
-use mathlib.Core.Logic.{inl, inr}
 use mathlib.Core.List.{List, [], _∷_, _++_}
 use native.Mathlib.Omega.{arith}
 use lib.ListN.{length}
 use lib.Dec.{eqb, leb}
 use borrow.Author.Tests.{eq-eqb, ne-eqb, not-true}
-use Rattle.octets.proofs.Bools.{which, no-true, and-l}
+use Rattle.octets.proofs.Bools.{no-true, and-l}
 use Rattle.octets.specs.Octets.{octets}
 use Rattle.message.specs.Check.{Row, firstFailing}
 use Rattle.message.proofs.Tables.{AllTrue}
@@ -21,7 +20,7 @@ use Rattle.conversation.specs.declared.Answer.{Answer}
 use Rattle.conversation.specs.State.{ownOf, limitRows}
 use Rattle.conversation.specs.Turns.{writing, after, placeAfter}
 use Rattle.conversation.specs.Outcomes.{Outcome, answered, refused, decide, room, fits, appended}
-use Rattle.conversation.specs.Writing.{stageRows, namedRows, someLeft, firstOr, naming, Speech, kindIn, spoken, spokenAs, speaking}
+use Rattle.conversation.specs.Writing.{stageRows, namedRows, firstOr, naming, Speech, kindIn, spoken, spokenAs, speaking}
 use Rattle.conversation.specs.Choosing.{openTo, firstPlace, chose, mayChoose, maySpeak, choiceRows, choosing}
 use Rattle.conversation.proofs.Rows.{front-true, back-true}
 use Rattle.conversation.proofs.Decides.{decide-refused, first-stop}
