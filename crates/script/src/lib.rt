@@ -215,14 +215,7 @@ fn with_number(
 }
 
 // A command of a verb at an end, by their places: 0 is none, and the acceptor is 2.
-fn call(
-    verb: usize,
-    end: usize,
-    marks: u32,
-    line: &[u8],
-    from: usize,
-    lent: &mut [u8],
-) -> Command
+fn call(verb: usize, end: usize, marks: u32, line: &[u8], from: usize, lent: &mut [u8]) -> Command
     ensures { λ r. ⌜ lineAs r (now (lent .exit)) ≡ called verb end marks (fieldsFrom (now (line .entry)) from) (length (now (lent .entry))) ⌝ }
 {
     if end == 0 {
