@@ -103,7 +103,7 @@ plays 'a zero octet' 3 'line 1 is bad: a?read'
 awk 'BEGIN { for (k = 0; k < 20; k++) print "a read" }' >"$work/script"
 plays 'many bad lines' 3 'line 1 is bad: a read' 'line 2 is bad: a read' 'line 3 is bad: a read' \
     'line 4 is bad: a read' 'line 5 is bad: a read' 'line 6 is bad: a read' 'line 7 is bad: a read' 'line 8 is bad: a read' 'and 12 bad lines more'
-awk -v a="$a" 'BEGIN { print "open a 100 " a; for (k = 0; k < 20; k++) print "a choose 0000" }' >"$work/script"
+awk -v a="$a" 'BEGIN { print "open a 100 " a; for (k = 0; k < 20; k++) print "a choose 0000 exchange 00" }' >"$work/script"
 plays 'many refused calls' 0 'lines 2, 3, 4, 5, 6, 7, 8, 9 and 12 more: refused 18: the call is not of this stage (after a refusal 12 none is), or the record is outside its limits'
 printf '#%0300000d' 0 >"$work/script"
 plays 'a script that is too long' 3 'the script has more than 262,143 octets'

@@ -1,6 +1,7 @@
 """Asks ours, through ./negoex: the structural reading (`list`) and our two ends (`converse`, whose scripts README.md shows).
 
-An end that has read a NEGO makes its next call, without marks: the acceptor writes its reply, and the initiator chooses.
+An end that has read a NEGO makes its next call, without marks: the acceptor writes its reply, and the initiator chooses with its first later
+message.
 """
 import re
 from collections import defaultdict, namedtuple
@@ -10,7 +11,8 @@ from messages import SCHEMES, id_text, is_nego, kind, letter, listed, number, sp
 
 ROOM = 65535
 REPLY_RANDOM = bytes(32)
-CHOOSE = 'i choose 0000'
+CHOOSE = 'i choose 0000 '
+NO_MORE = CHOOSE + 'exchange -'          # where there is no later message to choose with
 
 # A turn of MIT's at our two ends: what the reader makes of it, and what the writer writes.
 AtOurEnds = namedtuple('AtOurEnds', 'reads writes')
@@ -36,7 +38,7 @@ def acceptor(token, letters, keep):
 def initiator(first, reply, letters, keep):
     """What an initiator that lists `letters` makes of `reply`, having written MIT's first token, octet 86 apart."""
     calls = [open_call('i', letters, first[24:40])] + [write_call('i', message) for message in split(first)]
-    answers = played(calls + [read_call('i', reply), CHOOSE], keep)
+    answers = played(calls + [read_call('i', reply), NO_MORE], keep)
     if writes(answers[1:-2], first) != 'the same':
         raise NoAnswer(f"our initiator's first token is another than MIT's: {keep}")
     return outcome(*answers[-2:])
@@ -49,8 +51,11 @@ def conversation(turns, lists, keep):
         writer, reader = 'ia'[place % 2], 'ai'[place % 2]
         calls += [(f'write {place}', write_call(writer, message)) for message in split(token)]
         calls.append((f'read {place}', read_call(reader, token)))
-        if place == 1:
-            calls.append(('choose', CHOOSE))
+    chooses = [k for k, (label, _) in enumerate(calls) if label == 'write 2'][:1]
+    for k in chooses:                          # the initiator's first later message is written with the choice
+        calls[k] = ('write 2', CHOOSE + calls[k][1].removeprefix('i '))
+    if len(turns) == 2:
+        calls.append(('write 2', NO_MORE))
     if len(turns) == 1:                        # MIT's acceptor wrote no reply; ours is asked for one
         calls.append(('write 1', reply_call(REPLY_RANDOM)))
     said = defaultdict(list)
@@ -64,7 +69,7 @@ def conversation(turns, lists, keep):
 def at_our_ends(place, token, said):
     """A turn at our two ends, by what the calls of each label said. Who reads the first turn writes its reply, the first message of
     the second turn; who reads that one chooses."""
-    following = {0: said['write 1'], 1: said['choose']}.get(place, [])
+    following = {0: said['write 1'], 1: said['write 2']}.get(place, [])
     return AtOurEnds(outcome(*said[f'read {place}'], *following[:1]), writes(said[f'write {place}'], token))
 
 
@@ -85,9 +90,8 @@ def outcome(read, following=''):
     if following.startswith('refused'):
         return 'read, then ' + refusal(following)
     if following.startswith('wrote'):
-        return 'lists ' + listed(written(following))
-    if following.startswith('choice'):
-        return 'chooses ' + letter(following.split()[1])
+        message = written(following)
+        return 'lists ' + listed(message) if is_nego(message) else 'chooses ' + letter(re.search(r' choice=(\S+)', following)[1])
     return 'read'
 
 

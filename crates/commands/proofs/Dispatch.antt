@@ -2,7 +2,7 @@
 -- Assumes nothing.
 use Prim.Native.Nat.{ℕ, _%_}
 use mathlib.Core.Path.{_≡_, _∙_}
-use mathlib.Core.List.{List, [], append-nil}
+use mathlib.Core.List.{List, append-nil}
 use lib.IntN.{ℤ}
 use lib.ListN.{length, replicate}
 use borrow.Author.Tests.{eq-eqb, ne-eqb}
@@ -15,7 +15,7 @@ use Rattle.conversation.specs.Writing.{opening, offering, replying, writingMeta
 use Rattle.conversation.specs.Reading.{readingToken}
 use Rattle.conversation.specs.Choosing.{choosing}
 use Rattle.script.specs.declared.Command.{Command}
-use Rattle.commands.specs.Commands.{randomIn, kept, negoOf, writerOf, callOf}
+use Rattle.commands.specs.Commands.{randomIn, kept, negoOf, writerOf, chooserOf, callOf}
 
 module _ (o : List ℕ) where
   pub random-none : (length o ≡ 32 → ⊥) → replicate 32 0 ≡ randomIn o
@@ -65,6 +65,25 @@ module _ (c : Command) (r : Record) (d o : List ℕ) (x : Outcome) where
         unfolding writerOf
         write-nego h e = e ∙ rw (ne-eqb _ _ not-metadata, ne-eqb _ _ not-exchange, ne-eqb _ _ not-verify, ne-eqb _ _ h)
 
+  module _ (m : ℕ) (m-is : m ≡ c .marks % 65536) where
+    pub choose-exchange : c .verb ≡ 11 → x ≡ choosing r d m (request o) → x ≡ chooserOf c r d o
+    unfolding chooserOf
+    choose-exchange h e = e ∙ rw (eq-eqb _ _ h, m-is)
+
+    module _ (not-exchange : c .verb ≡ 11 → ⊥) where
+      pub choose-verify : c .verb ≡ 12 → (z : ℤ) → z ≡ signed32 (c .number) → x ≡ choosing r d m (checksum z o) → x ≡ chooserOf c r d o
+      unfolding chooserOf
+      choose-verify h z z-is e = e ∙ rw (ne-eqb _ _ not-exchange, eq-eqb _ _ h, m-is, z-is)
+
+      module _ (not-verify : c .verb ≡ 12 → ⊥) where
+        pub choose-alert : c .verb ≡ 13 → (z : ℤ) → z ≡ signed32 (c .number) → x ≡ choosing r d m (alarm z) → x ≡ chooserOf c r d o
+        unfolding chooserOf
+        choose-alert h z z-is e = e ∙ rw (ne-eqb _ _ not-exchange, ne-eqb _ _ not-verify, eq-eqb _ _ h, m-is, z-is)
+
+  pub choose-none : (c .verb ≡ 11 → ⊥) → (c .verb ≡ 12 → ⊥) → (c .verb ≡ 13 → ⊥) → x ≡ writerOf c r d o → x ≡ chooserOf c r d o
+  unfolding chooserOf
+  choose-none f g h e = e ∙ rw (ne-eqb _ _ f, ne-eqb _ _ g, ne-eqb _ _ h)
+
   pub call-open : c .verb ≡ 10 → (a : Answer) → a ≡ opening (c .acceptor) o (c .id) → kept d a ≡ callOf c r d o
   unfolding callOf
   call-open h a e = rw (eq-eqb _ _ h, e)
@@ -75,16 +94,14 @@ module _ (c : Command) (r : Record) (d o : List ℕ) (x : Outcome) where
     call-read h e = e ∙ rw (ne-eqb _ _ not-open, eq-eqb _ _ h)
 
     module _ (not-read : c .verb ≡ 7 → ⊥) where
-      pub call-choose : c .verb ≡ 8 → (m : ℕ) → m ≡ c .number % 65536 → (a : Answer) → a ≡ choosing r [] m .answer → kept d a ≡ callOf c r d o
+      pub call-choose : x ≡ chooserOf c r d o → x ≡ callOf c r d o
       unfolding callOf
-      call-choose h m m-is a e = rw (ne-eqb _ _ not-open, ne-eqb _ _ not-read, eq-eqb _ _ h, e, m-is)
-
-      pub call-write : (c .verb ≡ 8 → ⊥) → x ≡ writerOf c r d o → x ≡ callOf c r d o
-      unfolding callOf
-      call-write h e = e ∙ rw (ne-eqb _ _ not-open, ne-eqb _ _ not-read, ne-eqb _ _ h)
+      call-choose e = e ∙ rw (ne-eqb _ _ not-open, ne-eqb _ _ not-read)
 
 pub ruleset negos = (nego-offer, nego-reply, nego-none)
 
 pub ruleset writers = (write-metadata, write-exchange, write-verify, write-alert, write-nego)
 
-pub ruleset calls = (call-open, call-read, call-choose, call-write)
+pub ruleset choosers = (choose-exchange, choose-verify, choose-alert, choose-none)
+
+pub ruleset calls = (call-open, call-read, call-choose)

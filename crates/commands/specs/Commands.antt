@@ -3,11 +3,12 @@
 -- Glossary
 --   randomIn o       RANDOM, which is 32 octets; zeros for any other number
 --   kept d a         an answer that leaves the transcript d as it is
---   negoOf, writerOf the calls that write a NEGO, and all that write
+--   negoOf, writerOf the calls that write a NEGO, and all that write only
+--   chooserOf        the calls that choose and write, and those
 --   callOf c r d o   the call of the command c with the octets o, at an end with the record r and the transcript d
 use Prim.Native.Nat.{ℕ, _%_}
 use mathlib.Core.Bool.{cond}
-use mathlib.Core.List.{List, []}
+use mathlib.Core.List.{List}
 use lib.ListN.{length, replicate}
 use lib.Dec.{eqb}
 use Rattle.octets.specs.Octets.{signed32}
@@ -18,7 +19,7 @@ use Rattle.conversation.specs.Writing.{opening, offering, replying, writingMeta
 use Rattle.conversation.specs.Reading.{readingToken}
 use Rattle.conversation.specs.Choosing.{choosing}
 use Rattle.script.specs.declared.Command.{Command}
-use Rattle.script.specs.Grammar.{OFFER, REPLY, METADATA, EXCHANGE, VERIFY, ALERT, READ, CHOOSE, OPEN}
+use Rattle.script.specs.Grammar.{OFFER, REPLY, METADATA, EXCHANGE, VERIFY, ALERT, READ, OPEN, CHOOSE-EXCHANGE, CHOOSE-VERIFY, CHOOSE-ALERT}
 
 unfoldable pub randomIn : List ℕ → List ℕ
 randomIn o = cond (eqb (length o) 32) o (replicate 32 0)
@@ -41,10 +42,17 @@ writerOf c r d o =
     (cond (eqb (c .verb) ALERT) (speaking r d (alarm (signed32 (c .number))))
     (negoOf c r d o))))
 
--- "open i ROOM CONVERSATION ID ID ..", "open a ROOM ID ID ..", "E read OCTETS", "E choose MARKS"
+-- "E choose MARKS exchange OCTETS", "E choose MARKS verify TYPE OCTETS", "E choose MARKS alert CODE"
+unfoldable pub chooserOf : Command → Record → List ℕ → List ℕ → Outcome
+chooserOf c r d o =
+    cond (eqb (c .verb) CHOOSE-EXCHANGE) (choosing r d (c .marks % 65536) (request o))
+    (cond (eqb (c .verb) CHOOSE-VERIFY) (choosing r d (c .marks % 65536) (checksum (signed32 (c .number)) o))
+    (cond (eqb (c .verb) CHOOSE-ALERT) (choosing r d (c .marks % 65536) (alarm (signed32 (c .number))))
+    (writerOf c r d o)))
+
+-- "open i ROOM CONVERSATION ID ID ..", "open a ROOM ID ID ..", "E read OCTETS"
 unfoldable pub callOf : Command → Record → List ℕ → List ℕ → Outcome
 callOf c r d o =
     cond (eqb (c .verb) OPEN) (kept d (opening (c .acceptor) o (c .id)))
     (cond (eqb (c .verb) READ) (readingToken r d o)
-    (cond (eqb (c .verb) CHOOSE) (kept d (choosing r [] (c .number % 65536) .answer))
-    (writerOf c r d o)))
+    (chooserOf c r d o))

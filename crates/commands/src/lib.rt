@@ -2,21 +2,23 @@
 ghost use mathlib.Core.Path.{_≡_};
 ghost use Prim.Native.Nat.{_%_};
 ghost use Rattle.conversation.specs.Outcomes.{Outcome};
-ghost use Rattle.commands.specs.Commands.{randomIn, negoOf, writerOf, callOf};
+ghost use Rattle.commands.specs.Commands.{randomIn, negoOf, writerOf, chooserOf, callOf};
 use calls::answer;
 use conversation::Answer;
 use conversation::Record;
-use negotiating::choice::choose;
 use negotiating::opening::open;
 use octets::to_i32;
 use put::put_octets;
 use receiving::read;
 use script::Command;
+use sending_alert::choose_alert;
 use sending_alert::write_alert;
+use sending_exchange::exchange::choose_exchange;
 use sending_exchange::exchange::write_exchange;
 use sending_exchange::metadata::write_metadata;
 use sending_nego::offer::write_offer;
 use sending_nego::reply::write_reply;
+use sending_verify::choose_verify;
 use sending_verify::write_verify;
 use vector::TokenPlace;
 
@@ -52,7 +54,7 @@ fn write_nego(c: Command, r: Record, transcript: &mut [u8], octets: &[u8]) -> An
     answer(18, TokenPlace(0), r)
 }
 
-// The writers of all messages.
+// The calls that write and do nothing else.
 fn write(c: Command, r: Record, transcript: &mut [u8], octets: &[u8]) -> Answer
     ensures { λ a. ⌜ _≡_ {A = Outcome} (record { answer = a; transcript = now (transcript .exit) }) (writerOf c r (now (transcript .entry)) (now (octets .entry))) ⌝ }
 {
@@ -72,6 +74,23 @@ fn write(c: Command, r: Record, transcript: &mut [u8], octets: &[u8]) -> Answer
     write_nego(c, r, transcript, octets)
 }
 
+// The calls that choose and write, and all that write.
+fn choose(c: Command, r: Record, transcript: &mut [u8], octets: &[u8]) -> Answer
+    ensures { λ a. ⌜ _≡_ {A = Outcome} (record { answer = a; transcript = now (transcript .exit) }) (chooserOf c r (now (transcript .entry)) (now (octets .entry))) ⌝ }
+{
+    let marks = bits(c.marks);
+    if c.verb == Command::CHOOSE_EXCHANGE {
+        return choose_exchange(r, transcript, marks, octets);
+    }
+    if c.verb == Command::CHOOSE_VERIFY {
+        return choose_verify(r, transcript, marks, to_i32(c.number), octets);
+    }
+    if c.verb == Command::CHOOSE_ALERT {
+        return choose_alert(r, transcript, marks, to_i32(c.number));
+    }
+    write(c, r, transcript, octets)
+}
+
 // Makes the call of a command with its octets, at an end with the record r.
 pub fn make(c: Command, r: Record, transcript: &mut [u8], octets: &[u8]) -> Answer
     ensures { λ a. ⌜ _≡_ {A = Outcome} (record { answer = a; transcript = now (transcript .exit) }) (callOf c r (now (transcript .entry)) (now (octets .entry))) ⌝ }
@@ -83,8 +102,5 @@ pub fn make(c: Command, r: Record, transcript: &mut [u8], octets: &[u8]) -> Answ
     if c.verb == Command::READ {
         return read(r, transcript, octets);
     }
-    if c.verb == Command::CHOOSE {
-        return choose(r, bits(c.number));
-    }
-    write(c, r, transcript, octets)
+    choose(c, r, transcript, octets)
 }

@@ -11,18 +11,18 @@ use lib.Dec.{eqb, leb, ltb}
 use borrow.Author.Tests.{eqb-true, eqb-false}
 use Rattle.octets.proofs.Bools.{which, no-true, and-i, and-l, and-r}
 use Rattle.message.specs.Check.{Row}
-use Rattle.schemes.specs.Sets.{named, below}
 use Rattle.conversation.specs.declared.Record.{Record}
-use Rattle.conversation.specs.State.{closed, ownOf, limitRows}
+use Rattle.conversation.specs.State.{closed, limitRows}
 use Rattle.conversation.specs.Turns.{NEGO, METADATA, writing, reading, reads, mayWrite, mayRead}
 use Rattle.conversation.specs.Outcomes.{Outcome, refused, decide, row, room}
-use Rattle.conversation.specs.Writing.{stageRows, thenFits, someLeft, offered, offerRows, replyMessage, replyRows, metadataMessage, metadataRows, namedRows, kindIn, spoken, offering, replying, writingMetadata, speaking}
+use Rattle.conversation.specs.Writing.{stageRows, thenFits, offered, offerRows, replyMessage, replyRows, metadataMessage, metadataRows, namedRows, kindIn, spoken, offering, replying, writingMetadata, speaking}
 use Rattle.conversation.specs.Reading.{Judged, whole, halted, judged, finish, tokenRows, readingToken}
-use Rattle.conversation.specs.Choosing.{openTo, mayChoose, choiceRows, choosing}
+use Rattle.conversation.specs.Choosing.{mayChoose, choosing}
 use Rattle.conversation.specs.Runs.{Call, offer, reply, metadata, speak, read, choose, End, act}
 use Rattle.conversation.specs.Claims.{StageOnly, ClosedInside, OnlyTwelveCloses, ClosedRefuses}
 use Rattle.conversation.proofs.Unchanged.{refused-unchanged}
 use Rattle.conversation.proofs.Rows.{decide-out, eachNumber, fails-each, fails-until, true-behind}
+use Rattle.conversation.proofs.Chosen.{choiceTable, choice-passed, choice-barred}
 use Rattle.conversation.proofs.Goals.{none-written}
 
 -- 1. all but the stage is as it was, and no limit looks at it
@@ -83,7 +83,7 @@ module _ (e : End) (peer : List ℕ) where
     closes (metadata id value) z = stays-open (stageRows r METADATA ++ thenFits (metadataRows r (id .0) (length value)) r d (metadataMessage r (id .0) value)) _ unshut z
     closes (speak s) z = stays-open (stageRows r (kindIn s) ++ thenFits (namedRows r) r d (spoken r s)) _ unshut z
     closes read z = (refl, read-closes z)
-    closes (choose m) z = stays-open (limitRows r ++ choiceRows r m) _ (λ y. omega arith) z
+    closes (choose m s) z = stays-open (choiceTable r d m s) _ (λ y. omega arith) z
 
   -- 3. a closed record refuses every call with 18
 
@@ -117,7 +117,10 @@ module _ (e : End) (peer : List ℕ) where
         barred (limitRows r) (mayWrite r METADATA) (thenFits (metadataRows r (id .0) (length value)) r d (metadataMessage r (id .0) value)) r d _ refl (writes-none METADATA)
     answers-18 (speak s) = barred (limitRows r) (mayWrite r (kindIn s)) (thenFits (namedRows r) r d (spoken r s)) r d _ refl (writes-none (kindIn s))
     answers-18 read = barred (limitRows r) (mayRead r) (row 1 (leb (length peer) 65535) ∷ []) r d _ refl reads-none
-    answers-18 (choose m) = barred (limitRows r) (mayChoose r) (row 19 (below (r .count) m) ∷ row 17 (someLeft (named (ownOf r) (openTo r m))) ∷ []) r d _ refl chooses-none
+    answers-18 (choose m s) =
+        decide-out (λ out. out ≡ refused r d 18 0) (choiceTable r d m s) r d _
+        (λ n g. ap (λ (k : ℕ). refused r d k 0) (choice-barred r d m s chooses-none n g))
+        (λ g. no-true (sym chooses-none ∙ choice-passed r d m s g .may))
 
 pub only-twelve-closes : OnlyTwelveCloses
 only-twelve-closes e peer k unshut z = closes e peer unshut k z

@@ -1,9 +1,9 @@
 -- Demand 3, for any two runs.
 -- Assumes nothing.
-use Prim.Native.Nat.{ℕ, _*_, _≤_, _/_, _%_}
+use Prim.Native.Nat.{ℕ, _*_, _≤_, _%_}
 use mathlib.Core.Path.{_≡_, refl, sym, ap, subst, _∙_}
-use mathlib.Core.Bool.{Bool, true, false, cond, not, _&&_}
-use mathlib.Core.Logic.{_⊎_, inl, inr}
+use mathlib.Core.Bool.{Bool, true, false, _&&_}
+use mathlib.Core.Logic.{inl, inr}
 use mathlib.Core.List.{List, [], _∷_, List·Memᴰ, List·Memᴰ·head, List·Memᴰ·tail, List·Memᴰ·cases-cons, List·Memᴰ·not-nil}
 use mathlib.Core.Option.{some, Option·some-ne-none}
 use native.Mathlib.Omega.{arith}
@@ -17,7 +17,7 @@ use Rattle.message.proofs.Tables.{AllTrue}
 use Rattle.encode.specs.Encode.{ofNego, encodable}
 use Rattle.roundtrip.specs.ReadBack.{Sent}
 use Rattle.roundtrip.proofs.RoundTrip.{AllIds, ids-joined, nego-begins}
-use Rattle.schemes.specs.Lists.{Id, mem, distinct, first, bit, leftOver, rule2, oneTo16, joinIds}
+use Rattle.schemes.specs.Lists.{Id, mem, distinct, first, leftOver, rule2, oneTo16, joinIds}
 use Rattle.schemes.specs.Sets.{left, padTo}
 use Rattle.schemes.specs.Longer.{Longer, SameMarks}
 use Rattle.schemes.proofs.Choice.{still-usable, still-common, longer}
@@ -26,8 +26,8 @@ use Rattle.conversation.specs.declared.Answer.{Answer}
 use Rattle.conversation.specs.State.{ownOf, limitRows}
 use Rattle.conversation.specs.Turns.{NEGO, typeOf}
 use Rattle.conversation.specs.Outcomes.{zeroId}
-use Rattle.conversation.specs.Writing.{heading, messageOf, offered, replyMessage}
-use Rattle.conversation.specs.Runs.{Sized, Call, offer, reply, metadata, speak, read, choose, Opening, World, world, next, Entry, run, isAccepted, isLawful, Replied, ChoseWith, MarksKept, Choice, NotLost, Demand3}
+use Rattle.conversation.specs.Writing.{heading, messageOf, offered, replyMessage, Speech}
+use Rattle.conversation.specs.Runs.{Sized, Call, offer, reply, metadata, speak, read, choose, Opening, World, world, next, Entry, run, isAccepted, isLawful, Replied, MarksKept, Choice, Demand3}
 use Rattle.conversation.specs.Claims.{RuleTwoAnswer, ByRule2, NoneRefused, ReplyAnswer, ReplyByMarks, acceptedAt, withMarks}
 use Rattle.conversation.proofs.Tokens.{Heads}
 use Rattle.conversation.proofs.Once.{marks-once, same-kept}
@@ -110,7 +110,7 @@ asks o cs true (reply x random) a m = λ h. record { random = random; answered =
 asks o cs true (metadata id value) a m = tt
 asks o cs true (speak s) a m = tt
 asks o cs true read a m = tt
-asks o cs true (choose x) a m = tt
+asks o cs true (choose x s) a m = tt
 
 fair-run : (o : Opening) (cs : List (Bool × Call)) (x : Entry) → List·Memᴰ x (run (world o) cs) → FairIn o cs (x .acceptor) (x .call) (x .said)
 fair-run o cs x m =
@@ -122,14 +122,14 @@ fair-run o cs x m =
     cs (λ y n. asks o cs (y .acceptor) (y .call) (y .said) n) x m
 
 -- the first run: who chose, and by what
-chose-facts : (o : Opening) (cs : List (Bool × Call)) (x : Bool) (m : ℕ) (a : Answer) → isAccepted a ≡ true → FairIn o cs x (choose m) a
+chose-facts : (o : Opening) (cs : List (Bool × Call)) (x : Bool) (m : ℕ) (s : Speech) (a : Answer) → isAccepted a ≡ true → FairIn o cs x (choose m s) a
     → (x ≡ false) × ((ma : ℕ) × (Replied o cs ma × (rule2 (o .acceptor) (o .initiator) ma m ≡ some (a .choice))))
-chose-facts o cs false m a e h = let g = h .1 e in (refl, (g .0, (g .1 .0, g .1 .1 .0)))
-chose-facts o cs true m a e h = no-true (rw h at e)
+chose-facts o cs false m s a e h = let g = h .1 e in (refl, (g .0, (g .1 .0, g .1 .1 .0)))
+chose-facts o cs true m s a e h = no-true (rw h at e)
 
 pub by-rule2 : ByRule2
-by-rule2 o cs x m h call = go (x .acceptor) (rw call at (fair-run o cs x h)) where
-  go : (b : Bool) → FairIn o cs b (choose m) (x .said) → RuleTwoAnswer o cs m (x .said)
+by-rule2 o cs x m s h call = go (x .acceptor) (rw call at (fair-run o cs x h)) where
+  go : (b : Bool) → FairIn o cs b (choose m s) (x .said) → RuleTwoAnswer o cs m (x .said)
   go false f = record { refuses = f .0; answers = f .1; lawful = f .2 }
   go true f = record { refuses = λ e. absurd (omega arith); answers = λ e. no-true (rw f at e); lawful = λ e. no-true (rw f at e) }
 
@@ -149,8 +149,8 @@ replied-once o cs m n r s =
 
 -- where rule 2 leaves nothing, a lawful choosing call is refused with 17, and only there (`refuses`)
 pub none-refused : NoneRefused
-none-refused o cs x m ma h call l r none-left =
-    let b = by-rule2 o cs x m h call in
+none-refused o cs x m ma s h call l r none-left =
+    let b = by-rule2 o cs x m s h call in
     elim (b .lawful l) [
       | inl e ↦ e
       | inr e ↦
@@ -165,12 +165,12 @@ no-mem-nil s l e m = no-true (rw e at m)
 
 -- 3. a second run behind a longer offer
 
-module _ (o : Opening) (cs : List (Bool × Call)) (o′ : Opening) (cs′ : List (Bool × Call)) (m ma : ℕ) (a : Answer) (ok : isAccepted a ≡ true)
-    (chosen : List·Memᴰ (record { acceptor = false; call = choose m; said = a }) (run (world o) cs))
+module _ (o : Opening) (cs : List (Bool × Call)) (o′ : Opening) (cs′ : List (Bool × Call)) (m ma : ℕ) (s : Speech) (a : Answer) (ok : isAccepted a ≡ true)
+    (chosen : List·Memᴰ (record { acceptor = false; call = choose m s; said = a }) (run (world o) cs))
     (rep : Replied o cs ma) (before : rule2 (o .acceptor) (o .initiator) ma m ≡ some (a .choice))
     (up : Longer (o .acceptor) (o .initiator) (o′ .acceptor) (o′ .initiator)) (marks : MarksKept o cs o′ cs′) where
-  ini-marks : (m′ : ℕ) → List·Memᴰ (false, choose m′) cs′ → SameMarks (o .acceptor) (o .initiator) (o .initiator) m (o′ .initiator) m′
-  ini-marks m′ h = marks .initiator-marks m m′ (record { answered = a; accepted = ok; entry = chosen }) h
+  ini-marks : (m′ : ℕ) (s′ : Speech) → List·Memᴰ (false, choose m′ s′) cs′ → SameMarks (o .acceptor) (o .initiator) (o .initiator) m (o′ .initiator) m′
+  ini-marks m′ s′ h = marks .initiator-marks m m′ s′ (record { answered = a; spoke = s; accepted = ok; entry = chosen }) h
 
   acc-marks : (m′ : ℕ) (random : Sized 32) → List·Memᴰ (true, reply m′ random) cs′ → SameMarks (o .acceptor) (o .initiator) (o .acceptor) ma (o′ .acceptor) m′
   acc-marks m′ random h = marks .acceptor-marks ma m′ random rep h
@@ -182,9 +182,9 @@ module _ (o : Opening) (cs : List (Bool × Call)) (o′ : Opening) (cs′ : List
   dist = ok-distinct (o′ .acceptor) (o′ .acceptor-ok)
 
   -- a choosing call has something left
-  some-left : (m′ ma′ : ℕ) → List·Memᴰ (false, choose m′) cs′ → Replied o′ cs′ ma′ → leftOver (o′ .acceptor) (o′ .initiator) ma′ m′ ≡ [] → ⊥
-  some-left m′ ma′ h r e =
-      no-mem-nil (a .choice) _ e (still-usable (o .acceptor) (o .initiator) (o′ .acceptor) (o′ .initiator) up dist ma m (a .choice) before ma′ m′ (rep-marks ma′ r) (ini-marks m′ h))
+  some-left : (m′ ma′ : ℕ) (s′ : Speech) → List·Memᴰ (false, choose m′ s′) cs′ → Replied o′ cs′ ma′ → leftOver (o′ .acceptor) (o′ .initiator) ma′ m′ ≡ [] → ⊥
+  some-left m′ ma′ s′ h r e =
+      no-mem-nil (a .choice) _ e (still-usable (o .acceptor) (o .initiator) (o′ .acceptor) (o′ .initiator) up dist ma m (a .choice) before ma′ m′ (rep-marks ma′ r) (ini-marks m′ s′ h))
 
   no-17 : (x : Bool) (k : Call) (b : Answer) → List·Memᴰ (x, k) cs′ → FairIn o′ cs′ x k b → b .refusal ≡ 17 → ⊥
   no-17 false (offer random) b h f = f
@@ -192,36 +192,36 @@ module _ (o : Opening) (cs : List (Bool × Call)) (o′ : Opening) (cs′ : List
   no-17 false (metadata id value) b h f = f
   no-17 false (speak s) b h f = f
   no-17 false read b h f = f
-  no-17 false (choose m′) b h f = λ e. let g = f .0 e in some-left m′ (g .0) h (g .1 .0) (g .1 .1)
+  no-17 false (choose m′ s′) b h f = λ e. let g = f .0 e in some-left m′ (g .0) s′ h (g .1 .0) (g .1 .1)
   no-17 true (offer random) b h f = f
   no-17 true (reply m′ random) b h f =
       λ e. no-mem-nil (a .choice) _ (f .refuses e) (still-common (o .acceptor) (o .initiator) (o′ .acceptor) (o′ .initiator) up dist ma m (a .choice) before m′ (acc-marks m′ random h))
   no-17 true (metadata id value) b h f = f
   no-17 true (speak s) b h f = f
   no-17 true read b h f = f
-  no-17 true (choose m′) b h f = λ e. omega arith
+  no-17 true (choose m′ s′) b h f = λ e. omega arith
 
-  choice-of : (x : Bool) (m′ : ℕ) (b : Answer) → List·Memᴰ (x, choose m′) cs′ → FairIn o′ cs′ x (choose m′) b → isLawful b ≡ true → Choice o o′ cs′ m′ (a .choice) b
-  choice-of false m′ b h f l = elim (f .2 l) [
-    | inl e ↦ absurd (no-17 false (choose m′) b h f e)
+  choice-of : (x : Bool) (m′ : ℕ) (s′ : Speech) (b : Answer) → List·Memᴰ (x, choose m′ s′) cs′ → FairIn o′ cs′ x (choose m′ s′) b → isLawful b ≡ true → Choice o o′ cs′ m′ (a .choice) b
+  choice-of false m′ s′ b h f l = elim (f .2 l) [
+    | inl e ↦ absurd (no-17 false (choose m′ s′) b h f e)
     | inr e ↦ let g = f .1 e in record {
       accepted = e;
       ma = g .0;
       replied = g .1 .0;
       chosen = g .1 .1 .0;
-      no-later = longer (o .acceptor) (o .initiator) (o′ .acceptor) (o′ .initiator) up dist ma m (a .choice) before (g .0) m′ (rep-marks (g .0) (g .1 .0)) (ini-marks m′ h) (b .choice) (g .1 .1 .0);
+      no-later = longer (o .acceptor) (o .initiator) (o′ .acceptor) (o′ .initiator) up dist ma m (a .choice) before (g .0) m′ (rep-marks (g .0) (g .1 .0)) (ini-marks m′ s′ h) (b .choice) (g .1 .1 .0);
     }
   ]
-  choice-of true m′ b h f l = no-true (rw f at l)
+  choice-of true m′ s′ b h f l = no-true (rw f at l)
 
 pub demand3 : Demand3
-demand3 o cs o′ cs′ x m hx call ok up marks y hy =
-    let cf = chose-facts o cs (x .acceptor) m (x .said) ok (rw call at (fair-run o cs x hx)) in
+demand3 o cs o′ cs′ x m s hx call ok up marks y hy =
+    let cf = chose-facts o cs (x .acceptor) m s (x .said) ok (rw call at (fair-run o cs x hx)) in
     let hx′ : List·Memᴰ (record { acceptor = x .acceptor; call = x .call; said = x .said }) (run (world o) cs) = hx in
-    let chosen : List·Memᴰ (record { acceptor = false; call = choose m; said = x .said }) (run (world o) cs) = rw (cf .0, call) at hx′ in
+    let chosen : List·Memᴰ (record { acceptor = false; call = choose m s; said = x .said }) (run (world o) cs) = rw (cf .0, call) at hx′ in
     let g = cf .1 in
     let fy = fair-run o′ cs′ y hy in
     let cy : List·Memᴰ (y .acceptor, y .call) cs′ = run-calls (world o′) cs′ y hy in (
-      no-17 o cs o′ cs′ m (g .0) (x .said) ok chosen (g .1 .0) (g .1 .1) up marks (y .acceptor) (y .call) (y .said) cy fy,
-      λ m′ k l. choice-of o cs o′ cs′ m (g .0) (x .said) ok chosen (g .1 .0) (g .1 .1) up marks (y .acceptor) m′ (y .said) (rw k at cy) (rw k at fy) l,
+      no-17 o cs o′ cs′ m (g .0) s (x .said) ok chosen (g .1 .0) (g .1 .1) up marks (y .acceptor) (y .call) (y .said) cy fy,
+      λ m′ s′ k l. choice-of o cs o′ cs′ m (g .0) s (x .said) ok chosen (g .1 .0) (g .1 .1) up marks (y .acceptor) m′ s′ (y .said) (rw k at cy) (rw k at fy) l,
     )

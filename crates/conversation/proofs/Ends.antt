@@ -25,15 +25,16 @@ use Rattle.conversation.specs.declared.Scan.{Scan}
 use Rattle.conversation.specs.State.{closed, ownOf, limitRows, fresh}
 use Rattle.conversation.specs.Turns.{NEGO, writing, reading, kindOf, after, writes, reads, placeAfter, mayWrite, mayRead}
 use Rattle.conversation.specs.Outcomes.{Outcome, answered, refused, row, fits, WrittenAs, unchanged, wrote, appended}
-use Rattle.conversation.specs.Writing.{stageRows, thenFits, offered, offerRows, offering, someLeft, firstOr, replyMessage, naming, replying, opening}
+use Rattle.conversation.specs.Writing.{stageRows, thenFits, offered, offerRows, offering, someLeft, firstOr, replyMessage, naming, replying, Speech, opening}
 use Rattle.conversation.specs.Admitting.{listedBy}
 use Rattle.conversation.specs.Reading.{conversationOf, whole, judged, commonAfter, keptAfter, taken}
-use Rattle.conversation.specs.Choosing.{openTo, mayChoose, chose, choosing}
+use Rattle.conversation.specs.Choosing.{openTo, mayChoose, choosing}
 use Rattle.conversation.specs.Runs.{Sized, Call, offer, reply, metadata, speak, read, choose, End, act, moved, Opening, World, world, outcomeAt, next, Entry, run, isAccepted, isLawful}
 use Rattle.conversation.specs.Claims.{ReplyAnswer, OpeningFresh}
 use Rattle.conversation.proofs.Unchanged.{refused-unchanged}
 use Rattle.conversation.proofs.Closed.{only-reading-12, closed-refuses}
 use Rattle.conversation.proofs.Rows.{decide-out, fails-one, fails-parts, fails-each, fails-until, true-behind, front-true}
+use Rattle.conversation.proofs.Chosen.{choiceTable, choice-passed, choice-17, choice-barred}
 use Rattle.conversation.proofs.Tokens.{Heads, heads-more, heads-here, empty-judged, judged-first}
 use Rattle.conversation.proofs.Goals.{positive, none-written, no-after, NotFirst, nego-start, no17, no12, not-some, Goal, refusal, stopped, metadata-goal, speak-goal, read-goal}
 
@@ -109,7 +110,7 @@ module _ (o : Opening) (Q : ℕ → Type 0)
     IniSays (metadata id value) a = no17 a
     IniSays (speak s) a = no17 a
     IniSays read a = no17 a
-    IniSays (choose m) a = ChooseSays m a
+    IniSays (choose m s) a = ChooseSays m a
 
     abbrev pub AccSays : Call → Answer → Type 0
     AccSays (offer random) a = no17 a
@@ -117,7 +118,7 @@ module _ (o : Opening) (Q : ℕ → Type 0)
     AccSays (metadata id value) a = no17 a
     AccSays (speak s) a = no17 a
     AccSays read a = no17 a
-    AccSays (choose m) a = Barred a
+    AccSays (choose m s) a = Barred a
 
     abbrev pub Fair : Bool → Call → Answer → Type 0
     Fair false k a = IniSays k a
@@ -130,7 +131,7 @@ module _ (o : Opening) (Q : ℕ → Type 0)
     AskAcc (metadata id value) a = Unit {0}
     AskAcc (speak s) a = Unit {0}
     AskAcc read a = Unit {0}
-    AskAcc (choose m) a = Unit {0}
+    AskAcc (choose m s) a = Unit {0}
 
     abbrev pub Ask : Bool → Call → Answer → Type 0
     Ask false k a = Unit {0}
@@ -241,35 +242,32 @@ module _ (o : Opening) (Q : ℕ → Type 0)
       only-17 : (n : ℕ) → eqb n 17 || not (lawful n) ≡ true → lawful n ≡ true → eqb n 17 ≡ true
       only-17 n e h = elim (which (eqb n 17)) [ inl a ↦ a | inr a ↦ no-true (rw (a, h) at e) ]
 
-      ini-choose : (m : ℕ) → IniGoal (choose m) (ChooseSays m) (choosing r d m)
+      stage-2 : mayChoose r ≡ true → eqb (r .stage) 2 ≡ true
+      stage-2 h = and-r (not (r .acceptor)) (eqb (r .stage) 2) h
+
+      ini-choose : (m : ℕ) (s : Speech) → IniGoal (choose m s) (ChooseSays m) (choosing r d m s)
       unfolding choosing
-      ini-choose m =
+      ini-choose m s =
           let l : List Id = named (ownOf r) (openTo r m) in
-          let before : List Row = limitRows r ++ (row 18 (mayChoose r) ∷ row 19 (below (r .count) m) ∷ []) in
-          decide-out (IniGoal (choose m) (ChooseSays m)) (before ++ (row 17 (someLeft l) ∷ [])) r d (naming l (record { answer = answered 0 0 (chose r m); transcript = d }))
-          (λ n g. refusal e IniOk beside ok tg (choose m) (ChooseSays m) n 0 (fails-other 0 (before ++ (row 17 (someLeft l) ∷ [])) n refl g) (refusal-says n g))
+          let rows : List Row = choiceTable r d m s in
+          decide-out (IniGoal (choose m s) (ChooseSays m)) rows r d _
+          (λ n g. refusal e IniOk beside ok tg (choose m s) (ChooseSays m) n 0 (fails-other 0 rows n refl g) (
+            (λ z.
+                let w = choice-17 r d m s n g z in
+                let c = ini-chooses m (stage-2 (w .0)) (ok .at) in
+                (c .0, (c .1 .0, sym (c .1 .1) ∙ not-some l (w .1)))),
+            (λ z. absurd (fails-other 0 rows n refl g (eqb-true _ _ z))),
+            (λ z. inl (eqb-true _ _ (only-17 n (fails-each (λ k. eqb k 17 || not (lawful k)) rows n refl g) z))),
+          ))
           (λ g.
-          let b = true-behind (limitRows r) (row 18 (mayChoose r)) (row 19 (below (r .count) m) ∷ row 17 (someLeft l) ∷ []) g in
-          let h = and-r (not (r .acceptor)) (eqb (r .stage) 2) b in
-          let s = ini-chooses m h (ok .at) in
+          let p = choice-passed r d m s g in
+          let h = stage-2 (p .may) in
+          let c = ini-chooses m h (ok .at) in
           record {
             then-ok = record { role = ok .role; own = ok .own; bytes = ok .bytes; count = ok .count; talk = ok .talk; at = ini-later refl };
             then-together = record { first-stage = λ z. absurd (omega arith); choosing′ = λ z. absurd (omega arith); later = λ z. (let w = tg .choosing′ (eqb-true _ _ h) in omega arith) };
-            fair = ((λ z. absurd (omega arith)), (λ z. (s .0, (s .1 .0, (ap first (sym (s .1 .1)) ∙ some-first l (true-behind before (row 17 (someLeft l)) [] g), ap length (s .1 .1))))), (λ z. inr refl));
-          }) where
-            refusal-says : (n : ℕ) → FirstFails n (limitRows r ++ (row 18 (mayChoose r) ∷ row 19 (below (r .count) m) ∷ row 17 (someLeft (named (ownOf r) (openTo r m))) ∷ [])) → ChooseSays m (answered n 0 r)
-            refusal-says n g =
-                let before : List Row = limitRows r ++ (row 18 (mayChoose r) ∷ row 19 (below (r .count) m) ∷ []) in
-                let l : List Id = named (ownOf r) (openTo r m) in
-                let rows : List Row = before ++ (row 17 (someLeft l) ∷ []) in (
-                  (λ z.
-                      let w = fails-one 17 before (someLeft l) [] n refl refl g z in
-                      let h = and-r (not (r .acceptor)) (eqb (r .stage) 2) (true-behind (limitRows r) (row 18 (mayChoose r)) (row 19 (below (r .count) m) ∷ []) (w .0)) in
-                      let s = ini-chooses m h (ok .at) in
-                      (s .0, (s .1 .0, sym (s .1 .1) ∙ not-some l (w .1)))),
-                  (λ z. absurd (fails-other 0 rows n refl g (eqb-true _ _ z))),
-                  (λ z. inl (eqb-true _ _ (only-17 n (fails-each (λ k. eqb k 17 || not (lawful k)) rows n refl g) z))),
-                )
+            fair = ((λ z. absurd (omega arith)), (λ z. (c .0, (c .1 .0, (ap first (sym (c .1 .1)) ∙ some-first l (p .left), ap length (c .1 .1))))), (λ z. inr refl));
+          })
 
       ini-step : (k : Call) → no12 (act e (f .turn) k .answer) → IniGoal k (IniSays k) (act e (f .turn) k)
       unfolding act
@@ -278,7 +276,7 @@ module _ (o : Opening) (Q : ℕ → Type 0)
       ini-step (metadata id value) z = metadata-goal e IniOk beside ok tg ini-on id value
       ini-step (speak s) z = speak-goal e IniOk beside ok tg ini-on s
       ini-step read z = read-goal e IniOk beside ok tg (f .turn) ini-reads-on z
-      ini-step (choose m) z = ini-choose m
+      ini-step (choose m s) z = ini-choose m s
 
     -- 4. the acceptor's calls
 
@@ -426,26 +424,22 @@ module _ (o : Opening) (Q : ℕ → Type 0)
       acc-reads-on n c d′ h w = let g = acc-reads n c h w (ok .at) (ok′ .at) in (record { role = ok .role; own = ok .own; at = g .0 }, g .1)
 
       -- an acceptor never chooses
-      acc-choose : (m : ℕ) → AccGoal (choose m) Barred (choosing s b m)
+      acc-choose : (m : ℕ) (t : Speech) → AccGoal (choose m t) Barred (choosing s b m t)
       unfolding choosing
-      acc-choose m =
-          let more : List Row = row 19 (below (s .count) m) ∷ row 17 (someLeft (named (ownOf s) (openTo s m))) ∷ [] in
+      acc-choose m t =
           let no : mayChoose s ≡ false = rw (ok .role) in
-          decide-out (AccGoal (choose m) Barred) (limitRows s ++ (row 18 (mayChoose s) ∷ more)) s b _
-          (λ n g.
-          let h = fails-until (limitRows s) (row 18 (mayChoose s)) more n no g in
-          let is : n ≡ 18 = eqb-true _ _ (fails-each (λ k. eqb k 18) (limitRows s ++ (row 18 (mayChoose s) ∷ [])) n refl h) in
-          refusal e AccOk along ok tg (choose m) Barred n 0 (λ z. omega arith) is)
-          (λ g. no-true (sym no ∙ true-behind (limitRows s) (row 18 (mayChoose s)) more g))
+          decide-out (AccGoal (choose m t) Barred) (choiceTable s b m t) s b _
+          (λ n g. let is : n ≡ 18 = choice-barred s b m t no n g in refusal e AccOk along ok tg (choose m t) Barred n 0 (λ z. omega arith) is)
+          (λ g. no-true (sym no ∙ choice-passed s b m t g .may))
 
       acc-step : (k : Call) → no12 (act e (f .turn) k .answer) → AskAcc k (act e (f .turn) k .answer) → AccGoal k (AccSays k) (act e (f .turn) k)
       unfolding act
       acc-step (offer random) z q = acc-offer random
       acc-step (reply m random) z q = acc-reply m random q
       acc-step (metadata id value) z q = metadata-goal e AccOk along ok tg acc-on id value
-      acc-step (speak s) z q = speak-goal e AccOk along ok tg acc-on s
+      acc-step (speak t) z q = speak-goal e AccOk along ok tg acc-on t
       acc-step read z q = read-goal e AccOk along ok tg (f .turn) acc-reads-on z
-      acc-step (choose m) z q = acc-choose m
+      acc-step (choose m t) z q = acc-choose m t
 
     -- 5. a run
 
@@ -478,13 +472,13 @@ module _ (o : Opening) (Q : ℕ → Type 0)
     fair-18 false (metadata id value) a n = λ z. omega arith
     fair-18 false (speak s) a n = λ z. omega arith
     fair-18 false read a n = λ z. omega arith
-    fair-18 false (choose m) a n = ((λ z. absurd (omega arith)), (λ z. no-true (rw n at z)), (λ z. no-true (rw n at z)))
+    fair-18 false (choose m s) a n = ((λ z. absurd (omega arith)), (λ z. no-true (rw n at z)), (λ z. no-true (rw n at z)))
     fair-18 true (offer random) a n = λ z. omega arith
     fair-18 true (reply m random) a n = record { refuses = λ z. absurd (omega arith); answers = λ z. no-true (rw n at z); none-left = λ z x y. absurd (x n) }
     fair-18 true (metadata id value) a n = λ z. omega arith
     fair-18 true (speak s) a n = λ z. omega arith
     fair-18 true read a n = λ z. omega arith
-    fair-18 true (choose m) a n = n
+    fair-18 true (choose m s) a n = n
 
     -- nor is 12, of a reading, which alone gives it
     fair-12 : (x : Bool) (k : Call) (a : Answer) → k ≡ read → a .refusal ≡ 12 → Fair x k a

@@ -1,4 +1,5 @@
--- The promises about runs are not empty: a whole conversation, computed; two runs that meet demand 3's premises; and a record that closes.
+-- The promises about runs are not empty: a whole conversation, computed; two runs that meet demand 3's premises; choosing
+-- calls; and a record that closes.
 -- Assumes nothing.
 use Prim.Native.Nat.{ℕ}
 use mathlib.Core.Path.{_≡_, refl, ap, subst, _∙_}
@@ -26,13 +27,13 @@ use Rattle.schemes.proofs.Offers.{bit-zero}
 use Rattle.conversation.specs.State.{fresh}
 use Rattle.conversation.specs.Outcomes.{answered}
 use Rattle.conversation.specs.Turns as turns
-use Rattle.conversation.specs.Writing.{offering, replying, writingMetadata, schemeNow, speaking}
+use Rattle.conversation.specs.Writing.{offering, replying, writingMetadata, schemeNow, request, speaking}
 use Rattle.conversation.specs.Admitting.{messagesAt, schemeFits, passed, admit}
 use Rattle.conversation.specs.Reading.{conversationOf, judge, judged, commonAfter, keptAfter, finish, readingToken}
 use Rattle.conversation.specs.Choosing.{choosing}
 use Rattle.conversation.specs.Runs.{Call, offer, reply, metadata, speak, read, choose, Opening, world, Entry, run, MarksKept, NotLost, act}
 use Rattle.conversation.specs.Logs.{messagesIn}
-use Rattle.conversation.specs.Worked.{scheme, opened, negotiation, Says, saysOf, names, longerLists, LongerRun, LongerChoice, WholeConversation, WholeLogs, StaysRejected}
+use Rattle.conversation.specs.Worked.{scheme, opened, negotiation, Says, saysOf, names, longerLists, LongerRun, LongerChoice, WholeConversation, WholeLogs, AtOnce, StaysRejected}
 use Rattle.conversation.proofs.Demand.{demand3, run-calls}
 
 pub whole-conversation : WholeConversation
@@ -51,7 +52,7 @@ unmarked (reply m random) = eqb m 0
 unmarked (metadata id value) = true
 unmarked (speak s) = true
 unmarked read = true
-unmarked (choose m) = eqb m 0
+unmarked (choose m s) = eqb m 0
 
 abbrev noMarks : List (Bool × Call) → Bool
 noMarks [] = true
@@ -70,7 +71,7 @@ no-bits own own′ m m′ s e e′ = rw (eqb-true m 0 e, eqb-true m′ 0 e′) (
 none-kept : (o : Opening) (cs : List (Bool × Call)) (o′ : Opening) (cs′ : List (Bool × Call)) → noMarks cs ≡ true → noMarks cs′ ≡ true → MarksKept o cs o′ cs′
 none-kept o cs o′ cs′ h h′ = record {
   acceptor-marks = λ m m′ random x j s a b. no-bits (o .acceptor) (o′ .acceptor) m m′ s (no-marks cs h (true, reply m (x .random)) (run-calls (world o) cs _ (x .entry))) (no-marks cs′ h′ (true, reply m′ random) j);
-  initiator-marks = λ m m′ x j s a b. no-bits (o .initiator) (o′ .initiator) m m′ s (no-marks cs h (false, choose m) (run-calls (world o) cs _ (x .entry))) (no-marks cs′ h′ (false, choose m′) j);
+  initiator-marks = λ m m′ s′ x j s a b. no-bits (o .initiator) (o′ .initiator) m m′ s (no-marks cs h (false, choose m (x .spoke)) (run-calls (world o) cs _ (x .entry))) (no-marks cs′ h′ (false, choose m′ s′) j);
 }
 
 offered : Longer (opened .acceptor) (opened .initiator) (longerLists .acceptor) (longerLists .initiator)
@@ -108,12 +109,18 @@ pub longer-run : LongerRun
 longer-run y h =
     let c = first-choice in
     subst (λ (id : Id). NotLost opened longerLists (negotiation 0 0) id y) (ap (λ (a : Says). a .choice) c)
-    (demand3 opened (negotiation 0 0) longerLists (negotiation 0 0) chosen 0 (at-fifth (run (world opened) (negotiation 0 0)) none-such refl) refl (ap (λ (a : Says). eqb (a .number) 0) c) offered (none-kept opened (negotiation 0 0) longerLists (negotiation 0 0) refl refl) y h)
+    (demand3 opened (negotiation 0 0) longerLists (negotiation 0 0) chosen 0 (request []) (at-fifth (run (world opened) (negotiation 0 0)) none-such refl) refl (ap (λ (a : Says). eqb (a .number) 0) c) offered (none-kept opened (negotiation 0 0) longerLists (negotiation 0 0) refl refl) y h)
 
 -- the second run, computed
 pub choices : LongerChoice
 unfolding longerLists le signed32 sameOctets sameId keepsRule shown shapeOf headOf elementsAt contentOf vectorsOf commonRows allKeepRule noneCritical contentRows bodyRows frontRows idsAt schemesIn orderRows nextRows chainOf put encoded mem place distinct setOf left has mentions ones openPlaces keptBelow turns.writing turns.reading turns.kindOf turns.typeOf turns.afterOpening turns.afterFurther turns.after offering replying writingMetadata speaking schemeNow messagesAt schemeFits passed admit conversationOf judge judged commonAfter keptAfter finish readingToken choosing act
 choices = refl
+
+-- the choosing call, by each of its refusals
+
+pub at-once : AtOnce
+unfolding opened le signed32 sameOctets sameId keepsRule shown shapeOf headOf elementsAt contentOf vectorsOf commonRows allKeepRule noneCritical contentRows bodyRows frontRows idsAt schemesIn orderRows nextRows chainOf put encoded mem place distinct setOf left has mentions ones openPlaces keptBelow turns.writing turns.reading turns.kindOf turns.typeOf turns.afterOpening turns.afterFurther turns.after offering replying writingMetadata speaking schemeNow messagesAt schemeFits passed admit conversationOf judge judged commonAfter keptAfter finish readingToken choosing act
+at-once = refl
 
 -- a critical extension, and then a good token
 

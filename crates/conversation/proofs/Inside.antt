@@ -1,7 +1,7 @@
 -- A record stays inside its limits: what each accepted call makes of the sets, the kept places and the chosen place.
 -- Assumes nothing.
 use Prim.Native.Nat.{ℕ, zero, suc, _+_, _*_, _^_, _/_, _≤_, _<_}
-use mathlib.Core.Path.{_≡_, refl, sym, subst}
+use mathlib.Core.Path.{_≡_, refl, sym, ap, subst, _∙_}
 use mathlib.Core.Bool.{Bool, true, false, cond, not, _&&_, _||_}
 use mathlib.Core.Logic.{inl, inr}
 use mathlib.Core.List.{List, [], _∷_}
@@ -17,7 +17,7 @@ use Rattle.message.proofs.Tables.{AllTrue}
 use Rattle.message.proofs.Ids.{length-ids}
 use Rattle.schemes.specs.Lists.{Id, mem, place, bit}
 use Rattle.schemes.specs.Answers.{leftOf}
-use Rattle.schemes.specs.Sets.{commonSet, left, keptPlaces, ones, below, keptBelow, padTo}
+use Rattle.schemes.specs.Sets.{commonSet, left, keptPlaces, ones, named, below, keptBelow, padTo}
 use Rattle.schemes.proofs.Choice.{mem-tail}
 use Rattle.schemes.proofs.Digits.{ones-pow, bit-room}
 use Rattle.schemes.proofs.Places.{set-bound}
@@ -27,9 +27,9 @@ use Rattle.schemes.proofs.Replies.{place-below}
 use Rattle.conversation.specs.declared.Record.{Record}
 use Rattle.conversation.specs.declared.Scan.{Scan}
 use Rattle.conversation.specs.State.{NONE, ownOf, schemeAt, replied, limitRows}
-use Rattle.conversation.specs.Turns.{FIRST, ANSWER, FURTHER, NEGO, METADATA, reading, kindOf, after, afterFurther, writes, reads}
+use Rattle.conversation.specs.Turns.{FIRST, ANSWER, FURTHER, NEGO, METADATA, writing, reading, kindOf, after, afterFurther, writes, reads}
 use Rattle.conversation.specs.Outcomes.{WrittenAs, wrote}
-use Rattle.conversation.specs.Writing.{metadataAllowed, startsWith, schemeNow, schemeAllowed}
+use Rattle.conversation.specs.Writing.{someLeft, firstOr, metadataAllowed, startsWith, schemeNow, schemeAllowed}
 use Rattle.conversation.specs.Admitting.{listedBy, schemeIn, isAt, furtherFits, schemeFits, passed, on, admit}
 use Rattle.conversation.specs.Reading.{commonAfter, keptAfter, taken}
 use Rattle.conversation.specs.Choosing.{openTo, firstPlace, chose}
@@ -140,6 +140,33 @@ first-below r m h = go (openTo r m) (open-below (r .count) (r .kept) (r .common)
   go : (ks : List ℕ) → ((leftOf ks .left ≡ 0 → ⊥) → leftOf ks .place < r .count) → ChosenBelow r (firstPlace ks)
   go [] f = refl
   go (k ∷ ks) f = unfold leftOf in low-chosen r k (f (λ z. omega arith))
+
+-- where a scheme is left, it is one of the list: so 15 never comes up
+pub chosen-below : (r : Record) (m : ℕ) → keptBelow (r .count) (r .kept) (r .common) ≡ true → someLeft (named (ownOf r) (openTo r m)) ≡ true → firstPlace (openTo r m) < r .count
+chosen-below r m h = go (openTo r m) (open-below (r .count) (r .kept) (r .common) m h) where
+  go : (ks : List ℕ) → ((leftOf ks .left ≡ 0 → ⊥) → leftOf ks .place < r .count) → someLeft (named (ownOf r) ks) ≡ true → firstPlace ks < r .count
+  go [] f s = no-true s
+  go (k ∷ ks) f s = unfold leftOf in f (λ z. omega arith)
+
+-- behind the choice a message names the chosen scheme
+pub now-chosen : (r : Record) (m : ℕ) → schemeNow (chose r m) ≡ firstPlace (openTo r m)
+unfolding schemeNow writing
+now-chosen r m = go (r .acceptor) where
+  go : (a : Bool) → cond (eqb (writing a 3) 0) 0 (cond (eqb (writing a 3) 1) (r .asked) (firstPlace (openTo r m))) ≡ firstPlace (openTo r m)
+  go true = refl
+  go false = refl
+
+pub scheme-chosen : (r : Record) (m : ℕ) → someLeft (named (ownOf r) (openTo r m)) ≡ true → schemeAt r (schemeNow (chose r m)) ≡ firstOr (named (ownOf r) (openTo r m))
+scheme-chosen r m h = ap (schemeAt r) (now-chosen r m) ∙ go (openTo r m) h where
+  go : (ks : List ℕ) → someLeft (named (ownOf r) ks) ≡ true → schemeAt r (firstPlace ks) ≡ firstOr (named (ownOf r) ks)
+  go [] s = no-true s
+  go (k ∷ ks) s = refl
+
+pub chosen-allowed : (r : Record) (m : ℕ) → keptBelow (r .count) (r .kept) (r .common) ≡ true → someLeft (named (ownOf r) (openTo r m)) ≡ true → schemeAllowed (chose r m) ≡ true
+chosen-allowed r m kept some = rw (no-answer (r .acceptor)) (ap (λ (k : ℕ). ltb k (r .count)) (now-chosen r m) ∙ lt-ltb _ _ (chosen-below r m kept some)) where
+  no-answer : (a : Bool) → eqb (writing a 3) ANSWER ≡ false
+  no-answer true = unfold writing in refl
+  no-answer false = unfold writing in refl
 
 -- 6. the common set and the kept places that a reading leaves
 

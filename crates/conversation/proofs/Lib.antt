@@ -2,6 +2,7 @@ pub mod Tests
 pub mod Bounds
 pub mod Places
 pub mod Rows
+pub mod Chosen
 pub mod Decides
 pub mod Tokens
 pub mod Goals
@@ -15,6 +16,8 @@ pub mod Worked
 pub mod Examples
 pub mod Messages
 pub mod Inside
+pub mod Spoken
 pub mod Sends
 pub mod Logs
+pub mod Verifies
 pub mod Nines

@@ -1,10 +1,10 @@
 -- What holds of both ends in every run: records inside their limits, used and sequence counted by the messages read and written, and logs in step.
 -- Assumes nothing.
-use Prim.Native.Nat.{ℕ, zero, suc, _+_, _*_, _^_, _/_, _≤_, _<_}
+use Prim.Native.Nat.{ℕ, _+_, _*_, _^_, _/_, _≤_, _<_}
 use mathlib.Core.Path.{_≡_, refl, sym, ap, subst, _∙_}
 use mathlib.Core.Bool.{Bool, true, false, cond, not, _&&_, _||_}
 use mathlib.Core.Logic.{inl, inr}
-use mathlib.Core.List.{List, [], _∷_, _++_, List·Memᴰ, List·Memᴰ·head, List·Memᴰ·tail, List·Memᴰ·cases-cons, List·Memᴰ·not-nil, append-assoc, append-nil}
+use mathlib.Core.List.{List, [], _∷_, _++_, List·Memᴰ, List·Memᴰ·cases-cons, List·Memᴰ·not-nil, append-assoc, append-nil}
 use native.Mathlib.Omega.{arith}
 use lib.ListN.{length, take, drop, getD, length-append, length-take, length-drop}
 use lib.Seq.{take-at, length-take-le}
@@ -17,25 +17,26 @@ use Rattle.message.specs.Check.{Row, FirstFails, criticalOk}
 use Rattle.message.proofs.Tables.{AllTrue, without, fails-other}
 use Rattle.token.specs.Split.{join}
 use Rattle.put.specs.Put.{put}
-use Rattle.encode.specs.Encode.{Whole, Contents, ofNego, ofExchange, ofVerify, ofAlert}
+use Rattle.encode.specs.Encode.{Whole, Contents, ofNego, ofExchange}
 use Rattle.schemes.specs.Lists.{Id, distinct, oneTo16, joinIds, place}
 use Rattle.schemes.specs.Sets.{left, named, below, keptBelow}
 use Rattle.conversation.specs.declared.Record.{Record}
 use Rattle.conversation.specs.declared.Scan.{Scan}
 use Rattle.conversation.specs.State.{ownOf, schemeAt, limitRows, fresh}
-use Rattle.conversation.specs.Turns.{FIRST, NEGO, METADATA, EXCHANGE, VERIFY, ALERT, typeOf, reads, placeAfter, mayRead}
-use Rattle.conversation.specs.Outcomes.{Outcome, zeroId, answered, refused, closedBy, decide, row, room, fits, WrittenAs, unchanged, wrote, appended}
-use Rattle.conversation.specs.Writing.{heading, messageOf, stageRows, thenFits, offerRows, offering, someLeft, replyMessage, naming, replying, metadataAllowed, metadataMessage, metadataRows, writingMetadata, schemeNow, schemeAllowed, namedRows, askedBy, speaking, spoken, Speech, request, checksum, alarm, kindIn, contentsIn, spokenAs}
+use Rattle.conversation.specs.Turns.{FIRST, NEGO, METADATA, typeOf, reads, placeAfter, mayRead}
+use Rattle.conversation.specs.Outcomes.{Outcome, zeroId, refused, closedBy, decide, row, room, fits, WrittenAs, unchanged, wrote, appended}
+use Rattle.conversation.specs.Writing.{heading, messageOf, stageRows, thenFits, offerRows, offering, someLeft, replyMessage, naming, replying, metadataAllowed, metadataMessage, metadataRows, writingMetadata, schemeNow, schemeAllowed, namedRows, speaking, spoken, Speech, request, checksum, alarm, kindIn, contentsIn, spokenAs}
 use Rattle.conversation.specs.Reading.{conversationOf, startOf, Judged, whole, halted, chainFor, judged, taken, finish, readingToken}
-use Rattle.conversation.specs.Choosing.{openTo, mayChoose, chose, choosing}
+use Rattle.conversation.specs.Choosing.{openTo, chose, choosing}
 use Rattle.conversation.specs.Runs.{Sized, Call, offer, reply, metadata, speak, read, choose, End, act, turnAfter, moved, Opening, World, world, outcomeAt, next, ends, Entry, run}
 use Rattle.conversation.specs.Logs.{messagesIn, added, logged, Logs, nextLogs, logsBehind, Counted, InStep, EveryRun}
 use Rattle.conversation.specs.Claims.{TwelveNeverRun}
 use Rattle.conversation.proofs.Decides.{all-first}
 use Rattle.conversation.proofs.Rows.{decide-out, true-behind}
+use Rattle.conversation.proofs.Chosen.{choiceTable, choice-passed}
 use Rattle.conversation.proofs.Tokens.{judged-first, judged-number}
 use Rattle.conversation.proofs.Ends.{ok-distinct, each-whole, sized-at, own-opened, count-joined}
-use Rattle.conversation.proofs.Inside.{told-below, ChosenBelow, admit-chosen, limits-wrote, limits-taken, limits-chose, limits-counts, now-below}
+use Rattle.conversation.proofs.Inside.{told-below, ChosenBelow, admit-chosen, limits-wrote, limits-taken, limits-chose, limits-counts, now-below, chosen-below, now-chosen}
 use Rattle.conversation.proofs.Messages.{FramedFrom, Framed, framed-more, framed-behind, framed-long, framed-order, join-append, join-one, same-messages, same-start, written-framed, plain-nego, plain-kind, Not12, turn-12, judge-keeps, Taken, token-taken}
 
 -- 1. the invariant of an end
@@ -63,7 +64,7 @@ small : (b : Bool) {x y : ℕ} → x ≤ 7 → y ≤ 7 → cond b x y ≤ 7
 small true h g = h
 small false h g = g
 
-type-known : (a : Bool) (kind : ℕ) → typeOf a kind ≤ 7
+pub type-known : (a : Bool) (kind : ℕ) → typeOf a kind ≤ 7
 unfolding typeOf
 type-known true kind = small (eqb kind 1) (omega arith) (small (eqb kind 2) (omega arith) (small (eqb kind 3) (omega arith) (small (eqb kind 4) (omega arith) (omega arith))))
 type-known false kind = small (eqb kind 1) (omega arith) (small (eqb kind 2) (omega arith) (small (eqb kind 3) (omega arith) (small (eqb kind 4) (omega arith) (omega arith))))
@@ -328,18 +329,20 @@ module _ (e f : End) (le lf : List (List ℕ)) (ok : Sound (e .record-of) (e .tr
 
   -- 4. the choice
 
-  chooses : (m : ℕ) → Goal (choose m) (choosing r d m)
+  chooses : (m : ℕ) (s : Speech) → Goal (choose m s) (choosing r d m s)
   unfolding choosing
-  chooses m =
-      let last : List Row = row 17 (someLeft (named (ownOf r) (openTo r m))) ∷ [] in
-      let rows : List Row = limitRows r ++ (row 18 (mayChoose r) ∷ row 19 (below (r .count) m) ∷ last) in
-      decide-out (Goal (choose m)) rows r d (naming (named (ownOf r) (openTo r m)) (record { answer = answered 0 0 (chose r m); transcript = d }))
-      (stopped (choose m) rows refl refl)
+  chooses m s =
+      let q : Record = chose r m in
+      let x : List ℕ = spoken q s in
+      decide-out (Goal (choose m s)) (choiceTable r d m s) r d (naming (named (ownOf r) (openTo r m)) (appended q d (placeAfter q (kindIn s)) x (spokenAs q s)))
+      (stopped (choose m s) (choiceTable r d m s) refl refl)
       (λ g.
-      let role : r .acceptor ≡ false = not-true _ (and-l (not (r .acceptor)) (eqb (r .stage) 2) (true-behind (limitRows r) (row 18 (mayChoose r)) (row 19 (below (r .count) m) ∷ last) g)) in
-      let marks : below (r .count) m ≡ true = true-behind (limitRows r ++ (row 18 (mayChoose r) ∷ [])) (row 19 (below (r .count) m)) last g in
-      let s : Sound (chose r m) d le = record {
-        limits = limits-chose r (ok .limits) m role marks;
+      let p = choice-passed r d m s g in
+      let role : r .acceptor ≡ false = not-true _ (and-l (not (r .acceptor)) (eqb (r .stage) 2) (p .may)) in
+      let (l1, (l2, (l3, (l4, (l5, (l6, (l7, rest))))))) = ok .limits in
+      let whole : length (schemeAt q (schemeNow q)) ≡ 16 = ap (λ (k : ℕ). length (schemeAt q k)) (now-chosen r m) ∙ ok .ids _ (chosen-below r m (rw role at l7) (p .left)) in
+      let between : Sound q d le = record {
+        limits = limits-chose r (ok .limits) m role (p .marks);
         ids = ok .ids;
         talk = ok .talk;
         framed = ok .framed;
@@ -347,7 +350,9 @@ module _ (e f : End) (le lf : List (List ℕ)) (ok : Sound (e .record-of) (e .tr
         sequence = ok .sequence;
         transcript = ok .transcript;
       } in
-      record { sound = rw (append-nil le) s; here-then = rw (append-nil le) here; there-then = rw (append-nil le) there; unclosed = λ z. omega arith })
+      let a = writes-message q d (e .turn) le lf between here (kindIn s) (placeAfter q (kindIn s)) (contentsIn (schemeAt q (schemeNow q)) s) (spokenAs q s)
+      (whole-speech s _ whole) (rw (spoken-marks q s .0) (p .marks)) (rw (spoken-marks q s .1) told-here) (plain-kind (q .acceptor) (kindIn s) _ (speech-plain s)) (p .fitting) in
+      record { sound = a .sound; here-then = a .turn; there-then = more-there (x ∷ []); unclosed = λ z. omega arith })
 
   goal : (k : Call) → Goal k (act e (f .turn) k)
   unfolding act
@@ -356,7 +361,7 @@ module _ (e f : End) (le lf : List (List ℕ)) (ok : Sound (e .record-of) (e .tr
   goal (metadata id value) = tells id value
   goal (speak s) = speaks s
   goal read = reading-call
-  goal (choose m) = chooses m
+  goal (choose m s) = chooses m s
 
 -- 5. a run
 

@@ -1,4 +1,4 @@
--- Calls that each end has accepted at most once in a run: the one with marks, so that "its end's accepted call" names one, and the VERIFY.
+-- An end has at most one accepted call with marks in a run, so that "its end's accepted call" names one.
 -- Assumes nothing.
 use Prim.Native.Nat.{ℕ, _+_, _≤_}
 use mathlib.Core.Path.{_≡_, refl, sym, subst, _∙_}
@@ -12,20 +12,21 @@ use borrow.Author.Tests.{eqb-true, ne-eqb, not-true}
 use Rattle.octets.proofs.Bools.{which, no-true, and-l, and-r}
 use Rattle.message.specs.Check.{Row, FirstFails}
 use Rattle.schemes.specs.Lists.{Id, keep}
-use Rattle.schemes.specs.Sets.{left, named, below}
+use Rattle.schemes.specs.Sets.{left, below}
 use Rattle.conversation.specs.declared.Record.{Record}
 use Rattle.conversation.specs.declared.Answer.{Answer}
 use Rattle.conversation.specs.declared.Scan.{Scan}
 use Rattle.conversation.specs.State.{closed, ownOf, limitRows}
-use Rattle.conversation.specs.Turns.{NEGO, METADATA, EXCHANGE, VERIFY, ALERT, writing, reading, after, writes, placeAfter, mayWrite}
-use Rattle.conversation.specs.Outcomes.{Outcome, answered, refused, closedBy, decide, row, room, fits, WrittenAs, appended, wrote}
-use Rattle.conversation.specs.Writing.{stageRows, thenFits, offered, offerRows, offering, someLeft, replyMessage, replyRows, naming, replying, metadataMessage, metadataRows, writingMetadata, namedRows, speaking, spoken, Speech, request, checksum, alarm, kindIn, spokenAs}
+use Rattle.conversation.specs.Turns.{NEGO, METADATA, writing, reading, writes, placeAfter, mayWrite}
+use Rattle.conversation.specs.Outcomes.{Outcome, refused, closedBy, decide, row, room, fits, WrittenAs, appended, wrote}
+use Rattle.conversation.specs.Writing.{stageRows, thenFits, offered, offerRows, offering, someLeft, replyMessage, replyRows, naming, replying, metadataMessage, metadataRows, writingMetadata, namedRows, speaking, spoken, Speech, kindIn, spokenAs}
 use Rattle.conversation.specs.Reading.{Judged, whole, halted, judged, taken, finish, tokenRows, readingToken}
-use Rattle.conversation.specs.Choosing.{openTo, mayChoose, choiceRows, chose, choosing}
-use Rattle.conversation.specs.Runs.{Sized, Call, offer, reply, metadata, speak, read, choose, End, act, Opening, World, world, outcomeAt, next, Entry, run, isAccepted}
-use Rattle.conversation.specs.Claims.{atEnd, acceptedAt, withMarks, isVerify, MarksOnce, VerifyOnce}
+use Rattle.conversation.specs.Choosing.{mayChoose, chose, choosing}
+use Rattle.conversation.specs.Runs.{Sized, Call, offer, reply, metadata, speak, read, choose, End, act, World, world, outcomeAt, next, Entry, run, isAccepted}
+use Rattle.conversation.specs.Claims.{atEnd, acceptedAt, withMarks, MarksOnce}
 use Rattle.message.proofs.Tables.{without, fails-other}
 use Rattle.conversation.proofs.Rows.{decide-out, true-behind}
+use Rattle.conversation.proofs.Chosen.{choiceTable, choice-passed}
 use Rattle.conversation.proofs.Goals.{positive, nego-start}
 use Rattle.conversation.proofs.Tokens.{judged-number}
 
@@ -104,19 +105,20 @@ module _ (x : Bool) (r : Record) (d : List ℕ) (role : r .acceptor ≡ x) where
         spends = λ k a. replied x role (true-behind (stageRows r NEGO) (row 18 (r .acceptor)) rest g) h (length (replyMessage r m (random .0))) w;
       })
 
-  chosen : (b : Bool) → r .acceptor ≡ b → mayChoose r ≡ true → (m : ℕ) → (Spent b r → Spent b (chose r m)) × ((Spent b r → ⊥) × Spent b (chose r m))
-  chosen true e h m = no-true (rw e at h)
-  chosen false e h m =
+  chosen : (b : Bool) → r .acceptor ≡ b → mayChoose r ≡ true → (m position n : ℕ) (w : WrittenAs) → (Spent b r → ⊥) × Spent b (wrote (chose r m) position n w)
+  chosen true e h m position n w = no-true (rw e at h)
+  chosen false e h m position n w =
       let st : r .stage ≡ 2 = eqb-true _ _ (and-r (not (r .acceptor)) (eqb (r .stage) 2) h) in
-      ((λ s. inl refl), ((λ s. elim s [ inl a ↦ omega arith | inr a ↦ omega arith ]), inl refl))
+      ((λ s. elim s [ inl a ↦ omega arith | inr a ↦ omega arith ]), inl refl)
 
-  choose-goes : (m : ℕ) → Goes (choose m) (choosing r d m)
+  choose-goes : (m : ℕ) (s : Speech) → Goes (choose m s) (choosing r d m s)
   unfolding choosing
-  choose-goes m =
-      let l : List Id = named (ownOf r) (openTo r m) in
-      decide-out (Goes (choose m)) (limitRows r ++ choiceRows r m) r d (naming l (record { answer = answered 0 0 (chose r m); transcript = d }))
-      (stopped (choose m) (limitRows r ++ choiceRows r m) refl)
-      (λ g. let c = chosen x role (true-behind (limitRows r) (row 18 (mayChoose r)) (row 19 (below (r .count) m) ∷ row 17 (someLeft l) ∷ []) g) m in record { role = role; stays = c .0; spends = λ k a. c .1 })
+  choose-goes m s =
+      decide-out (Goes (choose m s)) (choiceTable r d m s) r d _
+      (stopped (choose m s) (choiceTable r d m s) refl)
+      (λ g.
+      let c = chosen x role (choice-passed r d m s g .may) m (placeAfter (chose r m) (kindIn s)) (length (spoken (chose r m) s)) (spokenAs (chose r m) s) in
+      record { role = role; stays = λ h. absurd (c .0 h); spends = λ k a. c })
 
   -- a later token is read into stage 3
   taken-stays : (b : Bool) → r .acceptor ≡ b → (t : List ℕ) (n : ℕ) (c : Scan) → Spent b r → Spent b (taken r t n c)
@@ -163,7 +165,7 @@ behind x e peer (speak s) h =
     write x (e .record-of) (e .transcript) h (speak s) (kindIn s)
     (namedRows (e .record-of)) (spoken (e .record-of) s) (spokenAs (e .record-of) s) refl refl
 behind x e peer read h = read-goes x (e .record-of) (e .transcript) h peer
-behind x e peer (choose m) h = choose-goes x (e .record-of) (e .transcript) h m
+behind x e peer (choose m s) h = choose-goes x (e .record-of) (e .transcript) h m s
 
 -- 2. a run: calls that are accepted at most once at an end, since the first one spends what they need
 
@@ -246,57 +248,3 @@ same-one (a ∷ b ∷ l) y z n i j = absurd (omega arith)
 
 pub same-kept : {A : Type 0} (p : A → Bool) (l : List A) (y z : A) → length (keep p l) ≤ 1 → List·Memᴰ y l → List·Memᴰ z l → p y ≡ true → p z ≡ true → y ≡ z
 same-kept p l y z n i j g h = same-one (keep p l) y z n (kept-in p l y i g) (kept-in p l z j h)
-
--- 4. "Each end sends at most one VERIFY in a conversation."
-
-abbrev Verified : Bool → Record → Type 0
-Verified x r = r .verified ≡ true
-
-module _ (e : End) (peer : List ℕ) where
-  abbrev r : Record
-  r = e .record-of
-
-  abbrev d : List ℕ
-  d = e .transcript
-
-  -- a call that leaves the mark, where it is not refused, leaves it
-  marked-behind : (rows : List Row) (action : Outcome) → r .verified ≡ true → action .answer .next .verified ≡ true → decide rows r d action .answer .next .verified ≡ true
-  marked-behind rows action h a = decide-out (λ out. out .answer .next .verified ≡ true) rows r d action (λ n f. h) (λ g. a)
-
-  finish-verified : (j : Judged) → r .verified ≡ true → finish r d peer j .answer .next .verified ≡ true
-  unfolding finish
-  finish-verified (halted n p) h = elim (which (eqb n 12)) [ inl b ↦ rw b h | inr b ↦ rw b h ]
-  finish-verified (whole n c) h = elim (which (leb (r .used + length peer) (room d))) [ inl b ↦ rw b h | inr b ↦ rw b h ]
-
-  still-verified : (q : Record) (s : Speech) → q .verified ≡ true → spokenAs q s .verified ≡ true
-  still-verified q (request value) h = h
-  still-verified q (checksum type value) h = refl
-  still-verified q (alarm code) h = h
-
-  verified-stays : (k : Call) → r .verified ≡ true → act e peer k .answer .next .verified ≡ true
-  unfolding act offering replying writingMetadata speaking readingToken choosing
-  verified-stays (offer random) h = marked-behind (stageRows r NEGO ++ thenFits (offerRows r) r d (offered r (random .0))) _ h h
-  verified-stays (reply m random) h = marked-behind (stageRows r NEGO ++ thenFits (replyRows r m) r d (replyMessage r m (random .0))) _ h h
-  verified-stays (metadata id value) h = marked-behind (stageRows r METADATA ++ thenFits (metadataRows r (id .0) (length value)) r d (metadataMessage r (id .0) value)) _ h h
-  verified-stays (speak s) h = marked-behind (stageRows r (kindIn s) ++ thenFits (namedRows r) r d (spoken r s)) _ h (still-verified r s h)
-  verified-stays read h = marked-behind (limitRows r ++ tokenRows r (length peer)) _ h (finish-verified (judged r peer) h)
-  verified-stays (choose m) h = marked-behind (limitRows r ++ choiceRows r m) _ h h
-
-  -- a VERIFY is written where none was, and is then one
-  verify-spends : (k : Call) → isVerify k ≡ true → isAccepted (act e peer k .answer) ≡ true → (r .verified ≡ true → ⊥) × (act e peer k .answer .next .verified ≡ true)
-  unfolding act speaking after
-  verify-spends (offer random) s = no-true s
-  verify-spends (reply m random) s = no-true s
-  verify-spends (metadata id value) s = no-true s
-  verify-spends (speak (request value)) s = no-true s
-  verify-spends (speak (alarm code)) s = no-true s
-  verify-spends read s = no-true s
-  verify-spends (choose m) s = no-true s
-  verify-spends (speak (checksum type value)) s =
-      decide-out (λ out. isAccepted (out .answer) ≡ true → (r .verified ≡ true → ⊥) × (out .answer .next .verified ≡ true)) (stageRows r VERIFY ++ thenFits (namedRows r) r d (spoken r (checksum type value))) r d _
-      (λ n f a. no-true (sym (ne-eqb n 0 (fails-other 0 (stageRows r VERIFY ++ thenFits (namedRows r) r d (spoken r (checksum type value))) n refl f)) ∙ a))
-      (λ g a. ((λ v. no-true (rw v at (true-behind (limitRows r) (row 18 (mayWrite r VERIFY)) (thenFits (namedRows r) r d (spoken r (checksum type value))) g))), refl))
-
-pub verify-once : VerifyOnce
-verify-once o cs x =
-    once Verified isVerify (λ b e p c h. verified-stays e p c) (λ b e p c h. verify-spends e p c) x (world o) cs (refl, refl)

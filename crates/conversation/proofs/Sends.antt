@@ -2,16 +2,16 @@
 -- Assumes nothing.
 use Prim.Native.Nat.{ℕ, zero, suc, _+_, _*_, _%_, _≤_, _<_}
 use mathlib.Core.Path.{_≡_, refl, sym, ap, subst, _∙_}
-use mathlib.Core.Bool.{Bool, true, false, _&&_}
-use mathlib.Core.List.{List, [], _∷_, _++_, List·Memᴰ, List·Memᴰ·head, List·Memᴰ·tail, List·Memᴰ·cases-cons, List·Memᴰ·not-nil}
+use mathlib.Core.Bool.{Bool, true, false, not}
+use mathlib.Core.List.{List, [], _∷_, _++_, List·Memᴰ, List·Memᴰ·cases-cons, List·Memᴰ·not-nil}
 use mathlib.Core.Logic.{inl, inr}
-use mathlib.Core.Option.{none, some, Option·some-ne-none, Option·some-injective}
+use mathlib.Core.Option.{some, Option·some-ne-none, Option·some-injective}
 use native.Mathlib.Omega.{arith}
 use lib.ListN.{length, take, drop, length-drop}
 use lib.Seq.{length-take-le}
-use lib.Dec.{leb}
-use borrow.Author.Tests.{leb-true, le-leb, eq-eqb, ne-eqb}
-use Rattle.octets.proofs.Bools.{no-true, and-i}
+use lib.Dec.{eqb, leb}
+use borrow.Author.Tests.{leb-true, le-leb, eq-eqb, ne-eqb, not-true}
+use Rattle.octets.proofs.Bools.{no-true, and-i, and-l}
 use Rattle.message.specs.Check.{Row}
 use Rattle.message.specs.Show.{idsAt}
 use Rattle.message.proofs.Tables.{AllTrue, without, fails-other}
@@ -19,20 +19,22 @@ use Rattle.put.specs.Put.{put}
 use Rattle.encode.specs.declared.Heading.{Heading}
 use Rattle.encode.specs.Encode.{Whole, Contents, ofNego, ofExchange, ofVerify, ofAlert, sizeOf, hasKind, fitsFields, encodable, encoded, written, storing}
 use Rattle.encode.proofs.Sizes.{length-encoded}
-use Rattle.roundtrip.specs.ReadBack.{InRange, Sent, Outgoing}
+use Rattle.roundtrip.specs.ReadBack.{InRange, Outgoing}
 use Rattle.roundtrip.proofs.RoundTrip.{read-encode, stored-stands}
 use Rattle.schemes.specs.Lists.{Id, joinIds}
-use Rattle.schemes.specs.Sets.{left}
+use Rattle.schemes.specs.Sets.{left, named}
 use Rattle.conversation.specs.declared.Record.{Record}
 use Rattle.conversation.specs.State.{ownOf, schemeAt, limitRows}
-use Rattle.conversation.specs.Turns.{NEGO, METADATA, EXCHANGE, VERIFY, ALERT, typeOf, mayWrite}
-use Rattle.conversation.specs.Outcomes.{Outcome, decide, row, room, fits, unchanged, appended}
-use Rattle.conversation.specs.Writing.{heading, messageOf, stageRows, thenFits, offerRows, replyRows, metadataRows, namedRows, schemeNow, schemeAllowed, offering, replying, writingMetadata, speaking, Speech, request, checksum, alarm, kindIn, contentsIn}
-use Rattle.conversation.specs.Runs.{Sized, Call, offer, reply, metadata, speak, read, choose, End, act, isAccepted}
+use Rattle.conversation.specs.Turns.{NEGO, METADATA, typeOf, placeAfter, mayWrite}
+use Rattle.conversation.specs.Outcomes.{Outcome, decide, row, room, fits, appended}
+use Rattle.conversation.specs.Writing.{heading, messageOf, stageRows, thenFits, offerRows, replyRows, metadataRows, namedRows, schemeNow, schemeAllowed, offering, replying, writingMetadata, speaking, Speech, request, checksum, alarm, kindIn, contentsIn, spoken, spokenAs, naming}
+use Rattle.conversation.specs.Choosing.{openTo, chose, choosing}
+use Rattle.conversation.specs.Runs.{Call, offer, reply, metadata, speak, read, choose, End, act, isAccepted}
 use Rattle.conversation.specs.Claims.{Arrays, sentBy, ReadsAsSent, WrittenReads}
 use Rattle.conversation.proofs.Rows.{decide-out, true-behind, front-true, back-true}
+use Rattle.conversation.proofs.Chosen.{choiceTable, choice-passed}
 use Rattle.conversation.proofs.Ends.{length-joined, left-sized, sized-at}
-use Rattle.conversation.proofs.Inside.{now-below, limits-counts}
+use Rattle.conversation.proofs.Inside.{now-below, limits-counts, limits-chose, chosen-allowed}
 
 -- 1. a message that has passed 16 fits its fields
 
@@ -71,9 +73,39 @@ either : (c : Contents) (kind : ℕ) (a : Bool) → hasKind c (typeOf true kind)
 either c kind true e f = e
 either c kind false e f = f
 
+-- what is said is of its kind at both ends, and names one whole id
+speech-kinds : (s : Speech) (id : Id) → (hasKind (contentsIn id s) (typeOf true (kindIn s)) ≡ true) × (hasKind (contentsIn id s) (typeOf false (kindIn s)) ≡ true)
+unfolding typeOf
+speech-kinds (request value) id = (refl, refl)
+speech-kinds (checksum type value) id = (refl, refl)
+speech-kinds (alarm code) id = (refl, refl)
+
+speech-whole : (s : Speech) (id : Id) → length id ≡ 16 → Whole (contentsIn id s) × WholeIds (contentsIn id s)
+speech-whole (request value) id h = (h, tt)
+speech-whole (checksum type value) id h = (h, tt)
+speech-whole (alarm code) id h = (h, tt)
+
 -- 2. one law for the six writers: what stands where the table passes reads back
 
 module _ (r : Record) (d : List ℕ) (arrays : Arrays r) where
+  -- a message that has room, put at the transcript's end
+  stands-sent : (kind : ℕ) (c : Contents) → hasKind c (typeOf true kind) ≡ true → hasKind c (typeOf false kind) ≡ true → InRange c → AllTrue (limitRows r) → Whole c → WholeIds c
+      → leb (r .used + length (messageOf r kind c)) (room d) ≡ true
+      → (o : Outcome) → o .answer .next .used ≡ r .used + length (messageOf r kind c) → o .transcript ≡ put d (r .used) (messageOf r kind c)
+      → ReadsAsSent r d (record { heading = heading r kind; contents = c }) o
+  unfolding encodable
+  stands-sent kind c of-acceptor of-initiator range limits whole ids room-is o used transcript =
+      let h : Heading = heading r kind in
+      let m : List ℕ = messageOf r kind c in
+      let n : length m ≡ sizeOf c = length-encoded h (arrays .conversation) c whole in
+      let fit : r .used + length m ≤ room d = leb-true _ _ room-is in
+      let counts = limits-counts r limits in
+      let can : encodable h c ≡ true = and-i (hasKind c (typeOf (r .acceptor) kind)) (fitsFields c) (either c kind (r .acceptor) of-acceptor of-initiator) (fields-fit c ids (omega arith)) in
+      record {
+        stands = stored-stands d (r .used) h c (o .answer .next .used) (o .transcript) (rw (used, transcript) (stored d (r .used) h c can (omega arith)));
+        reads = read-encode h c (record { can = can; number = omega (arith, counts .1); id = arrays .conversation; whole = whole; range = range });
+      }
+
   pub sends : (kind : ℕ) (rows : List Row) (c : Contents) (action : Outcome)
       → without 0 (stageRows r kind ++ thenFits rows r d (messageOf r kind c)) ≡ true
       → hasKind c (typeOf true kind) ≡ true → hasKind c (typeOf false kind) ≡ true → InRange c
@@ -81,24 +113,15 @@ module _ (r : Record) (d : List ℕ) (arrays : Arrays r) where
       → action .answer .next .used ≡ r .used + length (messageOf r kind c) → action .transcript ≡ put d (r .used) (messageOf r kind c)
       → isAccepted (decide (stageRows r kind ++ thenFits rows r d (messageOf r kind c)) r d action .answer) ≡ true
       → ReadsAsSent r d (record { heading = heading r kind; contents = c }) (decide (stageRows r kind ++ thenFits rows r d (messageOf r kind c)) r d action)
-  unfolding encodable
   sends kind rows c action z of-acceptor of-initiator range given used transcript =
-      let h : Heading = heading r kind in
       let m : List ℕ = messageOf r kind c in
       let table : List Row = stageRows r kind ++ thenFits rows r d m in
-      decide-out (λ out. isAccepted (out .answer) ≡ true → ReadsAsSent r d (record { heading = h; contents = c }) out) table r d action
+      decide-out (λ out. isAccepted (out .answer) ≡ true → ReadsAsSent r d (record { heading = heading r kind; contents = c }) out) table r d action
       (λ n f a. no-true (sym (ne-eqb n 0 (fails-other 0 table n z f)) ∙ a))
       (λ g a.
       let limits : AllTrue (limitRows r) = front-true (limitRows r) (row 18 (mayWrite r kind) ∷ thenFits rows r d m) g in
       let v = given limits (front-true rows (fits r d (length m) ∷ []) (back-true (stageRows r kind) (thenFits rows r d m) g)) in
-      let n : length m ≡ sizeOf c = length-encoded h (arrays .conversation) c (v .0) in
-      let fit : r .used + length m ≤ room d = leb-true _ _ (true-behind (stageRows r kind ++ rows) (fits r d (length m)) [] g) in
-      let counts = limits-counts r limits in
-      let can : encodable h c ≡ true = and-i (hasKind c (typeOf (r .acceptor) kind)) (fitsFields c) (either c kind (r .acceptor) of-acceptor of-initiator) (fields-fit c (v .1) (omega arith)) in
-      record {
-        stands = stored-stands d (r .used) h c (action .answer .next .used) (action .transcript) (rw (used, transcript) (stored d (r .used) h c can (omega arith)));
-        reads = read-encode h c (record { can = can; number = omega (arith, counts .1); id = arrays .conversation; whole = v .0; range = range });
-      })
+      stands-sent kind c of-acceptor of-initiator range limits (v .0) (v .1) (true-behind (stageRows r kind ++ rows) (fits r d (length m)) [] g) action used transcript)
 
   -- the own ids have 16 octets
   own-sized : AllTrue (limitRows r) → (s : Id) → List·Memᴰ s (ownOf r) → length s ≡ 16
@@ -137,10 +160,32 @@ module _ (e : End) (peer : List ℕ) (arrays : Arrays (e .record-of)) where
   Reads k m = InRange (m .contents) → isAccepted (act e peer k .answer) ≡ true → ReadsAsSent r d m (act e peer k)
 
   said : (s : Speech) → Reads (speak s) (record { heading = heading r (kindIn s); contents = contentsIn (schemeAt r (schemeNow r)) s })
-  unfolding act speaking typeOf
-  said (request value) = λ range. sends r d arrays EXCHANGE (namedRows r) (contentsIn (schemeAt r (schemeNow r)) (request value)) _ refl refl refl range (λ l t. (now-sized r d arrays l (t .0), tt)) refl refl
-  said (checksum type value) = λ range. sends r d arrays VERIFY (namedRows r) (contentsIn (schemeAt r (schemeNow r)) (checksum type value)) _ refl refl refl range (λ l t. (now-sized r d arrays l (t .0), tt)) refl refl
-  said (alarm code) = λ range. sends r d arrays ALERT (namedRows r) (contentsIn (schemeAt r (schemeNow r)) (alarm code)) _ refl refl refl range (λ l t. (now-sized r d arrays l (t .0), tt)) refl refl
+  unfolding act speaking
+  said s = λ range.
+      let c : Contents = contentsIn (schemeAt r (schemeNow r)) s in
+      let k = speech-kinds s (schemeAt r (schemeNow r)) in
+      sends r d arrays (kindIn s) (namedRows r) c _ refl (k .0) (k .1) range (λ l t. speech-whole s (schemeAt r (schemeNow r)) (now-sized r d arrays l (t .0))) refl refl
+
+  -- a choosing call's message is written in the record behind the choice
+  chooses : (n : ℕ) (s : Speech) → Reads (choose n s) (record { heading = heading r (kindIn s); contents = contentsIn (schemeAt r (schemeNow (chose r n))) s })
+  unfolding act choosing
+  chooses n s = λ range.
+      let q : Record = chose r n in
+      let id : Id = schemeAt r (schemeNow q) in
+      let table : List Row = choiceTable r d n s in
+      let action : Outcome = naming (named (ownOf r) (openTo r n)) (appended q d (placeAfter q (kindIn s)) (spoken q s) (spokenAs q s)) in
+      let there : Arrays q = record { list = arrays .list; conversation = arrays .conversation } in
+      decide-out (λ out. isAccepted (out .answer) ≡ true → ReadsAsSent r d (record { heading = heading r (kindIn s); contents = contentsIn id s }) out) table r d action
+      (λ k f a. no-true (sym (ne-eqb k 0 (fails-other 0 table k refl f)) ∙ a))
+      (λ g a.
+      let p = choice-passed r d n s g in
+      let role : r .acceptor ≡ false = not-true _ (and-l (not (r .acceptor)) (eqb (r .stage) 2) (p .may)) in
+      let (l1, (l2, (l3, (l4, (l5, (l6, (l7, rest))))))) = p .limits in
+      let then : AllTrue (limitRows q) = limits-chose r (p .limits) n role (p .marks) in
+      let w = speech-whole s id (now-sized q d there then (chosen-allowed r n (rw role at l7) (p .left))) in
+      let k = speech-kinds s id in
+      let x = stands-sent q d there (kindIn s) (contentsIn id s) (k .0) (k .1) range then (w .0) (w .1) (p .fitting) action refl refl in
+      record { stands = x .stands; reads = x .reads })
 
   sent : (k : Call) (m : Outgoing) → sentBy r k ≡ some m → Reads k m
   unfolding act offering replying writingMetadata typeOf
@@ -155,7 +200,7 @@ module _ (e : End) (peer : List ℕ) (arrays : Arrays (e .record-of)) where
       (λ l t. (id .1, tt)) refl refl)
   sent (speak s) m is = subst (Reads (speak s)) (Option·some-injective _ _ is) (said s)
   sent read m is = absurd (Option·some-ne-none m (sym is))
-  sent (choose n) m is = absurd (Option·some-ne-none m (sym is))
+  sent (choose n s) m is = subst (Reads (choose n s)) (Option·some-injective _ _ is) (chooses n s)
 
 pub written-reads : WrittenReads
 written-reads e peer k m arrays is range accepted = sent e peer arrays k m is range accepted

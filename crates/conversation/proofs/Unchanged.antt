@@ -12,15 +12,16 @@ use Rattle.conversation.specs.declared.Record.{Record}
 use Rattle.schemes.specs.Lists.{Id, place}
 use Rattle.schemes.specs.Sets.{left, named}
 use Rattle.conversation.specs.State.{ownOf, limitRows}
-use Rattle.conversation.specs.Turns.{NEGO, METADATA, EXCHANGE, VERIFY, ALERT, placeAfter}
-use Rattle.conversation.specs.Outcomes.{Outcome, answered, decide, room, WrittenAs, unchanged, appended}
-use Rattle.conversation.specs.Writing.{stageRows, thenFits, offered, offerRows, replyMessage, replyRows, naming, metadataMessage, metadataRows, namedRows, askedBy, offering, replying, writingMetadata, speaking, spoken, kindIn, spokenAs}
+use Rattle.conversation.specs.Turns.{NEGO, METADATA, placeAfter}
+use Rattle.conversation.specs.Outcomes.{Outcome, decide, room, WrittenAs, unchanged, appended}
+use Rattle.conversation.specs.Writing.{stageRows, thenFits, offered, offerRows, replyMessage, replyRows, naming, metadataMessage, metadataRows, namedRows, offering, replying, writingMetadata, speaking, spoken, kindIn, spokenAs}
 use Rattle.conversation.specs.Reading.{Judged, whole, halted, judged, finish, tokenRows, readingToken}
-use Rattle.conversation.specs.Choosing.{openTo, choiceRows, chose, choosing}
+use Rattle.conversation.specs.Choosing.{openTo, chose, choosing}
 use Rattle.conversation.specs.Runs.{Call, offer, reply, metadata, speak, read, choose, End, act}
 use Rattle.conversation.specs.Claims.{Unchanged, RefusedUnchanged}
 use Rattle.message.proofs.Tables.{without, fails-other}
 use Rattle.conversation.proofs.Rows.{decide-out}
+use Rattle.conversation.proofs.Chosen.{choiceTable}
 
 -- a call whose table has no 12, and whose action keeps this
 decided : (rows : List Row) (r : Record) (d : List ℕ) (action : Outcome) → without 12 rows ≡ true → Unchanged r d action → Unchanged r d (decide rows r d action)
@@ -62,9 +63,9 @@ module _ (e : End) (peer : List ℕ) where
       wrote-unchanged (stageRows r (kindIn s) ++ thenFits (namedRows r) r d (spoken r s)) r d (placeAfter r (kindIn s)) (spoken r s) (spokenAs r s) refl
   unchanged-behind read =
       decided (limitRows r ++ tokenRows r (length peer)) r d (finish r d peer (judged r peer)) refl (finished r d peer (judged r peer))
-  unchanged-behind (choose m) =
-      named-unchanged (limitRows r ++ choiceRows r m) r d
-      (named (ownOf r) (openTo r m)) (record { answer = answered 0 0 (chose r m); transcript = d }) refl refl
+  unchanged-behind (choose m s) =
+      named-unchanged (choiceTable r d m s) r d
+      (named (ownOf r) (openTo r m)) (appended (chose r m) d (placeAfter (chose r m) (kindIn s)) (spoken (chose r m) s) (spokenAs (chose r m) s)) refl refl
 
 pub refused-unchanged : RefusedUnchanged
 refused-unchanged e peer k = unchanged-behind e peer k

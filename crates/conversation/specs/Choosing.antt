@@ -1,12 +1,14 @@
--- The initiator's choice. Document 01, "Who may send what, and when": "The initiator, given its marks, chooses the first scheme of the reply that it
--- lists and hasn't marked. It chooses once, after the reply and before its later messages."
+-- The initiator's choice, and its first later message with it. Document 01, "Who may send what, and when": "The initiator, given its marks, chooses
+-- the first scheme of the reply that it lists and hasn't marked. It chooses once, after the reply and before its later messages." C-12: "marks and the
+-- content of an AP_REQUEST, a VERIFY or an ALERT in, chosen scheme, number left and written message out".
 --
 -- Glossary
 --   openTo r m     the own places of the reply's schemes that m does not mark, in the reply's order
 --   firstPlace ks  the first of places, NONE where there is none
---   chose r m      the record behind the choice
+--   chose r m      the record behind the choice, in which the message is written
 --   mayChoose r    18: the stage is the one to choose in, and the end is the initiator
---   choosing       the call; its table: the limits, then choiceRows, 18, 19, 17
+--   maySpeak       18: the message may be written behind the choice
+--   choosing       the call; its table: the limits, then choiceRows, 18, 19, 17, then 16
 use Prim.Native.Nat.{ℕ}
 use mathlib.Core.Bool.{Bool, not, _&&_}
 use mathlib.Core.List.{List, [], _∷_, _++_}
@@ -15,8 +17,9 @@ use Rattle.message.specs.Check.{Row}
 use Rattle.schemes.specs.Sets.{openPlaces, named, below}
 use Rattle.conversation.specs.declared.Record.{Record}
 use Rattle.conversation.specs.State.{NONE, CHOOSING, LATER, ownOf, limitRows}
-use Rattle.conversation.specs.Outcomes.{Outcome, answered, decide, row}
-use Rattle.conversation.specs.Writing.{someLeft, naming}
+use Rattle.conversation.specs.Turns.{placeAfter, mayWrite}
+use Rattle.conversation.specs.Outcomes.{Outcome, decide, row, appended}
+use Rattle.conversation.specs.Writing.{thenFits, someLeft, naming, Speech, kindIn, spoken, spokenAs}
 
 abbrev pub openTo : Record → ℕ → List ℕ
 openTo r m = openPlaces (r .kept) (r .common) m
@@ -48,10 +51,22 @@ chose r m = record {
 abbrev pub mayChoose : Record → Bool
 mayChoose r = not (r .acceptor) && eqb (r .stage) CHOOSING
 
-abbrev pub choiceRows : Record → ℕ → List Row
-choiceRows r m = row 18 (mayChoose r) ∷ row 19 (below (r .count) m) ∷ row 17 (someLeft (named (ownOf r) (openTo r m))) ∷ []
+-- a VERIFY of an end that has written its own may not
+abbrev pub maySpeak : Record → ℕ → ℕ → Bool
+maySpeak r m kind = mayWrite (chose r m) kind
 
-unfoldable pub choosing : Record → List ℕ → ℕ → Outcome
-choosing r d m =
-    decide (limitRows r ++ choiceRows r m) r d
-    (naming (named (ownOf r) (openTo r m)) (record { answer = answered 0 0 (chose r m); transcript = d }))
+-- C-12: "Refusals: 18, 19, 17, 16.", 16 by thenFits
+abbrev pub choiceRows : Record → ℕ → ℕ → List Row
+choiceRows r m kind =
+    row 18 (mayChoose r)
+    ∷ row 18 (maySpeak r m kind)
+    ∷ row 19 (below (r .count) m)
+    ∷ row 17 (someLeft (named (ownOf r) (openTo r m)))
+    ∷ []
+
+-- a refusal leaves the record r: nothing is chosen, and nothing is written
+unfoldable pub choosing : Record → List ℕ → ℕ → Speech → Outcome
+choosing r d m s =
+    decide (limitRows r ++ thenFits (choiceRows r m (kindIn s)) (chose r m) d (spoken (chose r m) s)) r d
+    (naming (named (ownOf r) (openTo r m))
+    (appended (chose r m) d (placeAfter (chose r m) (kindIn s)) (spoken (chose r m) s) (spokenAs (chose r m) s)))

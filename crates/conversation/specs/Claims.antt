@@ -21,21 +21,26 @@
 --   ReplyAnswer        what a call of a run that writes the acceptor's NEGO answers, by the reply's list
 --   ReplyByMarks       every such call of every run does
 --   atEnd x y          the entry y of a run is one of the end x; acceptedAt: and is accepted, of a sort of calls
---   withMarks          the sort of calls with marks; isVerify: those that write a VERIFY
+--   withMarks          the sort of calls with marks; isReading: readings
 --   MarksOnce          in a run an end has at most one accepted call with marks
---   VerifyOnce         in a run an end writes at most one VERIFY
+--   writtenBy          the messages that a call writes: those it adds to its end's, where it is accepted and no reading
+--   writtenAt          those of the end x, of a call at the end y; writtenIn: of a list of calls
+--   isVerify           a message that is a VERIFY, by its type
+--   VerifyOnce         of the messages that an end writes in a run at most one is a VERIFY
 --   Arrays r           the lengths of a record's arrays, as the struct gives them
 --   sentBy r k         the message that a writing call sends: the record's number and conversation, and the call's arguments; sent: one of a kind
 --   ReadsAsSent        a message stands at the transcript's end and reads as it was sent, whatever follows
 --   WrittenReads       demand 2's round trip: what an accepted writing call appended does, on every record
+--   ChoiceSpoken       the message of an accepted choosing call names the choice that it answers
 use Prim.Native.Nat.{ℕ, _*_, _≤_}
 use mathlib.Core.Path.{_≡_}
 use mathlib.Core.Bool.{Bool, true, false, cond, not, _&&_, _||_}
 use mathlib.Core.Logic.{_⊎_}
-use mathlib.Core.List.{List, [], _∷_, List·Memᴰ}
+use mathlib.Core.List.{List, [], _∷_, _++_, List·Memᴰ}
 use mathlib.Core.Option.{Option, none, some}
 use lib.ListN.{length, take}
 use lib.Dec.{eqb}
+use Rattle.message.specs.Layout.{headOf}
 use Rattle.encode.specs.Encode.{Contents, ofNego, ofExchange}
 use Rattle.roundtrip.specs.ReadBack.{InRange, ReadsBack, Stands, Outgoing}
 use Rattle.schemes.specs.Lists.{Id, keep, first, leftOver, rule2, replyOf, oneTo16, wholeIds, joinIds}
@@ -43,11 +48,13 @@ use Rattle.schemes.specs.Sets.{left}
 use Rattle.conversation.specs.declared.Record.{Record}
 use Rattle.conversation.specs.declared.Answer.{Answer}
 use Rattle.conversation.specs.State.{CLOSED, withStage, closed, ownOf, schemeAt, limitRows, fresh}
-use Rattle.conversation.specs.Turns.{NEGO, METADATA, VERIFY}
+use Rattle.conversation.specs.Turns.{NEGO, METADATA}
 use Rattle.conversation.specs.Outcomes.{Outcome, zeroId, answered, refused, closedBy}
-use Rattle.conversation.specs.Writing.{heading, schemeNow, kindIn, contentsIn, opening}
+use Rattle.conversation.specs.Writing.{heading, schemeNow, Speech, kindIn, contentsIn, opening}
 use Rattle.conversation.specs.Reading.{readingToken}
+use Rattle.conversation.specs.Choosing.{chose, choosing}
 use Rattle.conversation.specs.Runs.{Sized, Call, offer, reply, metadata, speak, read, choose, End, act, Opening, World, world, outcomeAt, next, ends, Entry, run, isAccepted, isLawful, Replied}
+use Rattle.conversation.specs.Logs.{added}
 
 -- "Record and lent octets are unchanged.", as C-18 has it: "Refusal 12 now returns the record closed, everything else in it unchanged, and the lent
 -- octets too"
@@ -128,13 +135,13 @@ pub record RuleTwoAnswer (o : Opening) (cs : List (Bool × Call)) (m : ℕ) (a :
 
 abbrev pub ByRule2 : Type 0
 ByRule2 =
-    (o : Opening) (cs : List (Bool × Call)) (x : Entry) (m : ℕ) → List·Memᴰ x (run (world o) cs) → x .call ≡ choose m
+    (o : Opening) (cs : List (Bool × Call)) (x : Entry) (m : ℕ) (s : Speech) → List·Memᴰ x (run (world o) cs) → x .call ≡ choose m s
     → RuleTwoAnswer o cs m (x .said)
 
 -- "No common scheme" is said wherever there is none
 abbrev pub NoneRefused : Type 0
 NoneRefused =
-    (o : Opening) (cs : List (Bool × Call)) (x : Entry) (m ma : ℕ) → List·Memᴰ x (run (world o) cs) → x .call ≡ choose m
+    (o : Opening) (cs : List (Bool × Call)) (x : Entry) (m ma : ℕ) (s : Speech) → List·Memᴰ x (run (world o) cs) → x .call ≡ choose m s
     → isLawful (x .said) ≡ true → Replied o cs ma → leftWith o ma m ≡ [] → x .said .refusal ≡ 17
 
 -- "the acceptor's, by its own marks alone, is answered when its NEGO is written": the first and the number of the common schemes less its marks; 17 is
@@ -162,23 +169,40 @@ withMarks (reply m random) = true
 withMarks (metadata id value) = false
 withMarks (speak s) = false
 withMarks read = false
-withMarks (choose m) = true
-
-abbrev pub isVerify : Call → Bool
-isVerify (offer random) = false
-isVerify (reply m random) = false
-isVerify (metadata id value) = false
-isVerify (speak s) = eqb (kindIn s) VERIFY
-isVerify read = false
-isVerify (choose m) = false
+withMarks (choose m s) = true
 
 -- "its end's accepted call": there is no second
 abbrev pub MarksOnce : Type 0
 MarksOnce = (o : Opening) (cs : List (Bool × Call)) (x : Bool) → length (keep (acceptedAt x withMarks) (run (world o) cs)) ≤ 1
 
+abbrev pub isReading : Call → Bool
+isReading (offer random) = false
+isReading (reply m random) = false
+isReading (metadata id value) = false
+isReading (speak s) = false
+isReading read = true
+isReading (choose m s) = false
+
+-- by what is added to the end's log, whichever call it is (`EveryRun`: the transcript holds just that)
+abbrev pub writtenBy : End → List ℕ → Call → List (List ℕ)
+writtenBy e peer k = cond (isAccepted (act e peer k .answer) && not (isReading k)) (added e peer k) []
+
+abbrev pub writtenAt : Bool → World → Bool → Call → List (List ℕ)
+writtenAt false w false k = writtenBy (w .i) (w .a .turn) k
+writtenAt true w true k = writtenBy (w .a) (w .i .turn) k
+writtenAt false w true k = []
+writtenAt true w false k = []
+
+abbrev pub writtenIn : Bool → World → List (Bool × Call) → List (List ℕ)
+writtenIn x w [] = []
+writtenIn x w (c ∷ cs) = writtenAt x w (c .0) (c .1) ++ writtenIn x (next w (c .0) (c .1)) cs
+
+abbrev pub isVerify : List ℕ → Bool
+isVerify m = eqb (headOf m .kind) 6
+
 -- "Each end sends at most one VERIFY in a conversation."
 abbrev pub VerifyOnce : Type 0
-VerifyOnce = (o : Opening) (cs : List (Bool × Call)) (x : Bool) → length (keep (acceptedAt x isVerify) (run (world o) cs)) ≤ 1
+VerifyOnce = (o : Opening) (cs : List (Bool × Call)) (x : Bool) → length (keep isVerify (writtenIn x (world o) cs)) ≤ 1
 
 pub record Arrays (r : Record) : Type 0 where
   pub list : length (r .list) ≡ 256
@@ -193,7 +217,7 @@ sentBy r (reply m random) = sent r NEGO (ofNego (record { random = random .0; sc
 sentBy r (metadata id value) = sent r METADATA (ofExchange (record { scheme = id .0; value = value }))
 sentBy r (speak s) = sent r (kindIn s) (contentsIn (schemeAt r (schemeNow r)) s)
 sentBy r read = none
-sentBy r (choose m) = none
+sentBy r (choose m s) = sent r (kindIn s) (contentsIn (schemeAt r (schemeNow (chose r m))) s)
 
 pub record ReadsAsSent (r : Record) (d : List ℕ) (m : Outgoing) (o : Outcome) : Type 0 where
   pub stands : Stands d (r .used) (m .heading) (m .contents) (o .answer .next .used) (o .transcript)
@@ -204,3 +228,9 @@ abbrev pub WrittenReads : Type 0
 WrittenReads =
     (e : End) (peer : List ℕ) (k : Call) (m : Outgoing) → Arrays (e .record-of) → sentBy (e .record-of) k ≡ some m → InRange (m .contents)
     → isAccepted (act e peer k .answer) ≡ true → ReadsAsSent (e .record-of) (e .transcript) m (act e peer k)
+
+-- C-12: "chosen scheme, number left and written message out"
+abbrev pub ChoiceSpoken : Type 0
+ChoiceSpoken =
+    (r : Record) (d : List ℕ) (m : ℕ) (s : Speech) → isAccepted (choosing r d m s .answer) ≡ true
+    → schemeAt r (schemeNow (chose r m)) ≡ choosing r d m s .answer .choice

@@ -25,6 +25,7 @@ use Rattle.conversation.specs.State.{limitRows}
 use Rattle.conversation.specs.Outcomes.{Outcome}
 use Rattle.conversation.specs.Writing.{offered, replyMessage, metadataMessage, spoken}
 use Rattle.conversation.specs.Reading.{chainFor}
+use Rattle.conversation.specs.Choosing.{chose}
 use Rattle.conversation.specs.Runs.{Call, offer, reply, metadata, speak, read, choose, End, Opening, World, world, outcomeAt, next, ends, isAccepted}
 
 unfoldable pub messagesIn : Chain → List (List ℕ)
@@ -39,7 +40,7 @@ added e peer (reply m random) = replyMessage (e .record-of) m (random .0) ∷ []
 added e peer (metadata id value) = metadataMessage (e .record-of) (id .0) value ∷ []
 added e peer (speak s) = spoken (e .record-of) s ∷ []
 added e peer read = messagesIn (chainFor (e .record-of) peer)
-added e peer (choose m) = []
+added e peer (choose m s) = spoken (chose (e .record-of) m) s ∷ []
 
 abbrev pub logged : End → List ℕ → Call → Outcome → List (List ℕ) → List (List ℕ)
 logged e peer k o log = cond (isAccepted (o .answer)) (log ++ added e peer k) log

@@ -1,5 +1,5 @@
 -- Runs of two ends, and demand 3. Document 01: "A run starts with a record of each role, fresh from opening, and a transcript buffer of its own for
--- each. It is a list of calls, each at one end: writing any message, reading, choosing (the initiator's)."
+-- each. It is a list of calls, each at one end: writing any message, reading, choosing (the initiator's)." By C-12 choosing writes too.
 --
 -- Glossary
 --   Sized n          n octets, as an array hands them over
@@ -17,7 +17,7 @@
 --   Choice           what a lawful choosing call answers behind a longer offer
 --   NotLost          what holds of a call behind a longer offer, the first run's choice being c
 --   Demand3          the demand, over any two runs
-use Prim.Native.Nat.{ℕ, _+_}
+use Prim.Native.Nat.{ℕ}
 use mathlib.Core.Path.{_≡_}
 use mathlib.Core.Bool.{Bool, true, false, cond, not, _||_}
 use mathlib.Core.List.{List, [], _∷_, _++_, List·Memᴰ}
@@ -32,7 +32,7 @@ use Rattle.conversation.specs.State.{fresh}
 use Rattle.conversation.specs.Outcomes.{Outcome, zeroId}
 use Rattle.conversation.specs.Writing.{offering, replying, writingMetadata, offered, replyMessage, metadataMessage, Speech, spoken, speaking}
 use Rattle.conversation.specs.Reading.{readingToken}
-use Rattle.conversation.specs.Choosing.{choosing}
+use Rattle.conversation.specs.Choosing.{chose, choosing}
 
 abbrev pub Sized : ℕ → Type 0
 Sized n = (l : List ℕ) × (length l ≡ n)
@@ -43,7 +43,7 @@ pub data Call : Type 0 where
   metadata : Sized 16 → (value : List ℕ) → Call
   speak : Speech → Call
   read : Call
-  choose : (marks : ℕ) → Call
+  choose : (marks : ℕ) → Speech → Call
 
 pub record End : Type 0 where
   pub record-of : Record
@@ -57,7 +57,7 @@ act e peer (reply m random) = replying (e .record-of) (e .transcript) m (random 
 act e peer (metadata id value) = writingMetadata (e .record-of) (e .transcript) (id .0) value
 act e peer (speak s) = speaking (e .record-of) (e .transcript) s
 act e peer read = readingToken (e .record-of) (e .transcript) peer
-act e peer (choose m) = choosing (e .record-of) (e .transcript) m
+act e peer (choose m s) = choosing (e .record-of) (e .transcript) m s
 
 -- "all that this other end wrote since its own opening or the last token that it accepted itself"
 abbrev pub turnAfter : End → Call → List ℕ
@@ -66,7 +66,7 @@ turnAfter e (reply m random) = e .turn ++ replyMessage (e .record-of) m (random 
 turnAfter e (metadata id value) = e .turn ++ metadataMessage (e .record-of) (id .0) value
 turnAfter e (speak s) = e .turn ++ spoken (e .record-of) s
 turnAfter e read = []
-turnAfter e (choose m) = e .turn
+turnAfter e (choose m s) = e .turn ++ spoken (chose (e .record-of) m) s
 
 -- "Each gets the record that its end's last call returned, refused or not, and the transcript as that left it"
 abbrev pub moved : End → Call → Outcome → End
@@ -122,7 +122,9 @@ ends w (c ∷ cs) = ends (next w (c .0) (c .1)) cs
 abbrev pub isAccepted : Answer → Bool
 isAccepted a = eqb (a .refusal) 0
 
--- "A call is lawful if none of 15, 16, 18, 19 applies." By the number that is given: demand 3 asks it of choosing calls, where the two agree.
+-- "A call is lawful if none of 15, 16, 18, 19 applies." By the number that is given. Demand 3 asks it of choosing calls, to which 16 applies since C-12:
+-- one that has no room is not lawful, but for one with nothing left, which is 17. There is none of these in demand 3's second run, so that there the two
+-- senses agree.
 abbrev pub isLawful : Answer → Bool
 isLawful a = not (eqb (a .refusal) 15 || (eqb (a .refusal) 16 || (eqb (a .refusal) 18 || eqb (a .refusal) 19)))
 
@@ -134,15 +136,16 @@ pub record Replied (o : Opening) (cs : List (Bool × Call)) (m : ℕ) : Type 0 w
 
 pub record ChoseWith (o : Opening) (cs : List (Bool × Call)) (m : ℕ) : Type 0 where
   pub answered : Answer
+  pub spoke : Speech
   pub accepted : isAccepted answered ≡ true
-  pub entry : List·Memᴰ (record { acceptor = false; call = choose m; said = answered }) (run (world o) cs)
+  pub entry : List·Memᴰ (record { acceptor = false; call = choose m spoke; said = answered }) (run (world o) cs)
 
 -- "In demand 3's second run a call with marks has, for the schemes that both ends listed in the first, exactly the marks that its end's accepted call
 -- had there": refused calls too. Asked of the acceptor's NEGO and of the initiator's choice; at the other end either call is 18, whatever its marks.
 pub record MarksKept (o : Opening) (cs : List (Bool × Call)) (o′ : Opening) (cs′ : List (Bool × Call)) : Type 0 where
   pub acceptor-marks : (m m′ : ℕ) (random : Sized 32) → Replied o cs m → List·Memᴰ (true, reply m′ random) cs′
       → SameMarks (o .acceptor) (o .initiator) (o .acceptor) m (o′ .acceptor) m′
-  pub initiator-marks : (m m′ : ℕ) → ChoseWith o cs m → List·Memᴰ (false, choose m′) cs′
+  pub initiator-marks : (m m′ : ℕ) (s′ : Speech) → ChoseWith o cs m → List·Memᴰ (false, choose m′ s′) cs′
       → SameMarks (o .acceptor) (o .initiator) (o .initiator) m (o′ .initiator) m′
 
 pub record Choice (o o′ : Opening) (cs′ : List (Bool × Call)) (m′ : ℕ) (c : Id) (a : Answer) : Type 0 where
@@ -157,12 +160,12 @@ pub record Choice (o o′ : Opening) (cs′ : List (Bool × Call)) (m′ : ℕ) 
 abbrev pub NotLost : Opening → Opening → List (Bool × Call) → Id → Entry → Type 0
 NotLost o o′ cs′ c y =
     (y .said .refusal ≡ 17 → ⊥)
-    × ((m′ : ℕ) → y .call ≡ choose m′ → isLawful (y .said) ≡ true → Choice o o′ cs′ m′ c (y .said))
+    × ((m′ : ℕ) (s′ : Speech) → y .call ≡ choose m′ s′ → isLawful (y .said) ≡ true → Choice o o′ cs′ m′ c (y .said))
 
 -- demand 3, one claim about any two lists of calls, and every call of the second
 abbrev pub Demand3 : Type 0
 Demand3 =
     (o : Opening) (cs : List (Bool × Call)) (o′ : Opening) (cs′ : List (Bool × Call))
-    (x : Entry) (m : ℕ) → List·Memᴰ x (run (world o) cs) → x .call ≡ choose m → isAccepted (x .said) ≡ true
+    (x : Entry) (m : ℕ) (s : Speech) → List·Memᴰ x (run (world o) cs) → x .call ≡ choose m s → isAccepted (x .said) ≡ true
     → Longer (o .acceptor) (o .initiator) (o′ .acceptor) (o′ .initiator) → MarksKept o cs o′ cs′
     → (y : Entry) → List·Memᴰ y (run (world o′) cs′) → NotLost o o′ cs′ (x .said .choice) y

@@ -15,6 +15,7 @@
 --   LongerRun       demand 3, for that opening behind the first's choice; LongerChoice: what is chosen there
 --   conversation    calls of a whole conversation; allAccepted: every entry of a run is accepted
 --   WholeConversation   every call of it is accepted; WholeLogs: and each end has all of its messages
+--   attempts        choosing calls of each refusal, then one that is accepted; AtOnce: what they answer
 --   readInTurn      the numbers that an end answers to tokens, read one behind the other
 --   StaysRejected   C-18, with the examples' tokens
 use Prim.Native.Nat.{ℕ}
@@ -100,7 +101,7 @@ negotiation acceptorMarks initiatorMarks =
     ∷ (true, read)
     ∷ (true, reply acceptorMarks random)
     ∷ (false, read)
-    ∷ (false, choose initiatorMarks)
+    ∷ (false, choose initiatorMarks (request []))
     ∷ []
 
 pub record Says : Type 0 where
@@ -190,7 +191,7 @@ LongerRun = (y : Entry) → List·Memᴰ y (run (world longerLists) (negotiation
 abbrev pub LongerChoice : Type 0
 LongerChoice = map saysOf (run (world longerLists) (negotiation 0 0)) ≡ done ∷ done ∷ names (scheme 5) 3 ∷ done ∷ names (scheme 5) 3 ∷ []
 
--- metadata and optimistic exchanges, a choice, several rounds, VERIFY of both ends, ALERTs
+-- metadata and optimistic exchanges, a choice with an exchange, several rounds, VERIFY of both ends, ALERTs
 abbrev pub conversation : List (Bool × Call)
 conversation =
     (false, offer random)
@@ -202,8 +203,7 @@ conversation =
     ∷ (true, metadata (scheme 3, refl) (5 ∷ []))
     ∷ (true, speak (request (6 ∷ 7 ∷ [])))
     ∷ (false, read)
-    ∷ (false, choose 0)
-    ∷ (false, speak (request []))
+    ∷ (false, choose 0 (request []))
     ∷ (true, read)
     ∷ (true, speak (request (8 ∷ [])))
     ∷ (true, speak (checksum (negsuc 137) (9 ∷ [])))
@@ -224,6 +224,33 @@ WholeConversation = allAccepted (run (world opened) conversation) ≡ true
 
 abbrev pub WholeLogs : Type 0
 WholeLogs = (length (logsOf opened conversation .i) ≡ 13) × (length (logsOf opened conversation .a) ≡ 13)
+
+-- C-12: a later message before the choice; the choosing call without room, with marks beyond the list, with nothing left and without room; the
+-- acceptor's; one with other marks, as a VERIFY; a second one; a second VERIFY; the turn goes on, and is read
+abbrev pub attempts : List (Bool × Call)
+attempts =
+    (false, offer random)
+    ∷ (true, read)
+    ∷ (true, reply 0 random)
+    ∷ (false, read)
+    ∷ (false, speak (request []))
+    ∷ (false, choose 0 (request (replicate 1000 0)))
+    ∷ (false, choose 4 (request []))
+    ∷ (false, choose 3 (request (replicate 1000 0)))
+    ∷ (false, speak (request []))
+    ∷ (true, choose 0 (request []))
+    ∷ (false, choose 2 (checksum (pos 16) (1 ∷ [])))
+    ∷ (false, choose 0 (request []))
+    ∷ (false, speak (checksum (pos 16) (1 ∷ [])))
+    ∷ (false, speak (alarm (pos 0)))
+    ∷ (true, read)
+    ∷ []
+
+abbrev pub AtOnce : Type 0
+AtOnce =
+    map saysOf (run (world opened) attempts)
+    ≡ done ∷ done ∷ names (scheme 2) 2 ∷ done ∷ refuses 18 ∷ refuses 16 ∷ refuses 19 ∷ refuses 17 ∷ refuses 18 ∷ refuses 18 ∷ names (scheme 3) 1 ∷ refuses 18
+    ∷ refuses 18 ∷ done ∷ done ∷ []
 
 abbrev pub readInTurn : End → List (List ℕ) → List ℕ
 readInTurn e [] = []

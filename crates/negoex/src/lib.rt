@@ -39,12 +39,14 @@ pub use windows::Shown;
 // A conversation: the record of an end goes in by value, and the next one comes back in the answer.
 pub use conversation::Answer;
 pub use conversation::Record;
-pub use negotiating::choice::choose;
 pub use negotiating::opening::open;
 pub use receiving::read;
+pub use sending_alert::choose_alert;
 pub use sending_alert::write_alert;
+pub use sending_exchange::exchange::choose_exchange;
 pub use sending_exchange::exchange::write_exchange;
 pub use sending_exchange::metadata::write_metadata;
 pub use sending_nego::offer::write_offer;
 pub use sending_nego::reply::write_reply;
+pub use sending_verify::choose_verify;
 pub use sending_verify::write_verify;

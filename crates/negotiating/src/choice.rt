@@ -1,25 +1,25 @@
-// The initiator's choice.
+// The initiator's choice, which is made with its first later message: what the three calls that choose share.
 ghost use mathlib.Core.Path.{_≡_};
-ghost use mathlib.Core.List.{[]};
-ghost use Rattle.schemes.specs.Sets.{named};
-ghost use Rattle.conversation.specs.State.{ownOf};
-ghost use Rattle.conversation.specs.Outcomes.{answered};
-ghost use Rattle.conversation.specs.Writing.{chosenBy};
-ghost use Rattle.conversation.specs.Choosing.{openTo, choiceRows, chose, choosing};
+ghost use Rattle.conversation.specs.Choosing.{choiceRows, chose};
 ghost use Rattle.calls.specs.Calls.{callRefusal};
-ghost use Rattle.negotiating.specs.Ready.{ChoiceReady};
+ghost use Rattle.negotiating.specs.Ready.{ChoiceReady, namedChoice};
 use calls::answer;
 use calls::naming;
 use conversation::Answer;
 use conversation::Record;
 use conversation::limits::outside;
+use conversation::turns::place_behind;
 use schemes::choosing::choose_kept;
 use schemes::list::id_of;
 use schemes::set::within;
 use vector::TokenPlace;
 
-fn choice_refusal(r: Record, marks: u16) -> u32
-    ensures { λ a. ⌜ a ≡ callRefusal r (choiceRows r marks) ⌝ }
+// A later token, as `place_behind` numbers them.
+const FURTHER: u8 = 2;
+
+// 18, 19 and 17 for a choice with a message of a kind: the first that refuses, or 0.
+pub fn choice_refusal(r: Record, kind: u8, marks: u16) -> u32
+    ensures { λ a. ⌜ a ≡ callRefusal r (choiceRows r marks kind) ⌝ }
 {
     let n = outside(r);
     if n != 0 {
@@ -29,6 +29,9 @@ fn choice_refusal(r: Record, marks: u16) -> u32
         return 18;
     }
     if r.stage != Record::CHOOSING {
+        return 18;
+    }
+    if place_behind(FURTHER, 0, r.verified, kind) == 0 {
         return 18;
     }
     if within(marks, r.count as u32) {} else {
@@ -42,30 +45,34 @@ fn choice_refusal(r: Record, marks: u16) -> u32
     0
 }
 
-// The choice: the first kept place that is not marked.
-fn choose_with(r: Record, marks: u16) -> Answer
+// The record behind the choice: the first kept place that is not marked. The message is written in it.
+pub fn chosen_record(r: Record, marks: u16) -> Record
     requires { ⌜ ChoiceReady r marks ⌝ }
-    ensures { λ a. ⌜ a ≡ chosenBy (answered 0 0 (chose r marks)) (named (ownOf r) (openTo r marks)) ⌝ }
+    ensures { λ a. ⌜ a ≡ chose r marks ⌝ }
 {
     let kept = r.kept;
     let choice = choose_kept(kept, r.common, marks);
-    let list = r.list;
-    let id = id_of(list, choice.place);
+    let place = choice.place as usize;
     let mut next = r;
     next.stage = Record::LATER;
     next.position = 0;
     next.marks = marks;
-    next.chosen = choice.place as usize;
-    naming(next, id, choice.left)
+    next.chosen = place;
+    next
 }
 
-// Chooses, once: the first scheme of the reply that the initiator lists and has not marked. No transcript is touched.
-pub fn choose(r: Record, marks: u16) -> Answer
-    ensures { λ a. ⌜ a ≡ choosing r [] marks .answer ⌝ }
+// The answer behind the message: it names the choice and how many were left. Where the message was refused, nothing is chosen.
+pub fn name_choice(r: Record, marks: u16, a: Answer) -> Answer
+    requires { ⌜ ChoiceReady r marks ⌝ }
+    ensures { λ b. ⌜ b ≡ namedChoice r marks a ⌝ }
 {
-    let n = choice_refusal(r, marks);
-    if n != 0 {
-        return answer(n, TokenPlace(0), r);
+    let next = a.next;
+    if a.refusal != 0 {
+        return answer(a.refusal, TokenPlace(0), r);
     }
-    choose_with(r, marks)
+    let kept = r.kept;
+    let choice = choose_kept(kept, r.common, marks);
+    let list = r.list;
+    let id = id_of(list, choice.place);
+    naming(next, id, choice.left)
 }

@@ -2,16 +2,18 @@
 -- Assumes nothing.
 use Prim.Native.Nat.{ℕ, suc, _+_, _≤_, _<_}
 use mathlib.Core.Path.{_≡_, sym, ap, _∙_}
+use mathlib.Core.Bool.{Bool, true, false}
 use mathlib.Core.List.{List, [], _∷_, _++_}
 use native.Mathlib.Numerals.{add-one}
 use lib.ListN.{length, drop, getD, drop-of-length-le}
 use lib.Seq.{drop-cons}
+use lib.Dec.{ltb}
 use borrow.Author.Tests.{eq-eqb, ne-eqb}
 use Rattle.text.specs.Text.{quoted, hexOf, idText, Text, written}
 use Rattle.text.proofs.Pieces.{then}
 use Rattle.conversation.specs.declared.Answer.{Answer}
 use Rattle.script.specs.declared.Command.{Command}
-use Rattle.reports.specs.Reports.{digitsOf, wroteText, choiceText, numbersLine, reportOf}
+use Rattle.reports.specs.Reports.{digitsOf, wroteText, choiceText, namesChoice, numbersLine, reportOf}
 
 module _ (t a b u : Text) (p x : List ℕ) (first : a ≡ written (p ∷ x ∷ []) t) where
   pub two-fields : (q y z : List ℕ) → b ≡ written (q ∷ y ∷ []) a → u ≡ written (z ∷ []) b → u ≡ written (p ∷ x ∷ q ∷ y ∷ z ∷ []) t
@@ -52,17 +54,23 @@ module _ (c : Command) (a : Answer) (message : List ℕ) (t u : Text) where
       report-read h e = rw (eq-eqb _ _ accepted, ne-eqb _ _ called, eq-eqb _ _ h) e
 
       module _ (no-reading : c .verb ≡ 7 → ⊥) where
-        pub report-choice : c .verb ≡ 8 → u ≡ written (choiceText (quoted "choice ") (a .choice) (a .left)) t → u ≡ written (reportOf c a message) t
-        unfolding reportOf
-        report-choice h e = rw (eq-eqb _ _ accepted, ne-eqb _ _ called, ne-eqb _ _ no-reading, eq-eqb _ _ h) e
-
-        module _ (writes : c .verb ≡ 8 → ⊥) (w : Text) (w-is : w ≡ written (wroteText message) t) where
-          pub report-reply : c .verb ≡ 2 → u ≡ written (choiceText (quoted " choice=") (a .choice) (a .left)) w → u ≡ written (reportOf c a message) t
+        module _ (w : Text) (w-is : w ≡ written (wroteText message) t) (b : Bool) (b-is : b ≡ namesChoice (c .verb)) where
+          pub report-choice : b ≡ true → u ≡ written (choiceText (a .choice) (a .left)) w → u ≡ written (reportOf c a message) t
           unfolding reportOf
-          report-reply h e = rw (eq-eqb _ _ accepted, ne-eqb _ _ called, ne-eqb _ _ no-reading, ne-eqb _ _ writes, eq-eqb _ _ h) (then t w u _ _ w-is e)
+          report-choice h e = rw (eq-eqb _ _ accepted, ne-eqb _ _ called, ne-eqb _ _ no-reading, ← b-is, h) (then t w u _ _ w-is e)
 
-          pub report-wrote : (c .verb ≡ 2 → ⊥) → u ≡ written (quoted "\n" ∷ []) w → u ≡ written (reportOf c a message) t
+          pub report-wrote : b ≡ false → u ≡ written (quoted "\n" ∷ []) w → u ≡ written (reportOf c a message) t
           unfolding reportOf
-          report-wrote h e = rw (eq-eqb _ _ accepted, ne-eqb _ _ called, ne-eqb _ _ no-reading, ne-eqb _ _ writes, ne-eqb _ _ h) (then t w u _ _ w-is e)
+          report-wrote h e = rw (eq-eqb _ _ accepted, ne-eqb _ _ called, ne-eqb _ _ no-reading, ← b-is, h) (then t w u _ _ w-is e)
 
-pub ruleset reports = (report-refused, report-opened, report-read, report-choice, report-reply, report-wrote)
+pub ruleset reports = (report-refused, report-opened, report-read, report-choice, report-wrote)
+
+-- a reply, or one of the verbs behind OPEN
+module _ (verb : ℕ) where
+  pub names-reply : verb ≡ 2 → true ≡ namesChoice verb
+  names-reply h = rw (eq-eqb _ _ h)
+
+  pub names-other : (verb ≡ 2 → ⊥) → ltb 10 verb ≡ namesChoice verb
+  names-other h = rw (ne-eqb _ _ h)
+
+pub ruleset names = (names-reply, names-other)

@@ -3,19 +3,20 @@
 --
 -- Glossary
 --   digitsOf v         octets as digits; wroteText v: a written message
---   choiceText w i n   a choice, behind the word w: its id, and how many were left
+--   choiceText i n     a choice, behind a written message: its id, and how many were left
+--   namesChoice v      the verb v is that of a call that answers one
 --   numbersLine        a line of two numbers, each behind its words
 --   usedLine i a       the last line
 --   reportOf c a m     the line of the command c, whose call answered a and wrote the message m
 use Prim.Native.Nat.{ℕ}
-use mathlib.Core.Bool.{cond}
+use mathlib.Core.Bool.{Bool, cond, _||_}
 use mathlib.Core.List.{List, [], _∷_, _++_}
 use lib.ListN.{length}
-use lib.Dec.{eqb}
+use lib.Dec.{eqb, ltb}
 use Rattle.text.specs.Text.{quoted, decimal, decimal64, hexOf, idText}
 use Rattle.conversation.specs.declared.Answer.{Answer}
 use Rattle.script.specs.declared.Command.{Command}
-use Rattle.script.specs.Grammar.{REPLY, READ, CHOOSE, OPEN}
+use Rattle.script.specs.Grammar.{REPLY, READ, OPEN}
 
 -- "upper-case digits"
 unfoldable pub digitsOf : List ℕ → List (List ℕ)
@@ -26,9 +27,13 @@ digitsOf (x ∷ v) = hexOf x ∷ digitsOf v
 unfoldable pub wroteText : List ℕ → List (List ℕ)
 wroteText message = quoted "wrote " ∷ decimal64 (length message) ∷ quoted " " ∷ digitsOf message
 
--- "choice ID left=N", and "choice=ID left=N" behind a reply
-unfoldable pub choiceText : List ℕ → List ℕ → ℕ → List (List ℕ)
-choiceText word id left = word ∷ (idText id ++ (quoted " left=" ∷ decimal left ∷ quoted "\n" ∷ []))
+-- "choice=ID left=N"
+unfoldable pub choiceText : List ℕ → ℕ → List (List ℕ)
+choiceText id left = quoted " choice=" ∷ (idText id ++ (quoted " left=" ∷ decimal left ∷ quoted "\n" ∷ []))
+
+-- "behind an accepted reply, and a choice"
+abbrev pub namesChoice : ℕ → Bool
+namesChoice verb = eqb verb REPLY || ltb OPEN verb
 
 abbrev pub numbersLine : List ℕ → ℕ → List ℕ → ℕ → List (List ℕ)
 numbersLine words n further k = words ∷ decimal n ∷ further ∷ decimal64 k ∷ quoted "\n" ∷ []
@@ -37,13 +42,12 @@ numbersLine words n further k = words ∷ decimal n ∷ further ∷ decimal64 k 
 unfoldable pub usedLine : ℕ → ℕ → List (List ℕ)
 usedLine i a = quoted "used i=" ∷ decimal64 i ∷ quoted " a=" ∷ decimal64 a ∷ quoted "\n" ∷ []
 
--- "read messages=N length=L"; "behind an accepted reply `choice=ID left=N`"; "refused N at=P"
+-- "read messages=N length=L"; "wrote LENGTH OCTETS"; "refused N at=P"
 unfoldable pub reportOf : Command → Answer → List ℕ → List (List ℕ)
 reportOf c a message =
     cond (eqb (a .refusal) 0)
     (cond (eqb (c .verb) OPEN) (quoted "opened\n" ∷ [])
     (cond (eqb (c .verb) READ) (numbersLine (quoted "read messages=") (a .messages) (quoted " length=") (c .length))
-    (cond (eqb (c .verb) CHOOSE) (choiceText (quoted "choice ") (a .choice) (a .left))
-    (cond (eqb (c .verb) REPLY) (wroteText message ++ choiceText (quoted " choice=") (a .choice) (a .left))
-    (wroteText message ++ (quoted "\n" ∷ []))))))
+    (cond (namesChoice (c .verb)) (wroteText message ++ choiceText (a .choice) (a .left))
+    (wroteText message ++ (quoted "\n" ∷ [])))))
     (numbersLine (quoted "refused ") (a .refusal) (quoted " at=") (a .place .0))

@@ -1,7 +1,7 @@
 // What a script's calls answer, as lines of text from the front of a lent slice on.
 ghost use mathlib.Core.Path.{_≡_};
 ghost use Rattle.text.specs.Text.{text, written};
-ghost use Rattle.reports.specs.Reports.{digitsOf, wroteText, choiceText, numbersLine, usedLine, reportOf};
+ghost use Rattle.reports.specs.Reports.{digitsOf, wroteText, choiceText, namesChoice, numbersLine, usedLine, reportOf};
 use conversation::Answer;
 use script::Command;
 use text::append;
@@ -19,11 +19,11 @@ fn numbers(d: &mut [u8], words: &[u8], n: u32, further: &[u8], k: usize) -> usiz
     append(d, b, b"\n")
 }
 
-// A word, the id chosen, how many were left, and the line's end.
-fn choice(d: &mut [u8], at: usize, word: &[u8], chosen: [u8; 16], left: u32) -> usize
-    ensures { λ r. ⌜ text (now (d .exit)) r ≡ written (choiceText (now (word .entry)) chosen left) (text (now (d .entry)) at) ⌝ }
+// The id chosen, how many were left, and the line's end.
+fn choice(d: &mut [u8], at: usize, chosen: [u8; 16], left: u32) -> usize
+    ensures { λ r. ⌜ text (now (d .exit)) r ≡ written (choiceText chosen left) (text (now (d .entry)) at) ⌝ }
 {
-    let a = append(d, at, word);
+    let a = append(d, at, b" choice=");
     let b = id(d, a, &chosen);
     let e = field(d, b, b" left=", left);
     append(d, e, b"\n")
@@ -51,6 +51,16 @@ fn wrote(d: &mut [u8], message: &[u8]) -> usize
     digits(d, b, message)
 }
 
+// Whether a verb is that of a call that answers a choice: a reply, and those that choose, which stand last.
+fn names_choice(verb: usize) -> bool
+    ensures { λ r. ⌜ r ≡ namesChoice verb ⌝ }
+{
+    if verb == Command::REPLY {
+        return true;
+    }
+    Command::OPEN < verb
+}
+
 // The line of a command: what its call answered, and the message that it wrote.
 pub fn report(d: &mut [u8], c: Command, a: Answer, message: &[u8]) -> usize
     ensures { λ r. ⌜ text (now (d .exit)) r ≡ written (reportOf c a (now (message .entry))) (text (now (d .entry)) 0) ⌝ }
@@ -64,13 +74,10 @@ pub fn report(d: &mut [u8], c: Command, a: Answer, message: &[u8]) -> usize
     if c.verb == Command::READ {
         return numbers(d, b"read messages=", a.messages, b" length=", c.length);
     }
-    let chosen = a.choice;
-    if c.verb == Command::CHOOSE {
-        return choice(d, 0, b"choice ", chosen, a.left);
-    }
     let at = wrote(d, message);
-    if c.verb == Command::REPLY {
-        return choice(d, at, b" choice=", chosen, a.left);
+    if names_choice(c.verb) {
+        let chosen = a.choice;
+        return choice(d, at, chosen, a.left);
     }
     append(d, at, b"\n")
 }

@@ -17,7 +17,7 @@ use Rattle.fields.specs.declared.hex.IdText.{IdText}
 use Rattle.fields.specs.declared.number.Number.{Number}
 use Rattle.fields.specs.declared.number.Number.the-variants as number
 use Rattle.fields.specs.Fields.{numberOf, decodedAs, Decodes, idAs, Numeral, is, hexadecimalOf, roomOf, Octets, of, Front, front, bad, fit, octetsOf, randomOf, idOf}
-use Rattle.script.specs.Grammar.{fieldsOf, first, others, only, idsOf, Form, forms, form, formOf, past, numberIn, hasId, idIn, restIn, Line, lineAs, line, badLine, numberThen, idThen, frontThen, rested, named, numbered, called, ends, verbs, placeFrom, placeOf, verbOf, fieldsLine, commandOf}
+use Rattle.script.specs.Grammar.{fieldsOf, first, others, only, idsOf, Form, forms, form, formOf, past, numberIn, hasId, idIn, restIn, Line, lineAs, line, badLine, numberThen, idThen, frontThen, rested, named, numbered, called, chosen, ends, verbs, speeches, speechVerb, placeFrom, placeOf, verbOf, fieldsLine, commandOf}
 use Rattle.script.specs.Steps.{fieldsFrom}
 use Rattle.script.proofs.Places.{past-none, from-start, field-there}
 use Rattle.fields.proofs.Decoding.{fits}
@@ -103,50 +103,50 @@ of-form f verb = List·getD-map f forms verb (form 0 0 0)
 bad-line : (c : Command) (d : List ℕ) → c ≡ badLine .command → lineAs c d ≡ badLine
 bad-line c d e = rw e
 
-module _ (verb : ℕ) (acceptor : Bool) (n : ℕ) (i : List ℕ) (fs : List (List ℕ)) (room kind : ℕ) (kind-is : kind ≡ getD (column (λ f. f .rest)) verb 0) (r : Decoded) (d : List ℕ) (says : decodedAs r d ≡ fit room (restIn kind fs)) where
-  rested-is : rested verb acceptor n i fs room ≡ frontThen (decodedAs r d) (line verb acceptor n i)
+module _ (verb : ℕ) (acceptor : Bool) (marks n : ℕ) (i : List ℕ) (fs : List (List ℕ)) (room kind : ℕ) (kind-is : kind ≡ getD (column (λ f. f .rest)) verb 0) (r : Decoded) (d : List ℕ) (says : decodedAs r d ≡ fit room (restIn kind fs)) where
+  rested-is : rested verb acceptor marks n i fs room ≡ frontThen (decodedAs r d) (line verb acceptor marks n i)
   unfolding rested
   rested-is = rw (← of-form (λ f. f .rest) verb, ← kind-is, ← says)
 
-  pub rested-bad : r ≡ decoded.Bad → (c : Command) → c ≡ badLine .command → lineAs c d ≡ rested verb acceptor n i fs room
+  pub rested-bad : r ≡ decoded.Bad → (c : Command) → c ≡ badLine .command → lineAs c d ≡ rested verb acceptor marks n i fs room
   rested-bad h c e = bad-line c d e ∙ sym (rested-is ∙ rw h)
 
-  pub rested-good : (k : ℕ) → r ≡ decoded.Octets k → lineAs (line verb acceptor n i k [] .command) d ≡ rested verb acceptor n i fs room
+  pub rested-good : (k : ℕ) → r ≡ decoded.Octets k → lineAs (line verb acceptor marks n i k [] .command) d ≡ rested verb acceptor marks n i fs room
   rested-good k h = sym (rested-is ∙ rw h)
 
-module _ (verb : ℕ) (acceptor : Bool) (n : ℕ) (fs : List (List ℕ)) (room kind : ℕ) (kind-is : kind ≡ getD (column (λ f. f .id)) verb 0) (b : Bool) (b-is : b ≡ hasId kind acceptor) (r : IdText) (says : idAs r ≡ idIn b fs) where
-  named-is : named verb acceptor n fs room ≡ idThen (idAs r) (λ i. rested verb acceptor n i (past b fs) room)
+module _ (verb : ℕ) (acceptor : Bool) (marks n : ℕ) (fs : List (List ℕ)) (room kind : ℕ) (kind-is : kind ≡ getD (column (λ f. f .id)) verb 0) (b : Bool) (b-is : b ≡ hasId kind acceptor) (r : IdText) (says : idAs r ≡ idIn b fs) where
+  named-is : named verb acceptor marks n fs room ≡ idThen (idAs r) (λ i. rested verb acceptor marks n i (past b fs) room)
   unfolding named
   named-is = simp (sym (of-form (λ f. f .id) verb), sym kind-is, sym b-is, sym says)
 
-  pub named-bad : r .ok ≡ false → (c : Command) (d : List ℕ) → c ≡ badLine .command → lineAs c d ≡ named verb acceptor n fs room
+  pub named-bad : r .ok ≡ false → (c : Command) (d : List ℕ) → c ≡ badLine .command → lineAs c d ≡ named verb acceptor marks n fs room
   named-bad h c d e = bad-line c d e ∙ sym (named-is ∙ rw h)
 
-  pub named-good : r .ok ≡ true → (gs : List (List ℕ)) → gs ≡ past b fs → (x : Line) → x ≡ rested verb acceptor n (r .octets) gs room → x ≡ named verb acceptor n fs room
+  pub named-good : r .ok ≡ true → (gs : List (List ℕ)) → gs ≡ past b fs → (x : Line) → x ≡ rested verb acceptor marks n (r .octets) gs room → x ≡ named verb acceptor marks n fs room
   named-good h gs e x x-is = x-is ∙ rw e (sym (named-is ∙ rw h))
 
-module _ (verb : ℕ) (acceptor : Bool) (fs : List (List ℕ)) (room kind : ℕ) (kind-is : kind ≡ getD (column (λ f. f .number)) verb 0) (r : Number) (says : numberOf r ≡ numberIn kind fs) where
-  numbered-is : numbered verb acceptor fs room ≡ numberThen (numberOf r) (λ n. named verb acceptor n (past (not (eqb kind 0)) fs) room)
+module _ (verb : ℕ) (acceptor : Bool) (marks : ℕ) (fs : List (List ℕ)) (room kind : ℕ) (kind-is : kind ≡ getD (column (λ f. f .number)) verb 0) (r : Number) (says : numberOf r ≡ numberIn kind fs) where
+  numbered-is : numbered verb acceptor marks fs room ≡ numberThen (numberOf r) (λ n. named verb acceptor marks n (past (not (eqb kind 0)) fs) room)
   unfolding numbered
   numbered-is = simp (sym (of-form (λ f. f .number) verb), sym kind-is, sym says)
 
-  pub numbered-bad : r ≡ number.Bad → (c : Command) (d : List ℕ) → c ≡ badLine .command → lineAs c d ≡ numbered verb acceptor fs room
+  pub numbered-bad : r ≡ number.Bad → (c : Command) (d : List ℕ) → c ≡ badLine .command → lineAs c d ≡ numbered verb acceptor marks fs room
   numbered-bad h c d e = bad-line c d e ∙ sym (numbered-is ∙ rw h)
 
-  pub numbered-good : (n : ℕ) → r ≡ number.Is n → (gs : List (List ℕ)) → gs ≡ past (not (eqb kind 0)) fs → (x : Line) → x ≡ named verb acceptor n gs room → x ≡ numbered verb acceptor fs room
+  pub numbered-good : (n : ℕ) → r ≡ number.Is n → (gs : List (List ℕ)) → gs ≡ past (not (eqb kind 0)) fs → (x : Line) → x ≡ named verb acceptor marks n gs room → x ≡ numbered verb acceptor marks fs room
   numbered-good n h gs e x x-is = x-is ∙ rw e (sym (numbered-is ∙ rw h))
 
-module _ (verb end : ℕ) (fs : List (List ℕ)) (room : ℕ) where
-  pub called-nowhere : end ≡ 0 → (c : Command) (d : List ℕ) → c ≡ badLine .command → lineAs c d ≡ called verb end fs room
+module _ (verb end marks : ℕ) (fs : List (List ℕ)) (room : ℕ) where
+  pub called-nowhere : end ≡ 0 → (c : Command) (d : List ℕ) → c ≡ badLine .command → lineAs c d ≡ called verb end marks fs room
   unfolding called
   called-nowhere h c d e = bad-line c d e ∙ rw (eq-eqb _ _ h)
 
   module _ (somewhere : end ≡ 0 → ⊥) where
-    pub called-nothing : verb ≡ 0 → (c : Command) (d : List ℕ) → c ≡ badLine .command → lineAs c d ≡ called verb end fs room
+    pub called-nothing : verb ≡ 0 → (c : Command) (d : List ℕ) → c ≡ badLine .command → lineAs c d ≡ called verb end marks fs room
     unfolding called
     called-nothing h c d e = bad-line c d e ∙ rw (ne-eqb _ _ somewhere, eq-eqb _ _ h)
 
-    pub called-some : (verb ≡ 0 → ⊥) → (x : Line) → x ≡ numbered verb (eqb end 2) fs room → x ≡ called verb end fs room
+    pub called-some : (verb ≡ 0 → ⊥) → (x : Line) → x ≡ numbered verb (eqb end 2) marks fs room → x ≡ called verb end marks fs room
     unfolding called
     called-some h x e = rw (ne-eqb _ _ somewhere, ne-eqb _ _ h) e
 
@@ -164,23 +164,57 @@ module _ (s : List ℕ) (from v p : ℕ) (v-is : v ≡ p) where
     unfolding verbOf
     verb-alone h = rw (past-none s from alone, ← v-is, ne-eqb _ _ h)
 
+-- `choose`, from MARKS on
+module _ (end : ℕ) (fs : List (List ℕ)) (room : ℕ) (r : Number) (says : numberOf r ≡ numberIn 2 fs) where
+  chosen-is : chosen end fs room ≡ numberThen (numberOf r) (λ m. called (speechVerb (placeOf (first (others fs)) speeches)) end m (others (others fs)) room)
+  unfolding chosen
+  chosen-is = rw (← says)
+
+  pub chosen-bad : r ≡ number.Bad → (c : Command) (d : List ℕ) → c ≡ badLine .command → lineAs c d ≡ chosen end fs room
+  chosen-bad h c d e = bad-line c d e ∙ sym (chosen-is ∙ rw h)
+
+  pub chosen-good : (m : ℕ) → r ≡ number.Is m → (gs hs : List (List ℕ)) → gs ≡ others fs → hs ≡ others gs → (w : List ℕ) → w ≡ first gs → (verb : ℕ) → verb ≡ speechVerb (placeOf w speeches)
+      → (x : Line) → x ≡ called verb end m hs room → x ≡ chosen end fs room
+  chosen-good m h gs hs g-is h-is w w-is verb v-is x x-is = x-is ∙ rw (v-is, w-is, h-is, g-is) (sym (chosen-is ∙ rw h))
+
+module _ (k : ℕ) where
+  pub speech-exchange : k ≡ 1 → 11 ≡ speechVerb k
+  speech-exchange h = rw h
+
+  module _ (a : k ≡ 1 → ⊥) where
+    pub speech-verify : k ≡ 2 → 12 ≡ speechVerb k
+    speech-verify h = rw h
+
+    module _ (b : k ≡ 2 → ⊥) where
+      pub speech-alert : k ≡ 3 → 13 ≡ speechVerb k
+      speech-alert h = rw h
+
+      pub speech-bad : (k ≡ 3 → ⊥) → 0 ≡ speechVerb k
+      speech-bad h = rw (ne-eqb _ _ a, ne-eqb _ _ b, ne-eqb _ _ h)
+
+pub speech-of : (j k : ℕ) → j ≡ k → (v : ℕ) → v ≡ speechVerb j → v ≡ speechVerb k
+speech-of j k e v h = h ∙ ap speechVerb e
+
 -- the line of two fields and those behind them, of which the second may be missing
+abbrev byVerb : ℕ → ℕ → List (List ℕ) → ℕ → Line
+byVerb verb end fs room = cond (eqb verb 8) (chosen end fs room) (called verb end 0 fs room)
+
 abbrev lineWith : List ℕ → List (List ℕ) → ℕ → Line
 lineWith w fs room =
     cond (sameOctets w (quoted "open"))
-    (called 10 (placeOf (first fs) ends) (others fs) room)
-    (called (verbOf (placeOf (first fs) verbs) (others fs)) (placeOf w ends) (others fs) room)
+    (called 10 (placeOf (first fs) ends) 0 (others fs) room)
+    (byVerb (verbOf (placeOf (first fs) verbs) (others fs)) (placeOf w ends) (others fs) room)
 
 either-bad : (b : Bool) → cond b badLine badLine ≡ badLine
 either-bad true = refl
 either-bad false = refl
 
 -- nothing is no end and no verb
-no-end : (verb : ℕ) (fs : List (List ℕ)) (room : ℕ) → called verb (placeOf [] ends) fs room ≡ badLine
+no-end : (verb : ℕ) (fs : List (List ℕ)) (room : ℕ) → called verb (placeOf [] ends) 0 fs room ≡ badLine
 unfolding called placeFrom fieldsOf sameOctets
 no-end verb fs room = refl
 
-no-verb : (end room : ℕ) → called (verbOf (placeOf [] verbs) []) end [] room ≡ badLine
+no-verb : (end room : ℕ) → byVerb (verbOf (placeOf [] verbs) []) end [] room ≡ badLine
 unfolding called verbOf placeFrom fieldsOf sameOctets
 no-verb end room = either-bad (eqb end 0)
 
@@ -190,20 +224,28 @@ line-is w [] room = sym (rw (no-end 10 [] room, no-verb (placeOf w ends) room) (
 line-is w (x ∷ fs) room = refl
 
 module _ (s : List ℕ) (at from : ℕ) (at-is : fieldsFrom s at ≡ others (fieldsFrom s 0)) (from-is : fieldsFrom s from ≡ others (fieldsFrom s at)) (w x : List ℕ) (w-is : w ≡ first (fieldsFrom s 0)) (x-is : x ≡ first (fieldsFrom s at)) (b : Bool) (b-is : b ≡ sameOctets w (quoted "open")) (room : ℕ) (l : Line) where
-  command-is : commandOf s room ≡ cond b (called 10 (placeOf x ends) (fieldsFrom s from) room) (called (verbOf (placeOf x verbs) (fieldsFrom s from)) (placeOf w ends) (fieldsFrom s from) room)
+  command-is : commandOf s room ≡ cond b (called 10 (placeOf x ends) 0 (fieldsFrom s from) room) (byVerb (verbOf (placeOf x verbs) (fieldsFrom s from)) (placeOf w ends) (fieldsFrom s from) room)
   unfolding commandOf
   command-is =
       ap (λ (fs : List (List ℕ)). fieldsLine fs room) (sym (from-start s) ∙ field-there s 0 (omega arith))
       ∙ line-is (first (fieldsFrom s 0)) (others (fieldsFrom s 0)) room
       ∙ simp (b-is, w-is, x-is, from-is, at-is)
 
-  pub command-open : b ≡ true → (end : ℕ) → end ≡ placeOf x ends → l ≡ called 10 end (fieldsFrom s from) room → l ≡ commandOf s room
+  pub command-open : b ≡ true → (end : ℕ) → end ≡ placeOf x ends → l ≡ called 10 end 0 (fieldsFrom s from) room → l ≡ commandOf s room
   command-open h end e l-is = l-is ∙ rw e (sym (command-is ∙ rw h))
 
-  pub command-call : b ≡ false → (verb end : ℕ) → verb ≡ verbOf (placeOf x verbs) (fieldsFrom s from) → end ≡ placeOf w ends → l ≡ called verb end (fieldsFrom s from) room → l ≡ commandOf s room
-  command-call h verb end v e l-is = l-is ∙ rw (v, e) (sym (command-is ∙ rw h))
+  module _ (h : b ≡ false) (verb : ℕ) (v : verb ≡ verbOf (placeOf x verbs) (fieldsFrom s from)) (end : ℕ) (e : end ≡ placeOf w ends) where
+    pub command-choose : verb ≡ 8 → l ≡ chosen end (fieldsFrom s from) room → l ≡ commandOf s room
+    command-choose z l-is = l-is ∙ rw e (sym (command-is ∙ rw (h, ← v, z)))
 
-pub ruleset commands = (command-open, command-call)
+    pub command-call : (verb ≡ 8 → ⊥) → l ≡ called verb end 0 (fieldsFrom s from) room → l ≡ commandOf s room
+    command-call z l-is = l-is ∙ rw (e, v) (sym (command-is ∙ rw (h, ← v, ne-eqb _ _ z) refl))
+
+pub ruleset commands = (command-open, command-choose, command-call)
+
+pub ruleset choices = (chosen-bad, chosen-good)
+
+pub ruleset speech-words = (speech-of, speech-exchange, speech-verify, speech-alert, speech-bad)
 
 pub ruleset pasts = (past-read, past-not)
 

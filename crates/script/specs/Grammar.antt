@@ -5,14 +5,14 @@
 --   fieldsOf s        the fields of a line; longer c fs: with the octet c in front of the first of them
 --   first, others     the first of some fields, and those behind it; only: the one where there is one alone. No call has an empty field, so that one
 --                     stands for none.
---   BAD               the verb of a bad line; OFFER, REPLY, METADATA, EXCHANGE, VERIFY, ALERT, READ, CHOOSE and OPEN: those of the calls; TURN: `read`
---                     with nothing behind it
+--   BAD               the verb of a bad line; OFFER, REPLY, METADATA, EXCHANGE, VERIFY, ALERT, READ and OPEN: those of the calls; TURN: `read` with
+--                     nothing behind it; CHOOSE: the word `choose`; CHOOSE-EXCHANGE, CHOOSE-VERIFY and CHOOSE-ALERT: the calls that it begins
 --   NONE              no field behind a verb; ROOM, MARKS, CODE, ID, CONVERSATION, RANDOM, OCTETS and IDS: the fields that there are; TYPE is read as
 --                     CODE
 --   Form, forms       which fields a call has, by its verb: its number, its id and the rest of its line; form builds one, formOf is that of a verb
---   ends, verbs       the words; placeOf w ws: the place of the word w among ws, from 1, or 0 where it is none of them; placeFrom: from another number
+--   ends, verbs       the words; speeches: those behind `choose MARKS`; placeOf w ws: the place of the word w among ws, from 1, or 0 where it is none of them; placeFrom: from another number
 --                     on
---   verbOf v fs       the verb of a word, where the fields fs stand behind it
+--   verbOf v fs       the verb of a word, where the fields fs stand behind it; speechVerb: that of a place among speeches
 --   idsOf fs          the ids of the fields fs, one behind the other; both joins octets, where none of them is bad
 --   numberIn          what the number says; idIn: the id; restIn: the rest of the line; nothingIn: nothing is left
 --   hasId             an id stands there; past b fs: the fields behind one that is read, or not
@@ -20,7 +20,7 @@
 --   lineAs c d        the same of an answer, whose octets stand at the front of the slice d
 --   numberThen        the line, where a number is good; idThen: an id; frontThen: octets; a bad line where it is not
 --   numbered          the line from its number on; named: from its id on; rested: from its rest on
---   called            the line of a verb at an end; fieldsLine: that of its fields
+--   called            the line of a verb at an end, with the marks of a choice; chosen: that of `choose`, from MARKS on; fieldsLine: that of its fields
 --   commandOf s room  what the line s says, where a slice of `room` octets is lent
 use Prim.Native.Nat.{ℕ, _+_}
 use mathlib.Core.Bool.{Bool, true, false, cond, not, _&&_, _||_}
@@ -87,6 +87,15 @@ TURN = 9
 abbrev pub OPEN : ℕ
 OPEN = 10
 
+abbrev pub CHOOSE-EXCHANGE : ℕ
+CHOOSE-EXCHANGE = 11
+
+abbrev pub CHOOSE-VERIFY : ℕ
+CHOOSE-VERIFY = 12
+
+abbrev pub CHOOSE-ALERT : ℕ
+CHOOSE-ALERT = 13
+
 abbrev pub NONE : ℕ
 NONE = 0
 
@@ -123,7 +132,8 @@ abbrev pub form : ℕ → ℕ → ℕ → Form
 form n i r = record { number = n; id = i; rest = r }
 
 -- by verb: a bad line; "E offer RANDOM"; "E reply MARKS RANDOM"; "E metadata ID OCTETS"; "E exchange OCTETS"; "E verify TYPE OCTETS"; "E alert CODE";
--- "E read OCTETS"; "E choose MARKS"; "E read"; "open i ROOM CONVERSATION ID ID .." and "open a ROOM ID ID .."
+-- "E read OCTETS"; no call; "E read"; "open i ROOM CONVERSATION ID ID .." and "open a ROOM ID ID .."; behind "E choose MARKS" "exchange OCTETS",
+-- "verify TYPE OCTETS" and "alert CODE"
 abbrev pub forms : List Form
 forms =
     form NONE NONE NONE
@@ -134,9 +144,12 @@ forms =
     ∷ form CODE NONE OCTETS
     ∷ form CODE NONE NONE
     ∷ form NONE NONE OCTETS
-    ∷ form MARKS NONE NONE
+    ∷ form NONE NONE NONE
     ∷ form NONE NONE NONE
     ∷ form ROOM CONVERSATION IDS
+    ∷ form NONE NONE OCTETS
+    ∷ form CODE NONE OCTETS
+    ∷ form CODE NONE NONE
     ∷ []
 
 unfoldable pub formOf : ℕ → Form
@@ -156,6 +169,12 @@ ends = fieldsOf (quoted "i a")
 -- "words are lower case"; each has its verb's place
 abbrev pub verbs : List (List ℕ)
 verbs = fieldsOf (quoted "offer reply metadata exchange verify alert read choose")
+
+abbrev pub speeches : List (List ℕ)
+speeches = fieldsOf (quoted "exchange verify alert")
+
+abbrev pub speechVerb : ℕ → ℕ
+speechVerb place = cond (eqb place 1) CHOOSE-EXCHANGE (cond (eqb place 2) CHOOSE-VERIFY (cond (eqb place 3) CHOOSE-ALERT BAD))
 
 -- "reads a copy of the other end's turn so far"
 unfoldable pub verbOf : ℕ → List (List ℕ) → ℕ
@@ -208,12 +227,12 @@ pub record Line : Type 0 where
 abbrev pub lineAs : Command → List ℕ → Line
 lineAs c d = record { command = c; octets = take (c .length) d }
 
-abbrev pub line : ℕ → Bool → ℕ → List ℕ → ℕ → List ℕ → Line
-line verb acceptor number id length octets =
-    record { command = record { verb = verb; acceptor = acceptor; number = number; id = id; length = length }; octets = octets }
+abbrev pub line : ℕ → Bool → ℕ → ℕ → List ℕ → ℕ → List ℕ → Line
+line verb acceptor marks number id length octets =
+    record { command = record { verb = verb; acceptor = acceptor; marks = marks; number = number; id = id; length = length }; octets = octets }
 
 abbrev pub badLine : Line
-badLine = line BAD false 0 (replicate 16 0) 0 []
+badLine = line BAD false 0 0 (replicate 16 0) 0 []
 
 abbrev pub numberThen : Numeral → (ℕ → Line) → Line
 numberThen (is n) f = f n
@@ -228,31 +247,39 @@ frontThen (front k o) f = f k o
 frontThen bad f = badLine
 
 -- the rest of the line
-unfoldable pub rested : ℕ → Bool → ℕ → List ℕ → List (List ℕ) → ℕ → Line
-rested verb acceptor n i fs room = frontThen (fit room (restIn (formOf verb .rest) fs)) (line verb acceptor n i)
+unfoldable pub rested : ℕ → Bool → ℕ → ℕ → List ℕ → List (List ℕ) → ℕ → Line
+rested verb acceptor marks n i fs room = frontThen (fit room (restIn (formOf verb .rest) fs)) (line verb acceptor marks n i)
 
 -- the id, and what is behind it
-unfoldable pub named : ℕ → Bool → ℕ → List (List ℕ) → ℕ → Line
-named verb acceptor n fs room =
+unfoldable pub named : ℕ → Bool → ℕ → ℕ → List (List ℕ) → ℕ → Line
+named verb acceptor marks n fs room =
     idThen (idIn (hasId (formOf verb .id) acceptor) fs)
-    (λ i. rested verb acceptor n i (past (hasId (formOf verb .id) acceptor) fs) room)
+    (λ i. rested verb acceptor marks n i (past (hasId (formOf verb .id) acceptor) fs) room)
 
 -- the number, and what is behind it
-unfoldable pub numbered : ℕ → Bool → List (List ℕ) → ℕ → Line
-numbered verb acceptor fs room =
+unfoldable pub numbered : ℕ → Bool → ℕ → List (List ℕ) → ℕ → Line
+numbered verb acceptor marks fs room =
     numberThen (numberIn (formOf verb .number) fs)
-    (λ n. named verb acceptor n (past (not (eqb (formOf verb .number) NONE)) fs) room)
+    (λ n. named verb acceptor marks n (past (not (eqb (formOf verb .number) NONE)) fs) room)
 
 -- a verb and an end, which both have to be some
-unfoldable pub called : ℕ → ℕ → List (List ℕ) → ℕ → Line
-called verb end fs room = cond (eqb end 0) badLine (cond (eqb verb BAD) badLine (numbered verb (eqb end 2) fs room))
+unfoldable pub called : ℕ → ℕ → ℕ → List (List ℕ) → ℕ → Line
+called verb end marks fs room = cond (eqb end 0) badLine (cond (eqb verb BAD) badLine (numbered verb (eqb end 2) marks fs room))
 
--- "open i ..", "open a ..", and "E offer .." to "E choose .."
+-- "E choose MARKS exchange OCTETS", "E choose MARKS verify TYPE OCTETS", "E choose MARKS alert CODE"
+unfoldable pub chosen : ℕ → List (List ℕ) → ℕ → Line
+chosen end fs room =
+    numberThen (numberIn MARKS fs)
+    (λ marks. called (speechVerb (placeOf (first (others fs)) speeches)) end marks (others (others fs)) room)
+
+-- "open i ..", "open a ..", "E offer .." to "E read ..", and "E choose .."
 unfoldable pub fieldsLine : List (List ℕ) → ℕ → Line
 fieldsLine [] room = badLine
 fieldsLine (w ∷ []) room = badLine
 fieldsLine (w ∷ x ∷ fs) room =
-    cond (sameOctets w (quoted "open")) (called OPEN (placeOf x ends) fs room) (called (verbOf (placeOf x verbs) fs) (placeOf w ends) fs room)
+    cond (sameOctets w (quoted "open")) (called OPEN (placeOf x ends) 0 fs room)
+    (cond (eqb (verbOf (placeOf x verbs) fs) CHOOSE) (chosen (placeOf w ends) fs room)
+    (called (verbOf (placeOf x verbs) fs) (placeOf w ends) 0 fs room))
 
 unfoldable pub commandOf : List ℕ → ℕ → Line
 commandOf s room = fieldsLine (fieldsOf s) room

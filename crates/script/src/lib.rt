@@ -2,7 +2,7 @@
 ghost use mathlib.Core.Path.{_≡_};
 ghost use lib.ListN.{length};
 ghost use Rattle.script.specs.Steps.{fieldsFrom};
-ghost use Rattle.script.specs.Grammar.{verbs, ends, placeOf, verbOf, hasId, lineAs, badLine, rested, named, numbered, called, commandOf};
+ghost use Rattle.script.specs.Grammar.{verbs, ends, speeches, placeOf, verbOf, speechVerb, hasId, lineAs, badLine, rested, named, numbered, called, chosen, commandOf};
 use field::behind;
 use field::field as field_at;
 use field::past;
@@ -18,11 +18,12 @@ use value::rest_in;
 mod field;
 mod value;
 
-// What a line says: the call, its end, its number (ROOM, MARKS, TYPE or CODE), its id (CONVERSATION or ID), and how many octets it is given (RANDOM, OCTETS,
-// or the ids of a list). A field that a call does not have is zero.
+// What a line says: the call, its end, the MARKS of a choice, its number (ROOM, a reply's MARKS, TYPE or CODE), its id (CONVERSATION or ID), and how many
+// octets it is given (RANDOM, OCTETS, or the ids of a list). A field that a call does not have is zero.
 pub struct Command {
     pub verb: usize,
     pub acceptor: bool,
+    pub marks: u32,
     pub number: u32,
     pub id: [u8; 16],
     pub length: usize,
@@ -45,12 +46,19 @@ impl Command {
 
     pub const READ: usize = 7;
 
+    // the word that begins the calls that choose
     pub const CHOOSE: usize = 8;
 
     // `read` with nothing behind it
     pub const TURN: usize = 9;
 
     pub const OPEN: usize = 10;
+
+    pub const CHOOSE_EXCHANGE: usize = 11;
+
+    pub const CHOOSE_VERIFY: usize = 12;
+
+    pub const CHOOSE_ALERT: usize = 13;
 }
 
 // The fields behind a verb.
@@ -73,7 +81,7 @@ const OCTETS: u8 = 7;
 const IDS: u8 = 8;
 
 // By verb: which number a call has, which id, and what the rest of its line is.
-const NUMBERS: [u8; 11] = [
+const NUMBERS: [u8; 14] = [
     NONE,
     NONE,
     MARKS,
@@ -82,12 +90,15 @@ const NUMBERS: [u8; 11] = [
     CODE,
     CODE,
     NONE,
-    MARKS,
+    NONE,
     NONE,
     ROOM,
+    NONE,
+    CODE,
+    CODE,
 ];
 
-const NAMES: [u8; 11] = [
+const NAMES: [u8; 14] = [
     NONE,
     NONE,
     NONE,
@@ -99,9 +110,12 @@ const NAMES: [u8; 11] = [
     NONE,
     NONE,
     CONVERSATION,
+    NONE,
+    NONE,
+    NONE,
 ];
 
-const RESTS: [u8; 11] = [
+const RESTS: [u8; 14] = [
     NONE,
     RANDOM,
     RANDOM,
@@ -113,6 +127,9 @@ const RESTS: [u8; 11] = [
     NONE,
     NONE,
     IDS,
+    OCTETS,
+    OCTETS,
+    NONE,
 ];
 
 // A line that is none of the calls.
@@ -122,6 +139,7 @@ fn bad() -> Command
     Command {
         verb: 0,
         acceptor: false,
+        marks: 0,
         number: 0,
         id: [0u8; 16],
         length: 0,
@@ -130,7 +148,7 @@ fn bad() -> Command
 
 // A command with the rest of its line.
 fn with_rest(c: Command, line: &[u8], from: usize, lent: &mut [u8]) -> Command
-    ensures { λ r. ⌜ lineAs r (now (lent .exit)) ≡ rested (c .verb) (c .acceptor) (c .number) (c .id) (fieldsFrom (now (line .entry)) from) (length (now (lent .entry))) ⌝ }
+    ensures { λ r. ⌜ lineAs r (now (lent .exit)) ≡ rested (c .verb) (c .acceptor) (c .marks) (c .number) (c .id) (fieldsFrom (now (line .entry)) from) (length (now (lent .entry))) ⌝ }
 {
     let rest = rest_in(line, from, octet(&RESTS, c.verb), lent);
     let Decoded::Octets(length) = rest else {
@@ -156,7 +174,7 @@ fn has_id(kind: u8, acceptor: bool) -> bool
 
 // A command with its id, and what is behind it.
 fn with_id(c: Command, line: &[u8], from: usize, lent: &mut [u8]) -> Command
-    ensures { λ r. ⌜ lineAs r (now (lent .exit)) ≡ named (c .verb) (c .acceptor) (c .number) (fieldsFrom (now (line .entry)) from) (length (now (lent .entry))) ⌝ }
+    ensures { λ r. ⌜ lineAs r (now (lent .exit)) ≡ named (c .verb) (c .acceptor) (c .marks) (c .number) (fieldsFrom (now (line .entry)) from) (length (now (lent .entry))) ⌝ }
 {
     let some = has_id(octet(&NAMES, c.verb), c.acceptor);
     let id = id_in(line, from, some);
@@ -170,8 +188,15 @@ fn with_id(c: Command, line: &[u8], from: usize, lent: &mut [u8]) -> Command
 }
 
 // A command of a verb with its number, and what is behind it.
-fn with_number(verb: usize, acceptor: bool, line: &[u8], from: usize, lent: &mut [u8]) -> Command
-    ensures { λ r. ⌜ lineAs r (now (lent .exit)) ≡ numbered verb acceptor (fieldsFrom (now (line .entry)) from) (length (now (lent .entry))) ⌝ }
+fn with_number(
+    verb: usize,
+    acceptor: bool,
+    marks: u32,
+    line: &[u8],
+    from: usize,
+    lent: &mut [u8],
+) -> Command
+    ensures { λ r. ⌜ lineAs r (now (lent .exit)) ≡ numbered verb acceptor marks (fieldsFrom (now (line .entry)) from) (length (now (lent .entry))) ⌝ }
 {
     let kind = octet(&NUMBERS, verb);
     let n = number_in(line, from, kind);
@@ -181,6 +206,7 @@ fn with_number(verb: usize, acceptor: bool, line: &[u8], from: usize, lent: &mut
     let c = Command {
         verb,
         acceptor,
+        marks,
         number,
         id: [0u8; 16],
         length: 0,
@@ -189,8 +215,8 @@ fn with_number(verb: usize, acceptor: bool, line: &[u8], from: usize, lent: &mut
 }
 
 // A command of a verb at an end, by their places: 0 is none, and the acceptor is 2.
-fn call(verb: usize, end: usize, line: &[u8], from: usize, lent: &mut [u8]) -> Command
-    ensures { λ r. ⌜ lineAs r (now (lent .exit)) ≡ called verb end (fieldsFrom (now (line .entry)) from) (length (now (lent .entry))) ⌝ }
+fn call(verb: usize, end: usize, marks: u32, line: &[u8], from: usize, lent: &mut [u8]) -> Command
+    ensures { λ r. ⌜ lineAs r (now (lent .exit)) ≡ called verb end marks (fieldsFrom (now (line .entry)) from) (length (now (lent .entry))) ⌝ }
 {
     if end == 0 {
         return bad();
@@ -198,7 +224,7 @@ fn call(verb: usize, end: usize, line: &[u8], from: usize, lent: &mut [u8]) -> C
     if verb == 0 {
         return bad();
     }
-    with_number(verb, end == 2, line, from, lent)
+    with_number(verb, end == 2, marks, line, from, lent)
 }
 
 // The verb of a word behind which the fields from `from` on stand.
@@ -225,6 +251,36 @@ fn end_place(word: &[u8]) -> usize
     place(word, b"i a")
 }
 
+// The verb of a word behind `choose MARKS`.
+fn speech(word: &[u8]) -> usize
+    ensures { λ r. ⌜ r ≡ speechVerb (placeOf (now (word .entry)) speeches) ⌝ }
+{
+    let k = place(word, b"exchange verify alert");
+    if k == 1 {
+        return Command::CHOOSE_EXCHANGE;
+    }
+    if k == 2 {
+        return Command::CHOOSE_VERIFY;
+    }
+    if k == 3 {
+        return Command::CHOOSE_ALERT;
+    }
+    Command::BAD
+}
+
+// A command that chooses, at an end, from its MARKS on.
+fn choice(end: usize, line: &[u8], from: usize, lent: &mut [u8]) -> Command
+    ensures { λ r. ⌜ lineAs r (now (lent .exit)) ≡ chosen end (fieldsFrom (now (line .entry)) from) (length (now (lent .entry))) ⌝ }
+{
+    let n = number_in(line, from, MARKS);
+    let Number::Is(marks) = n else {
+        return bad();
+    };
+    let at = behind(line, from);
+    let v = speech(field_at(line, at));
+    call(v, end, marks, line, behind(line, at), lent)
+}
+
 // The command of a line. Its octets are put at the front of the lent slice; what then stands behind them, or in the slice of a bad line, is left open.
 pub fn read_command(line: &[u8], lent: &mut [u8]) -> Command
     ensures { λ r. ⌜ lineAs r (now (lent .exit)) ≡ commandOf (now (line .entry)) (length (now (lent .entry))) ⌝ }
@@ -234,7 +290,11 @@ pub fn read_command(line: &[u8], lent: &mut [u8]) -> Command
     let next = field_at(line, at);
     let from = behind(line, at);
     if is_word(word, b"open") {
-        return call(Command::OPEN, end_place(next), line, from, lent);
+        return call(Command::OPEN, end_place(next), 0, line, from, lent);
     }
-    call(verb(next, line, from), end_place(word), line, from, lent)
+    let v = verb(next, line, from);
+    if v == Command::CHOOSE {
+        return choice(end_place(word), line, from, lent);
+    }
+    call(v, end_place(word), 0, line, from, lent)
 }

@@ -4,6 +4,7 @@ ghost use Rattle.encode.specs.Encode.{ofAlert};
 ghost use Rattle.conversation.specs.Turns.{ALERT};
 ghost use Rattle.conversation.specs.Outcomes.{Outcome};
 ghost use Rattle.conversation.specs.Writing.{alarm, speaking};
+ghost use Rattle.conversation.specs.Choosing.{choosing};
 ghost use Rattle.calls.specs.Calls.{Ready, Appended};
 use calls::ALERT;
 use calls::answer;
@@ -13,6 +14,9 @@ use conversation::Answer;
 use conversation::Record;
 use encode_alert::write;
 use message::Kind;
+use negotiating::choice::choice_refusal;
+use negotiating::choice::chosen_record;
+use negotiating::choice::name_choice;
 use sending::named_refusal;
 use sending::scheme_id;
 use vector::TokenPlace;
@@ -47,4 +51,17 @@ pub fn write_alert(r: Record, transcript: &mut [u8], code: i32) -> Answer
     let id = scheme_id(r);
     let next = append_alert(r, transcript, id, code);
     answer(0, TokenPlace(0), next)
+}
+
+// Chooses, and writes an ALERT of the chosen scheme. Where it is refused, nothing is chosen and nothing written.
+pub fn choose_alert(r: Record, transcript: &mut [u8], marks: u16, code: i32) -> Answer
+    ensures { λ a. ⌜ _≡_ {A = Outcome} (record { answer = a; transcript = now (transcript .exit) }) (choosing r (now (transcript .entry)) marks (alarm code)) ⌝ }
+{
+    let n = choice_refusal(r, ALERT, marks);
+    if n != 0 {
+        return answer(n, TokenPlace(0), r);
+    }
+    let next = chosen_record(r, marks);
+    let a = write_alert(next, transcript, code);
+    name_choice(r, marks, a)
 }

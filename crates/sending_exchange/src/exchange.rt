@@ -3,6 +3,7 @@ ghost use mathlib.Core.Path.{_≡_};
 ghost use Rattle.encode.specs.Encode.{ofExchange};
 ghost use Rattle.conversation.specs.Outcomes.{Outcome};
 ghost use Rattle.conversation.specs.Writing.{request, askedBy, speaking};
+ghost use Rattle.conversation.specs.Choosing.{choosing};
 ghost use Rattle.calls.specs.Calls.{Ready, Appended};
 use calls::EXCHANGE;
 use calls::answer;
@@ -13,6 +14,9 @@ use conversation::Record;
 use conversation::turns::writing_token;
 use encode_exchange::write;
 use message::Kind;
+use negotiating::choice::choice_refusal;
+use negotiating::choice::chosen_record;
+use negotiating::choice::name_choice;
 use sending::named_refusal;
 use sending::scheme_id;
 use vector::TokenPlace;
@@ -60,4 +64,17 @@ pub fn write_exchange(r: Record, transcript: &mut [u8], value: &[u8]) -> Answer
     let mut next = append_payload(r, transcript, EXCHANGE, id, value);
     next.asked = asked;
     answer(0, TokenPlace(0), next)
+}
+
+// Chooses, and writes an AP_REQUEST of the chosen scheme. Where it is refused, nothing is chosen and nothing written.
+pub fn choose_exchange(r: Record, transcript: &mut [u8], marks: u16, value: &[u8]) -> Answer
+    ensures { λ a. ⌜ _≡_ {A = Outcome} (record { answer = a; transcript = now (transcript .exit) }) (choosing r (now (transcript .entry)) marks (request (now (value .entry)))) ⌝ }
+{
+    let n = choice_refusal(r, EXCHANGE, marks);
+    if n != 0 {
+        return answer(n, TokenPlace(0), r);
+    }
+    let next = chosen_record(r, marks);
+    let a = write_exchange(next, transcript, value);
+    name_choice(r, marks, a)
 }

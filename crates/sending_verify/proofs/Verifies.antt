@@ -1,7 +1,7 @@
 -- VERIFY, by its refusal, in the words of the code.
 -- Assumes nothing.
 use Prim.Native.Nat.{ℕ, _+_}
-use mathlib.Core.Path.{_≡_, refl}
+use mathlib.Core.Path.{_≡_, refl, ap}
 use mathlib.Core.Bool.{true}
 use mathlib.Core.List.{List}
 use lib.ListN.{length}
@@ -13,9 +13,12 @@ use Rattle.conversation.specs.State.{schemeAt}
 use Rattle.conversation.specs.Turns.{typeOf}
 use Rattle.conversation.specs.Outcomes.{Outcome, answered}
 use Rattle.conversation.specs.Writing.{schemeNow, namedRows, checksum, speaking}
-use Rattle.calls.specs.Calls.{writeRefusal, Ready, Appended}
+use Rattle.conversation.specs.Choosing.{chose, choiceRows, choosing}
+use Rattle.calls.specs.Calls.{callRefusal, writeRefusal, Ready, Appended}
 use Rattle.conversation.specs.Claims.{Arrays}
 use Rattle.calls.proofs.Writes.{changed, write-ready}
+use Rattle.negotiating.specs.Ready.{namedChoice}
+use Rattle.negotiating.proofs.Choices.{choose-made}
 use Rattle.sending.proofs.Named.{named-refused, named-written}
 
 module _ (r : Record) (arrays : Arrays r) (d : List ℕ) (type : ℤ) (value : List ℕ) (n : ℕ) (n-is : n ≡ writeRefusal r 4 (namedRows r) (80 + length value) (length d)) where
@@ -37,3 +40,9 @@ module _ (r : Record) (arrays : Arrays r) (d : List ℕ) (type : ℤ) (value : L
           → _≡_ {A = Outcome} (record { answer = a; transcript = d' }) (speaking r d (checksum type value))
       unfolding speaking
       verify-written = named-written r arrays d 4 verify (λ s l. l) n n-is z (λ q. record { marks = q .marks; told = q .told; asked = q .asked; verified = true }) s s-is _ (rw t-is)
+
+-- ---- with the choice
+pub choose-verify-made : (r : Record) (d : List ℕ) (m : ℕ) (type : ℤ) (value : List ℕ) (n : ℕ) → n ≡ callRefusal r (choiceRows r m 4) → n ≡ 0 → (q : Record) → q ≡ chose r m → (t : ℤ) → t ≡ type
+    → (o : Answer) (d' : List ℕ) → _≡_ {A = Outcome} (record { answer = o; transcript = d' }) (speaking q d (checksum t value)) → (a : Answer) → a ≡ namedChoice r m o
+    → _≡_ {A = Outcome} (record { answer = a; transcript = d' }) (choosing r d m (checksum type value))
+choose-verify-made r d m type value n n-is z q q-is t t-is = choose-made r d m (checksum type value) n n-is z q q-is (checksum t value) (ap (λ (x : ℤ). checksum x value) t-is)

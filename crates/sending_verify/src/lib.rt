@@ -4,6 +4,7 @@ ghost use Rattle.encode.specs.Encode.{ofVerify};
 ghost use Rattle.conversation.specs.Turns.{VERIFY};
 ghost use Rattle.conversation.specs.Outcomes.{Outcome};
 ghost use Rattle.conversation.specs.Writing.{checksum as Speech·checksum, speaking};
+ghost use Rattle.conversation.specs.Choosing.{choosing};
 ghost use Rattle.calls.specs.Calls.{Ready, Appended};
 use calls::VERIFY;
 use calls::answer;
@@ -13,6 +14,9 @@ use conversation::Answer;
 use conversation::Record;
 use encode_verify::write;
 use message::Kind;
+use negotiating::choice::choice_refusal;
+use negotiating::choice::chosen_record;
+use negotiating::choice::name_choice;
 use sending::named_refusal;
 use sending::scheme_id;
 use vector::TokenPlace;
@@ -49,4 +53,23 @@ pub fn write_verify(r: Record, transcript: &mut [u8], checksum: i32, value: &[u8
     let mut next = append_verify(r, transcript, id, checksum, value);
     next.verified = true;
     answer(0, TokenPlace(0), next)
+}
+
+// Chooses, and writes a VERIFY of the chosen scheme. Where it is refused, nothing is chosen and nothing written.
+pub fn choose_verify(
+    r: Record,
+    transcript: &mut [u8],
+    marks: u16,
+    checksum: i32,
+    value: &[u8],
+) -> Answer
+    ensures { λ a. ⌜ _≡_ {A = Outcome} (record { answer = a; transcript = now (transcript .exit) }) (choosing r (now (transcript .entry)) marks (Speech·checksum checksum (now (value .entry)))) ⌝ }
+{
+    let n = choice_refusal(r, VERIFY, marks);
+    if n != 0 {
+        return answer(n, TokenPlace(0), r);
+    }
+    let next = chosen_record(r, marks);
+    let a = write_verify(next, transcript, checksum, value);
+    name_choice(r, marks, a)
 }

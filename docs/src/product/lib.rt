@@ -6,7 +6,9 @@ use negoex::alert_value;
 use negoex::alerts;
 use negoex::checksum;
 use negoex::checksum_type;
-use negoex::choose;
+use negoex::choose_alert;
+use negoex::choose_exchange;
+use negoex::choose_verify;
 use negoex::error_code;
 use negoex::exchange;
 use negoex::extension_type;
@@ -82,13 +84,22 @@ pub extern "C" fn ours_initiator(transcript: &mut [u8], own: &[u8], value: &[u8]
     write_exchange(told.next, transcript, value).refusal
 }
 
+// The choice with each content: all three attempts stand on the record behind the reply.
 #[no_mangle]
 pub extern "C" fn ours_choice(transcript: &mut [u8], token: &[u8], own: &[u8], value: &[u8]) -> u32
 {
     let opened = open(false, own, [7u8; 16]);
     let heard = read(opened.next, transcript, token);
-    let chosen = choose(heard.next, 0);
-    let verified = write_verify(chosen.next, transcript, 15, value);
+    let asked = choose_exchange(heard.next, transcript, 0, value);
+    let verified = choose_verify(asked.next, transcript, 0, 15, value);
+    choose_alert(verified.next, transcript, 0, 0).refusal
+}
+
+#[no_mangle]
+pub extern "C" fn ours_later(transcript: &mut [u8], own: &[u8], value: &[u8]) -> u32
+{
+    let opened = open(true, own, [7u8; 16]);
+    let verified = write_verify(opened.next, transcript, 15, value);
     write_alert(verified.next, transcript, 0).refusal
 }
 

@@ -19,23 +19,14 @@ same-length c = search needs
 returns-2 : tie.Need-returns-2
 returns-2 c = search calls
 
-bits-requires : tie.Need-bits-requires
-bits-requires c κs = search needs
-
 choose-requires : tie.Need-choose-requires
 choose-requires c κs = search needs
-
-returns-3 : tie.Need-returns-3
-returns-3 c = search calls
-
-write-requires : tie.Need-write-requires
-write-requires c κs = search needs
 
 same-length-2 : tie.Need-same-length-2
 same-length-2 c = search needs
 
-returns-4 : tie.Need-returns-4
-returns-4 c = search calls
+returns-3 : tie.Need-returns-3
+returns-3 c = search calls
 
 pub make-spec : {M : Type 1} → statement M
 make-spec =
@@ -46,9 +37,6 @@ make-spec =
     read-requires
     same-length
     returns-2
-    bits-requires
     choose-requires
-    returns-3
-    write-requires
     same-length-2
-    returns-4)
+    returns-3)

@@ -5,6 +5,9 @@ use borrow.Author.Needs.{needs}
 use Rattle.reports.proofs.choice.Statement.{statement}
 use Rattle.reports.proofs.choice.Tie as tie
 
+slice-aggregate-append : tie.Need-slice-aggregate-append
+slice-aggregate-append c = search needs
+
 append-requires : tie.Need-append-requires
 append-requires c κs = search needs
 
@@ -20,8 +23,8 @@ slice-aggregate-field c = search needs
 field-requires : tie.Need-field-requires
 field-requires c κs = search needs
 
-slice-aggregate-append : tie.Need-slice-aggregate-append
-slice-aggregate-append c = search needs
+slice-aggregate-append-2 : tie.Need-slice-aggregate-append-2
+slice-aggregate-append-2 c = search needs
 
 append-requires-2 : tie.Need-append-requires-2
 append-requires-2 c κs = search needs
@@ -37,12 +40,13 @@ pub choice-spec : {M : Type 1} → statement M
 choice-spec =
     tie.close
     (tie.spec
+    slice-aggregate-append
     append-requires
     slice-aggregate-id
     id-requires
     slice-aggregate-field
     field-requires
-    slice-aggregate-append
+    slice-aggregate-append-2
     append-requires-2
     same-length
     returns)

@@ -46,8 +46,11 @@ same-length-3 c = search needs
 returns-3 : tie.Need-returns-3
 returns-3 c = search reports
 
-slice-aggregate-choice : tie.Need-slice-aggregate-choice
-slice-aggregate-choice c = search needs
+wrote-requires : tie.Need-wrote-requires
+wrote-requires c κs = search needs
+
+names-choice-requires : tie.Need-names-choice-requires
+names-choice-requires c κs = search needs
 
 choice-requires : tie.Need-choice-requires
 choice-requires c κs = search needs
@@ -58,32 +61,17 @@ same-length-4 c = search needs
 returns-4 : tie.Need-returns-4
 returns-4 c = search reports
 
-wrote-requires : tie.Need-wrote-requires
-wrote-requires c κs = search needs
-
-slice-aggregate-choice-2 : tie.Need-slice-aggregate-choice-2
-slice-aggregate-choice-2 c = search needs
-
-choice-requires-2 : tie.Need-choice-requires-2
-choice-requires-2 c κs = search needs
-
-same-length-5 : tie.Need-same-length-5
-same-length-5 c = search needs
-
-returns-5 : tie.Need-returns-5
-returns-5 c = search reports
-
 slice-aggregate-append-2 : tie.Need-slice-aggregate-append-2
 slice-aggregate-append-2 c = search needs
 
 append-requires-2 : tie.Need-append-requires-2
 append-requires-2 c κs = search needs
 
-same-length-6 : tie.Need-same-length-6
-same-length-6 c = search needs
+same-length-5 : tie.Need-same-length-5
+same-length-5 c = search needs
 
-returns-6 : tie.Need-returns-6
-returns-6 c = search reports
+returns-5 : tie.Need-returns-5
+returns-5 c = search reports
 
 pub report-spec : {M : Type 1} → statement M
 report-spec =
@@ -103,16 +91,12 @@ report-spec =
     numbers-requires-2
     same-length-3
     returns-3
-    slice-aggregate-choice
+    wrote-requires
+    names-choice-requires
     choice-requires
     same-length-4
     returns-4
-    wrote-requires
-    slice-aggregate-choice-2
-    choice-requires-2
-    same-length-5
-    returns-5
     slice-aggregate-append-2
     append-requires-2
-    same-length-6
-    returns-6)
+    same-length-5
+    returns-5)

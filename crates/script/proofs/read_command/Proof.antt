@@ -40,14 +40,26 @@ verb-requires c κs = search needs
 end-place-requires-2 : tie.Need-end-place-requires-2
 end-place-requires-2 c κs = search needs
 
-call-requires-2 : tie.Need-call-requires-2
-call-requires-2 c κs = search needs
+choice-requires : tie.Need-choice-requires
+choice-requires c κs = search needs
 
 same-length-2 : tie.Need-same-length-2
 same-length-2 c = search needs
 
 returns-2 : tie.Need-returns-2
 returns-2 c = search commands
+
+end-place-requires-3 : tie.Need-end-place-requires-3
+end-place-requires-3 c κs = search needs
+
+call-requires-2 : tie.Need-call-requires-2
+call-requires-2 c κs = search needs
+
+same-length-3 : tie.Need-same-length-3
+same-length-3 c = search needs
+
+returns-3 : tie.Need-returns-3
+returns-3 c = search commands
 
 pub read-command-spec : {M : Type 1} → statement M
 read-command-spec =
@@ -65,6 +77,10 @@ read-command-spec =
     returns
     verb-requires
     end-place-requires-2
-    call-requires-2
+    choice-requires
     same-length-2
-    returns-2)
+    returns-2
+    end-place-requires-3
+    call-requires-2
+    same-length-3
+    returns-3)
