@@ -19,7 +19,7 @@ use Rattle.token.specs.Split.{join}
 use Rattle.token.specs.Walk.{messagesOf, Accepts}
 use Rattle.token.proofs.Splits.{refused-stops}
 use Rattle.token.proofs.Walks.{answer-accepts, answer-number, answer-refuses}
-use Rattle.host.specs.Host.{Reply, given, refused, andThen, readingReply, messagesIn, answerOf, messagesAnswer, faultPlace, placeAnswer}
+use Rattle.host.specs.Host.{Reply, given, refused, andThen, readingReply, messagesIn, answerOf, lent, writtenIn, messagesAnswer, faultPlace, placeAnswer}
 
 -- ---- numbers
 minus : (n : ℕ) → pos 0 -ℤ pos n ≡ negℤ (pos n)
@@ -61,6 +61,9 @@ module _ (s : List ℕ) (r : Answer) (r-is : told r ≡ outcomeOf (tokenOf s)) w
     pub any-refused : (f : List Placed → Reply ℕ) (z : ℤ) → SFits w64 z → z ≡ negℤ (pos n) → toZ w64 (ofZ w64 z) ≡ answerOf (andThen (messagesIn s) f)
     any-refused f z g e = same z g (negℤ (pos n)) e ∙ sym (ap (λ (x : Reply (List Placed)). answerOf (andThen x f)) reply-refused)
 
+    pub lent-refused : (f : List Placed → Reply (List ℕ)) (d : List ℕ) (z : ℤ) → SFits w64 z → z ≡ negℤ (pos n) → lent (toZ w64 (ofZ w64 z)) d ≡ writtenIn d (andThen (messagesIn s) f)
+    lent-refused f d z g e = ap (λ (x : ℤ). lent x d) (same z g (negℤ (pos n)) e) ∙ sym (ap (λ (x : Reply (List Placed)). writtenIn d (andThen x f)) reply-refused)
+
     pub place-fault : (z : ℤ) → SFits w64 z → z ≡ pos (place .0) → toZ w64 (ofZ w64 z) ≡ placeAnswer s
     place-fault z f e = same z f (pos (place .0)) e ∙ sym (ap (λ (x : Reading). pos (faultPlace x)) (answer-refuses s r r-is n place here))
 
@@ -73,4 +76,4 @@ module _ (s : List ℕ) (r : Answer) (r-is : told r ≡ outcomeOf (tokenOf s)) w
       ]
     ]
 
-pub ruleset answers = (messages-number, place-none, any-refused, place-fault, fault-small)
+pub ruleset answers = (answer-accepts, messages-number, place-none, any-refused, lent-refused, place-fault, fault-small)

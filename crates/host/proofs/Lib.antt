@@ -1,3 +1,5 @@
 pub mod Answers
 pub mod Messages
 pub mod Vectors
+pub mod Counting
+pub mod Windows

@@ -1,14 +1,20 @@
 // The library for C hosts. Each function is one reading of the token, over numbers and byte slices; a refusal is its number negated.
 ghost use mathlib.Core.Path.{_≡_};
 ghost use Prim.Native.Nat.{_<_, _^_};
+ghost use lib.ListN.{length};
 ghost use lib.IntN.{pos, negℤ};
 ghost use Rattle.token.specs.Token.{tokenOf};
-ghost use Rattle.host.specs.Host.{lackOf, lent, messagesAnswer, placeAnswer, fieldAnswer, conversationAnswer, vectorsAnswer, vectorPlaceAnswer, vectorLengthAnswer};
+ghost use Rattle.token.specs.Walk.{messagesOf, Accepts};
+ghost use Rattle.listing.specs.Listing.{allLines};
+ghost use Rattle.host.specs.Host.{lackOf, lent, messagesAnswer, placeAnswer, fieldAnswer, conversationAnswer, vectorsAnswer, vectorPlaceAnswer, vectorLengthAnswer, linesAnswer, windowAnswer};
 use coverage::vectors::vector_count;
 use coverage::vectors::vector_of;
+use lines::count;
+use listing::window;
 use message::field::COMMON_HEADER;
 use message::field::CONVERSATION;
 use message::field::ID;
+use message::walk::first;
 use put::put_octets;
 use table::fields;
 use table::vector_length;
@@ -147,4 +153,63 @@ pub extern "C" fn negoex_vector_length(token: &[u8], message: usize, vector: usi
         return refusal(19);
     }
     wide_number(vector_length(vector_of(m, vector)) as usize)
+}
+
+// The number of lines of an accepted token's messages.
+fn message_lines(token: &[u8]) -> usize
+    requires { ⌜ Accepts (now token) ⌝ }
+    ensures { λ r. ⌜ r ≡ length (allLines (messagesOf (tokenOf (now (token .entry))))) ⌝ }
+{
+    let mut rest = token;
+    let mut n: usize = 0;
+    while 0 < rest.len() {
+        let m = first(rest);
+        let length = m.len();
+        n += count(m);
+        rest = &rest[length..];
+    }
+    n
+}
+
+// The number of lines of the listing.
+#[no_mangle]
+pub extern "C" fn negoex_lines(token: &[u8]) -> i64
+    ensures { λ r. ⌜ r ≡ linesAnswer (now (token .entry)) ⌝ }
+{
+    let r = read_token(token);
+    match r {
+        Answer::Messages(_) => wide_number(message_lines(token) + 1),
+        Answer::Refused(n, _) => refusal(n),
+    }
+}
+
+// A window of the listing of an accepted token.
+fn show_window(token: &[u8], from: usize, end: usize, buffer: &mut [u8]) -> i64
+    requires { ⌜ Accepts (now token) ⌝ }
+    ensures { λ r. ⌜ lent r (now (buffer .exit)) ≡ windowAnswer (now (token .entry)) from end (now (buffer .entry)) ⌝ }
+{
+    // The last line stands behind those of the messages.
+    if message_lines(token) < from {
+        return refusal(19);
+    }
+    let w = window(token, from, end, buffer);
+    if w.lines != 0 {
+        return wide_number(w.octets);
+    }
+    if from < end {
+        return refusal(16);
+    }
+    number(0)
+}
+
+// A window of the listing: as many whole lines from `first` up to, not including, `end` as fit, at the buffer's front.
+#[no_mangle]
+pub extern "C" fn negoex_window(token: &[u8], first: usize, end: usize, buffer: &mut [u8]) -> i64
+    ensures { λ r. ⌜ lent r (now (buffer .exit)) ≡ windowAnswer (now (token .entry)) first end (now (buffer .entry)) ⌝ }
+{
+    let r = read_token(token);
+    match r {
+        Answer::Messages(_) => show_window(token, first, end, buffer),
+        Answer::Refused(n, _) => refusal(n),
+    }
 }
