@@ -22,8 +22,9 @@ use Rattle.windows.proofs.Stepping.{length-texts}
 use Rattle.listing.specs.Listing.{allLines, readingLines, linesOf}
 use Rattle.listing.proofs.Turns.{message-fit}
 use Rattle.listing.proofs.Bounds.{few-lines}
-use Rattle.host.specs.Host.{Reply, given, andThen, readingReply, answerOf, linesAnswer}
-use Rattle.host.proofs.Answers.{same}
+use Rattle.replies.specs.Replies.{Reply, given, andThen, readingReply, answerOf}
+use Rattle.host.specs.Host.{linesAnswer}
+use Rattle.replies.proofs.Answers.{same}
 
 -- the last line stands behind those of the messages
 module _ (s : List ℕ) (a : Accepts s) where

@@ -1,5 +1,2 @@
-pub mod Answers
-pub mod Messages
-pub mod Vectors
 pub mod Counting
 pub mod Windows

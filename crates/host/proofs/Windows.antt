@@ -22,9 +22,10 @@ use Rattle.windows.specs.declared.Shown.{Shown}
 use Rattle.windows.specs.Windows.{fitting, range, Window, asWindow, windowOf}
 use Rattle.windows.proofs.Covers.{gets-on, window-octets}
 use Rattle.listing.specs.Listing.{allLines, linesOf}
-use Rattle.host.specs.Host.{Reply, given, refused, andThen, readingReply, itemAt, fits, lent, writtenIn, windowText, windowAnswer}
-use Rattle.host.proofs.Answers.{same}
-use Rattle.host.proofs.Messages.{item-given, item-refused}
+use Rattle.replies.specs.Replies.{Reply, given, refused, andThen, readingReply, itemAt, fits, lent, writtenIn}
+use Rattle.host.specs.Host.{windowText, windowAnswer}
+use Rattle.replies.proofs.Answers.{same}
+use Rattle.replies.proofs.Messages.{item-given, item-refused}
 use Rattle.host.proofs.Counting.{lines-number}
 
 -- ---- the text of a window of any lines

@@ -19,7 +19,8 @@ use Rattle.token.specs.Walk.{Accepts}
 use Rattle.put.specs.Put.{joined}
 use Rattle.windows.specs.Windows.{Request}
 use Rattle.listing.specs.Listing.{linesOf}
-use Rattle.host.specs.Host.{Lent, windowAnswer}
+use Rattle.replies.specs.Replies.{Lent}
+use Rattle.host.specs.Host.{windowAnswer}
 
 abbrev pub octetsIn : ℤ → ℕ
 octetsIn (pos n) = n

@@ -1,61 +1,27 @@
-// The library for C hosts. Each function is one reading of the token, over numbers and byte slices; a refusal is its number negated.
+// The library for C hosts, over numbers and byte slices: wrappers over the structural reading and the listing's windows. A refusal is its number negated.
+// negoex.h, beside this file's folder, has the prototypes.
 ghost use mathlib.Core.Path.{_≡_};
-ghost use Prim.Native.Nat.{_<_, _^_};
 ghost use lib.ListN.{length};
-ghost use lib.IntN.{pos, negℤ};
 ghost use Rattle.token.specs.Token.{tokenOf};
 ghost use Rattle.token.specs.Walk.{messagesOf, Accepts};
 ghost use Rattle.listing.specs.Listing.{allLines};
-ghost use Rattle.host.specs.Host.{lackOf, lent, messagesAnswer, placeAnswer, fieldAnswer, conversationAnswer, vectorsAnswer, vectorPlaceAnswer, vectorLengthAnswer, linesAnswer, windowAnswer};
-use coverage::vectors::vector_count;
-use coverage::vectors::vector_of;
+ghost use Rattle.replies.specs.Replies.{lent, messagesAnswer, placeAnswer, fieldAnswer, conversationAnswer, vectorsAnswer, vectorPlaceAnswer, vectorLengthAnswer};
+ghost use Rattle.host.specs.Host.{linesAnswer, windowAnswer};
 use lines::count;
 use listing::window;
-use message::field::COMMON_HEADER;
-use message::field::CONVERSATION;
-use message::field::ID;
 use message::walk::first;
-use put::put_octets;
-use table::fields;
-use table::vector_length;
-use table::vector_place;
+use replies::number;
+use replies::refusal;
+use replies::wide_number;
 use token::Answer;
-use token::message_at;
-use token::place_at;
 use token::read_token;
-
-// A number, as an answer.
-fn number(n: u32) -> i64
-    ensures { λ r. ⌜ r ≡ pos n ⌝ }
-{
-    n as i64
-}
-
-// A place or a size, as an answer.
-fn wide_number(n: usize) -> i64
-    requires { ⌜ n < 2 ^ 63 ⌝ }
-    ensures { λ r. ⌜ r ≡ pos n ⌝ }
-{
-    n as i64
-}
-
-// A refusal, as an answer.
-fn refusal(n: u32) -> i64
-    ensures { λ r. ⌜ r ≡ negℤ (pos n) ⌝ }
-{
-    0 - n as i64
-}
 
 // The number of messages.
 #[no_mangle]
 pub extern "C" fn negoex_messages(token: &[u8]) -> i64
     ensures { λ r. ⌜ r ≡ messagesAnswer (now (token .entry)) ⌝ }
 {
-    let r = read_token(token);
-    match r {
-        Answer::Messages(n) => number(n),
-        Answer::Refused(n, _) => refusal(n),
-    }
+    replies::count_messages(token)
 }
 
 // The place of the message at fault; 0 where the token is accepted.
@@ -63,22 +29,7 @@ pub extern "C" fn negoex_messages(token: &[u8]) -> i64
 pub extern "C" fn negoex_place(token: &[u8]) -> i64
     ensures { λ r. ⌜ r ≡ placeAnswer (now (token .entry)) ⌝ }
 {
-    let r = read_token(token);
-    match r {
-        Answer::Messages(_) => number(0),
-        Answer::Refused(_, place) => wide_number(place.0),
-    }
-}
-
-// The number that refuses a message which the token has not.
-fn lack(token: &[u8]) -> u32
-    ensures { λ r. ⌜ r ≡ lackOf (tokenOf (now (token .entry))) ⌝ }
-{
-    let r = read_token(token);
-    match r {
-        Answer::Messages(_) => 19,
-        Answer::Refused(n, _) => n,
-    }
+    replies::fault_place(token)
 }
 
 // A field of a message's header.
@@ -86,15 +37,7 @@ fn lack(token: &[u8]) -> u32
 pub extern "C" fn negoex_field(token: &[u8], message: usize, field: usize) -> i64
     ensures { λ r. ⌜ r ≡ fieldAnswer (now (token .entry)) message field ⌝ }
 {
-    let m = message_at(token, message);
-    if m.len() == 0 {
-        return refusal(lack(token));
-    }
-    let list = fields(place_at(token, message), m);
-    if field < 5 {
-        return number(list[field]);
-    }
-    refusal(19)
+    replies::message_field(token, message, field)
 }
 
 // A message's conversation, at the buffer's front.
@@ -102,14 +45,7 @@ pub extern "C" fn negoex_field(token: &[u8], message: usize, field: usize) -> i6
 pub extern "C" fn negoex_conversation(token: &[u8], message: usize, buffer: &mut [u8]) -> i64
     ensures { λ r. ⌜ lent r (now (buffer .exit)) ≡ conversationAnswer (now (token .entry)) message (now (buffer .entry)) ⌝ }
 {
-    let m = message_at(token, message);
-    if m.len() == 0 {
-        return refusal(lack(token));
-    }
-    if buffer.len() < ID {
-        return refusal(16);
-    }
-    wide_number(put_octets(buffer, 0, &m[CONVERSATION..COMMON_HEADER]))
+    replies::put_conversation(token, message, buffer)
 }
 
 // The number of a message's vectors.
@@ -117,11 +53,7 @@ pub extern "C" fn negoex_conversation(token: &[u8], message: usize, buffer: &mut
 pub extern "C" fn negoex_vectors(token: &[u8], message: usize) -> i64
     ensures { λ r. ⌜ r ≡ vectorsAnswer (now (token .entry)) message ⌝ }
 {
-    let m = message_at(token, message);
-    if m.len() == 0 {
-        return refusal(lack(token));
-    }
-    wide_number(vector_count(m))
+    replies::count_vectors(token, message)
 }
 
 // The token place of a message's vector; an empty one's is its message's.
@@ -129,30 +61,15 @@ pub extern "C" fn negoex_vectors(token: &[u8], message: usize) -> i64
 pub extern "C" fn negoex_vector_place(token: &[u8], message: usize, vector: usize) -> i64
     ensures { λ r. ⌜ r ≡ vectorPlaceAnswer (now (token .entry)) message vector ⌝ }
 {
-    let m = message_at(token, message);
-    if m.len() == 0 {
-        return refusal(lack(token));
-    }
-    if vector_count(m) <= vector {
-        return refusal(19);
-    }
-    let place = vector_place(place_at(token, message), vector_of(m, vector));
-    wide_number(place.0)
+    replies::place_of_vector(token, message, vector)
 }
 
-// A vector's length in octets.
+// The length of a message's vector in octets.
 #[no_mangle]
 pub extern "C" fn negoex_vector_length(token: &[u8], message: usize, vector: usize) -> i64
     ensures { λ r. ⌜ r ≡ vectorLengthAnswer (now (token .entry)) message vector ⌝ }
 {
-    let m = message_at(token, message);
-    if m.len() == 0 {
-        return refusal(lack(token));
-    }
-    if vector_count(m) <= vector {
-        return refusal(19);
-    }
-    wide_number(vector_length(vector_of(m, vector)) as usize)
+    replies::length_of_vector(token, message, vector)
 }
 
 // The number of lines of an accepted token's messages.
@@ -169,18 +86,6 @@ fn message_lines(token: &[u8]) -> usize
         rest = &rest[length..];
     }
     n
-}
-
-// The number of lines of the listing.
-#[no_mangle]
-pub extern "C" fn negoex_lines(token: &[u8]) -> i64
-    ensures { λ r. ⌜ r ≡ linesAnswer (now (token .entry)) ⌝ }
-{
-    let r = read_token(token);
-    match r {
-        Answer::Messages(_) => wide_number(message_lines(token) + 1),
-        Answer::Refused(n, _) => refusal(n),
-    }
 }
 
 // A window of the listing of an accepted token.
@@ -200,6 +105,18 @@ fn show_window(token: &[u8], from: usize, end: usize, buffer: &mut [u8]) -> i64
         return refusal(16);
     }
     number(0)
+}
+
+// The number of lines of the listing.
+#[no_mangle]
+pub extern "C" fn negoex_lines(token: &[u8]) -> i64
+    ensures { λ r. ⌜ r ≡ linesAnswer (now (token .entry)) ⌝ }
+{
+    let r = read_token(token);
+    match r {
+        Answer::Messages(_) => wide_number(message_lines(token) + 1),
+        Answer::Refused(n, _) => refusal(n),
+    }
 }
 
 // A window of the listing: as many whole lines from `first` up to, not including, `end` as fit, at the buffer's front.

@@ -1,5 +1,5 @@
 -- Assumes nothing.
-use Rattle.host.proofs.Answers.{answers}
+use Rattle.replies.proofs.Answers.{answers}
 use borrow.Author.Needs.{needs}
 use Rattle.host.proofs.negoex_window.Statement.{statement}
 use Rattle.host.proofs.negoex_window.Tie as tie

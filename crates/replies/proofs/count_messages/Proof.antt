@@ -1,8 +1,8 @@
 -- Assumes nothing.
-use Rattle.host.proofs.Answers.{answers}
+use Rattle.replies.proofs.Answers.{answers}
 use borrow.Author.Needs.{needs}
-use Rattle.host.proofs.negoex_messages.Statement.{statement}
-use Rattle.host.proofs.negoex_messages.Tie as tie
+use Rattle.replies.proofs.count_messages.Statement.{statement}
+use Rattle.replies.proofs.count_messages.Tie as tie
 
 read-token-requires : tie.Need-read-token-requires
 read-token-requires c κs = search needs
@@ -25,8 +25,8 @@ returns c = search answers
 returns-2 : tie.Need-returns-2
 returns-2 c = search answers
 
-pub negoex-messages-spec : {M : Type 1} → statement M
-negoex-messages-spec =
+pub count-messages-spec : {M : Type 1} → statement M
+count-messages-spec =
     tie.close
     (tie.spec
     read-token-requires

@@ -25,8 +25,8 @@ use Rattle.token.proofs.Splits.{message-length}
 use Rattle.token.proofs.Walks.{whole, accepted-short, answer-accepts, answer-refuses}
 use Rattle.put.specs.Put.{put, Written}
 use Rattle.table.specs.Table.{placed, fieldsIn}
-use Rattle.host.specs.Host.{Reply, given, refused, andThen, readingReply, messagesIn, itemAt, fits, messageIn, lackOf, answerOf, Lent, lent, writtenIn, fieldAnswer, conversationAnswer}
-use Rattle.host.proofs.Answers.{same}
+use Rattle.replies.specs.Replies.{Reply, given, refused, andThen, readingReply, messagesIn, itemAt, fits, messageIn, lackOf, answerOf, Lent, lent, writtenIn, fieldAnswer, conversationAnswer}
+use Rattle.replies.proofs.Answers.{same}
 
 -- ---- item k of a list
 pub item-given : {A : Type 0} (xs : List A) (k : ℕ) (d : A) → k < length xs → itemAt xs k ≡ given (getD xs k d)

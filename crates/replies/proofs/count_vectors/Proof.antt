@@ -1,9 +1,9 @@
 -- Assumes nothing.
-use Rattle.host.proofs.Messages.{messages}
-use Rattle.host.proofs.Vectors.{vectors}
+use Rattle.replies.proofs.Messages.{messages}
+use Rattle.replies.proofs.Vectors.{vectors}
 use borrow.Author.Needs.{needs}
-use Rattle.host.proofs.negoex_vectors.Statement.{statement}
-use Rattle.host.proofs.negoex_vectors.Tie as tie
+use Rattle.replies.proofs.count_vectors.Statement.{statement}
+use Rattle.replies.proofs.count_vectors.Tie as tie
 
 message-at-requires : tie.Need-message-at-requires
 message-at-requires c κs = search needs
@@ -26,8 +26,8 @@ wide-number-requires c κs = search vectors
 returns-2 : tie.Need-returns-2
 returns-2 c = search vectors
 
-pub negoex-vectors-spec : {M : Type 1} → statement M
-negoex-vectors-spec =
+pub count-vectors-spec : {M : Type 1} → statement M
+count-vectors-spec =
     tie.close
     (tie.spec
     message-at-requires

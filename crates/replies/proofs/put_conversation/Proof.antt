@@ -1,8 +1,8 @@
 -- Assumes nothing.
-use Rattle.host.proofs.Messages.{messages}
+use Rattle.replies.proofs.Messages.{messages}
 use borrow.Author.Needs.{needs}
-use Rattle.host.proofs.negoex_conversation.Statement.{statement}
-use Rattle.host.proofs.negoex_conversation.Tie as tie
+use Rattle.replies.proofs.put_conversation.Statement.{statement}
+use Rattle.replies.proofs.put_conversation.Tie as tie
 
 message-at-requires : tie.Need-message-at-requires
 message-at-requires c κs = search needs
@@ -43,8 +43,8 @@ same-length c = search needs
 returns-3 : tie.Need-returns-3
 returns-3 c = search messages
 
-pub negoex-conversation-spec : {M : Type 1} → statement M
-negoex-conversation-spec =
+pub put-conversation-spec : {M : Type 1} → statement M
+put-conversation-spec =
     tie.close
     (tie.spec
     message-at-requires

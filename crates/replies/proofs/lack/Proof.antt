@@ -1,8 +1,8 @@
 -- Assumes nothing.
-use Rattle.host.proofs.Messages.{lacks}
+use Rattle.replies.proofs.Messages.{lacks}
 use borrow.Author.Needs.{needs}
-use Rattle.host.proofs.lack.Statement.{statement}
-use Rattle.host.proofs.lack.Tie as tie
+use Rattle.replies.proofs.lack.Statement.{statement}
+use Rattle.replies.proofs.lack.Tie as tie
 
 read-token-requires : tie.Need-read-token-requires
 read-token-requires c κs = search needs

@@ -23,9 +23,9 @@ use Rattle.token.proofs.Insides.{message-inside}
 use Rattle.coverage.specs.Coverage.{headerIn, vectorsIn, noVector, vectorIn}
 use Rattle.coverage.proofs.Numbered.{count-nego, count-one, count-alert}
 use Rattle.table.specs.Table.{vectorPlace}
-use Rattle.host.specs.Host.{Reply, given, andThen, itemAt, messageIn, answerOf, vectorsAnswer, vectorPlaceAnswer, vectorLengthAnswer}
-use Rattle.host.proofs.Answers.{same}
-use Rattle.host.proofs.Messages.{item-given, item-refused, message-given, stand}
+use Rattle.replies.specs.Replies.{Reply, given, andThen, itemAt, messageIn, answerOf, vectorsAnswer, vectorPlaceAnswer, vectorLengthAnswer}
+use Rattle.replies.proofs.Answers.{same}
+use Rattle.replies.proofs.Messages.{item-given, item-refused, message-given, stand}
 
 length-part : (m : List ℕ) (v : Vector) → length (part m v) ≤ length m
 length-part m v = omega (arith, length-take (extent v) (drop (v .offset .0) m), length-drop (v .offset .0) m)

@@ -1,8 +1,8 @@
 -- Assumes nothing.
-use Rattle.host.proofs.Messages.{messages}
+use Rattle.replies.proofs.Messages.{messages}
 use borrow.Author.Needs.{needs}
-use Rattle.host.proofs.negoex_field.Statement.{statement}
-use Rattle.host.proofs.negoex_field.Tie as tie
+use Rattle.replies.proofs.message_field.Statement.{statement}
+use Rattle.replies.proofs.message_field.Tie as tie
 
 message-at-requires : tie.Need-message-at-requires
 message-at-requires c κs = search needs
@@ -40,8 +40,8 @@ refusal-requires-2 c κs = search needs
 returns-3 : tie.Need-returns-3
 returns-3 c = search messages
 
-pub negoex-field-spec : {M : Type 1} → statement M
-negoex-field-spec =
+pub message-field-spec : {M : Type 1} → statement M
+message-field-spec =
     tie.close
     (tie.spec
     message-at-requires

@@ -3,8 +3,8 @@ use native.Mathlib.Omega.{arith}
 use mir.Syntax.{w64}
 use mir.Facts.{toZ-pos}
 use borrow.Author.Needs.{needs}
-use Rattle.host.proofs.number.Statement.{statement}
-use Rattle.host.proofs.number.Tie as tie
+use Rattle.replies.proofs.number.Statement.{statement}
+use Rattle.replies.proofs.number.Tie as tie
 
 cast-result : tie.Need-cast-result
 cast-result c = search needs

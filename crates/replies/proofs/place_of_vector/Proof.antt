@@ -1,9 +1,9 @@
 -- Assumes nothing.
-use Rattle.host.proofs.Messages.{messages}
-use Rattle.host.proofs.Vectors.{vectors}
+use Rattle.replies.proofs.Messages.{messages}
+use Rattle.replies.proofs.Vectors.{vectors}
 use borrow.Author.Needs.{needs}
-use Rattle.host.proofs.negoex_vector_length.Statement.{statement}
-use Rattle.host.proofs.negoex_vector_length.Tie as tie
+use Rattle.replies.proofs.place_of_vector.Statement.{statement}
+use Rattle.replies.proofs.place_of_vector.Tie as tie
 
 message-at-requires : tie.Need-message-at-requires
 message-at-requires c κs = search needs
@@ -26,11 +26,14 @@ refusal-requires-2 c κs = search needs
 returns-2 : tie.Need-returns-2
 returns-2 c = search vectors
 
+place-at-requires : tie.Need-place-at-requires
+place-at-requires c κs = search needs
+
 vector-of-requires : tie.Need-vector-of-requires
 vector-of-requires c κs = search needs
 
-vector-length-requires : tie.Need-vector-length-requires
-vector-length-requires c κs = search needs
+vector-place-requires : tie.Need-vector-place-requires
+vector-place-requires c κs = search messages
 
 wide-number-requires : tie.Need-wide-number-requires
 wide-number-requires c κs = search vectors
@@ -38,8 +41,8 @@ wide-number-requires c κs = search vectors
 returns-3 : tie.Need-returns-3
 returns-3 c = search vectors
 
-pub negoex-vector-length-spec : {M : Type 1} → statement M
-negoex-vector-length-spec =
+pub place-of-vector-spec : {M : Type 1} → statement M
+place-of-vector-spec =
     tie.close
     (tie.spec
     message-at-requires
@@ -49,7 +52,8 @@ negoex-vector-length-spec =
     vector-count-requires
     refusal-requires-2
     returns-2
+    place-at-requires
     vector-of-requires
-    vector-length-requires
+    vector-place-requires
     wide-number-requires
     returns-3)

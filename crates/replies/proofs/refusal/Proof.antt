@@ -1,10 +1,10 @@
 -- Assumes nothing.
 use mir.Syntax.{w64}
 use mir.Facts.{toZ-ofZ}
-use Rattle.host.proofs.Answers.{negated, negated-fits}
+use Rattle.replies.proofs.Answers.{negated, negated-fits}
 use borrow.Author.Needs.{needs}
-use Rattle.host.proofs.refusal.Statement.{statement}
-use Rattle.host.proofs.refusal.Tie as tie
+use Rattle.replies.proofs.refusal.Statement.{statement}
+use Rattle.replies.proofs.refusal.Tie as tie
 
 cast-result : tie.Need-cast-result
 cast-result c = search needs

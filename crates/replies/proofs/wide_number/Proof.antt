@@ -2,8 +2,8 @@
 use mir.Syntax.{w64}
 use mir.Facts.{toZ-pos}
 use borrow.Author.Needs.{needs}
-use Rattle.host.proofs.wide_number.Statement.{statement}
-use Rattle.host.proofs.wide_number.Tie as tie
+use Rattle.replies.proofs.wide_number.Statement.{statement}
+use Rattle.replies.proofs.wide_number.Tie as tie
 
 cast-result : tie.Need-cast-result
 cast-result c = search needs

@@ -1,9 +1,9 @@
 -- Assumes nothing.
-use Rattle.host.proofs.Messages.{messages}
-use Rattle.host.proofs.Vectors.{vectors}
+use Rattle.replies.proofs.Messages.{messages}
+use Rattle.replies.proofs.Vectors.{vectors}
 use borrow.Author.Needs.{needs}
-use Rattle.host.proofs.negoex_vector_place.Statement.{statement}
-use Rattle.host.proofs.negoex_vector_place.Tie as tie
+use Rattle.replies.proofs.length_of_vector.Statement.{statement}
+use Rattle.replies.proofs.length_of_vector.Tie as tie
 
 message-at-requires : tie.Need-message-at-requires
 message-at-requires c κs = search needs
@@ -26,14 +26,11 @@ refusal-requires-2 c κs = search needs
 returns-2 : tie.Need-returns-2
 returns-2 c = search vectors
 
-place-at-requires : tie.Need-place-at-requires
-place-at-requires c κs = search needs
-
 vector-of-requires : tie.Need-vector-of-requires
 vector-of-requires c κs = search needs
 
-vector-place-requires : tie.Need-vector-place-requires
-vector-place-requires c κs = search messages
+vector-length-requires : tie.Need-vector-length-requires
+vector-length-requires c κs = search needs
 
 wide-number-requires : tie.Need-wide-number-requires
 wide-number-requires c κs = search vectors
@@ -41,8 +38,8 @@ wide-number-requires c κs = search vectors
 returns-3 : tie.Need-returns-3
 returns-3 c = search vectors
 
-pub negoex-vector-place-spec : {M : Type 1} → statement M
-negoex-vector-place-spec =
+pub length-of-vector-spec : {M : Type 1} → statement M
+length-of-vector-spec =
     tie.close
     (tie.spec
     message-at-requires
@@ -52,8 +49,7 @@ negoex-vector-place-spec =
     vector-count-requires
     refusal-requires-2
     returns-2
-    place-at-requires
     vector-of-requires
-    vector-place-requires
+    vector-length-requires
     wide-number-requires
     returns-3)

@@ -19,7 +19,7 @@ use Rattle.token.specs.Split.{join}
 use Rattle.token.specs.Walk.{messagesOf, Accepts}
 use Rattle.token.proofs.Splits.{refused-stops}
 use Rattle.token.proofs.Walks.{answer-accepts, answer-number, answer-refuses}
-use Rattle.host.specs.Host.{Reply, given, refused, andThen, readingReply, messagesIn, answerOf, lent, writtenIn, messagesAnswer, faultPlace, placeAnswer}
+use Rattle.replies.specs.Replies.{Reply, given, refused, andThen, readingReply, messagesIn, answerOf, lent, writtenIn, messagesAnswer, faultPlace, placeAnswer}
 
 -- ---- numbers
 minus : (n : ℕ) → pos 0 -ℤ pos n ≡ negℤ (pos n)
