@@ -10,17 +10,18 @@
 --   numbers ns        numbers, each in four octets
 --   tableOf ms        the table of messages
 --   TableFits         the table of an accepted token is no longer than the token
+--   Held p m          what the functions of src/ ask of a message m at p: it ends within 65,535 octets, and its vectors lie inside it
 use Prim.Native.Nat.{ℕ, _+_, _≤_}
 use mathlib.Core.Path.{_≡_}
 use mathlib.Core.Bool.{cond}
-use mathlib.Core.List.{List, [], _∷_, _++_}
+use mathlib.Core.List.{List, [], _∷_, _++_, List·Memᴰ}
 use lib.ListN.{length}
 use lib.Dec.{eqb}
 use Rattle.vector.specs.declared.Vector.{Vector}
-use Rattle.vector.specs.Vector.{extent}
+use Rattle.vector.specs.Vector.{extent, Inside}
 use Rattle.message.specs.Layout.{headOf}
 use Rattle.token.specs.Token.{Placed, Accepted, tokenOf}
-use Rattle.coverage.specs.Coverage.{vectorsIn}
+use Rattle.coverage.specs.Coverage.{headerIn, vectorsIn}
 use Rattle.put.specs.Put.{octetsOf}
 
 abbrev pub placed : ℕ → List ℕ → Placed
@@ -63,3 +64,8 @@ tableOf ms = numbers (entriesOf ms)
 
 abbrev pub TableFits : Type 0
 TableFits = (s : List ℕ) (ms : List Placed) → tokenOf s ≡ Accepted ms → length (tableOf ms) ≤ length s
+
+pub record Held (p : ℕ) (m : List ℕ) : Type 0 where
+  pub ends : p + length m ≤ 65535
+  pub header : headerIn m ≤ length m
+  pub lies : (v : Vector) → List·Memᴰ v (vectorsIn m) → (extent v ≡ 0 → ⊥) → Inside (headerIn m) (length m) v
