@@ -5,7 +5,7 @@ ghost use lib.ListN.{length};
 ghost use Rattle.token.specs.Token.{tokenOf};
 ghost use Rattle.token.specs.Walk.{messagesOf, Accepts};
 ghost use Rattle.listing.specs.Listing.{allLines};
-ghost use Rattle.replies.specs.Replies.{lent, messagesAnswer, placeAnswer, fieldAnswer, conversationAnswer, vectorsAnswer, vectorPlaceAnswer, vectorLengthAnswer};
+ghost use Rattle.replies.specs.Replies.{lent, messagesAnswer, placeAnswer, fieldAnswer, conversationAnswer, vectorsAnswer, vectorPlaceAnswer, vectorLengthAnswer, tableAnswer};
 ghost use Rattle.host.specs.Host.{linesAnswer, windowAnswer};
 use lines::count;
 use listing::window;
@@ -70,6 +70,14 @@ pub extern "C" fn negoex_vector_length(token: &[u8], message: usize, vector: usi
     ensures { λ r. ⌜ r ≡ vectorLengthAnswer (now (token .entry)) message vector ⌝ }
 {
     replies::length_of_vector(token, message, vector)
+}
+
+// The fields of all messages, with places and lengths of their vectors, at the buffer's front.
+#[no_mangle]
+pub extern "C" fn negoex_table(token: &[u8], buffer: &mut [u8]) -> i64
+    ensures { λ r. ⌜ lent r (now (buffer .exit)) ≡ tableAnswer (now (token .entry)) (now (buffer .entry)) ⌝ }
+{
+    replies::write_table(token, buffer)
 }
 
 // The number of lines of an accepted token's messages.

@@ -3,7 +3,8 @@ ghost use mathlib.Core.Path.{_≡_};
 ghost use Prim.Native.Nat.{_<_, _^_};
 ghost use lib.IntN.{pos, negℤ};
 ghost use Rattle.token.specs.Token.{tokenOf};
-ghost use Rattle.replies.specs.Replies.{lackOf, lent, messagesAnswer, placeAnswer, fieldAnswer, conversationAnswer, vectorsAnswer, vectorPlaceAnswer, vectorLengthAnswer};
+ghost use Rattle.token.specs.Walk.{Accepts};
+ghost use Rattle.replies.specs.Replies.{lackOf, lent, messagesAnswer, placeAnswer, fieldAnswer, conversationAnswer, vectorsAnswer, vectorPlaceAnswer, vectorLengthAnswer, tableAnswer};
 use coverage::vectors::vector_count;
 use coverage::vectors::vector_of;
 use message::field::COMMON_HEADER;
@@ -11,6 +12,8 @@ use message::field::CONVERSATION;
 use message::field::ID;
 use put::put_octets;
 use table::fields;
+use table::put_table;
+use table::table_size;
 use table::vector_length;
 use table::vector_place;
 use token::Answer;
@@ -140,4 +143,26 @@ pub fn length_of_vector(token: &[u8], message: usize, vector: usize) -> i64
         return refusal(19);
     }
     wide_number(vector_length(vector_of(m, vector)) as usize)
+}
+
+// The table of an accepted token.
+fn fill_table(token: &[u8], buffer: &mut [u8]) -> i64
+    requires { ⌜ Accepts (now token) ⌝ }
+    ensures { λ r. ⌜ lent r (now (buffer .exit)) ≡ tableAnswer (now (token .entry)) (now (buffer .entry)) ⌝ }
+{
+    if buffer.len() < table_size(token) {
+        return refusal(16);
+    }
+    wide_number(put_table(buffer, token))
+}
+
+// The fields of all messages, with places and lengths of their vectors, at the buffer's front.
+pub fn write_table(token: &[u8], buffer: &mut [u8]) -> i64
+    ensures { λ r. ⌜ lent r (now (buffer .exit)) ≡ tableAnswer (now (token .entry)) (now (buffer .entry)) ⌝ }
+{
+    let r = read_token(token);
+    match r {
+        Answer::Messages(_) => fill_table(token, buffer),
+        Answer::Refused(n, _) => refusal(n),
+    }
 }
