@@ -44,7 +44,7 @@ fitting-few room [] h = h
 fitting-few room (l ∷ ls) h = omega arith
 
 module _ (ls : List (List ℕ)) (first end : ℕ) (d : List ℕ) where
-  pub shownBy : List (List ℕ)
+  unfoldable pub shownBy : List (List ℕ)
   shownBy = fitting (length d) (range first end ls)
 
   pub text-beyond : length ls ≤ first → windowText ls first end (length d) ≡ refused 19
