@@ -80,6 +80,13 @@ inside-or-not a b = elim (which (leb b a)) [
   | inr e ↦ inl (leb-false _ _ e)
 ]
 
+-- a place is small, also where there is no message
+pub message-early : (s : List ℕ) (k p : ℕ) → p ≡ messageAt s k .place → p < 2 ^ 32
+message-early s k p e = elim (inside-or-not k (length (messagesOf (tokenOf s)))) [
+  | inl h ↦ omega (arith, there s k h .ends)
+  | inr h ↦ omega (arith, ap (λ (m : Placed). m .place) (none s k h))
+]
+
 -- `lack` answers the number that refuses what is not there
 module _ (s : List ℕ) (r : Answer) (r-is : told r ≡ outcomeOf (tokenOf s)) where
   pub lacks-index : (n : ℕ) → r ≡ answer.Messages n → 19 ≡ lackOf (tokenOf s)
@@ -134,9 +141,6 @@ module _ (s : List ℕ) (k : ℕ) (m : List ℕ) (m-is : m ≡ messageAt s k .oc
     message-long = omega (arith, ap length m-is, message-length (stand .number) (stand .conversation) (messageAt s k .octets) (stand .passes))
 
     module _ (p : ℕ) (p-is : p ≡ messageAt s k .place) where
-      pub message-early : p < 2 ^ 32
-      message-early = omega (arith, stand .ends)
-
       message-is : placed p m ≡ messageAt s k
       message-is = rw (p-is, m-is)
 

@@ -1,10 +1,15 @@
 -- The vectors of a message by number. In the words of the code.
 -- Assumes nothing.
-use Prim.Native.Nat.{ℕ, _<_, _≤_, _^_}
+use Prim.Native.Nat.{ℕ, _+_, _<_, _≤_, _^_}
 use mathlib.Core.Path.{_≡_, refl, sym, ap, subst, _∙_}
+use mathlib.Core.Bool.{true, false}
+use mathlib.Core.Logic.{inl, inr}
 use mathlib.Core.List.{List}
 use native.Mathlib.Omega.{arith}
 use lib.ListN.{length}
+use lib.Dec.{eqb}
+use borrow.Author.Tests.{eqb-false}
+use Rattle.octets.proofs.Bools.{which}
 use lib.IntN.{ℤ, pos, negℤ}
 use mir.Syntax.{w64}
 use mir.Val.{SFits, toZ, ofZ}
@@ -15,11 +20,11 @@ use Rattle.token.specs.Split.{Message}
 use Rattle.token.specs.Walk.{messageAt}
 use Rattle.coverage.specs.Coverage.{vectorsIn, noVector, vectorIn}
 use Rattle.table.specs.Table.{vectorPlace, Held}
-use Rattle.table.proofs.Numbers.{vector-short, vector-early}
+use Rattle.table.proofs.Numbers.{lies-inside, vector-short}
 use Rattle.table.proofs.Entries.{message-held, vectors-small}
 use Rattle.replies.specs.Replies.{Reply, given, andThen, itemAt, messageIn, answerOf, vectorsAnswer, vectorPlaceAnswer, vectorLengthAnswer}
 use Rattle.replies.proofs.Answers.{same}
-use Rattle.replies.proofs.Messages.{item-given, item-refused, message-given, stand}
+use Rattle.replies.proofs.Messages.{item-given, item-refused, message-given, message-early, stand}
 
 -- m is what `message_at` answers
 module _ (s : List ℕ) (k : ℕ) (m : List ℕ) (m-is : m ≡ messageAt s k .octets) (some : length m ≡ 0 → ⊥) where
@@ -28,6 +33,17 @@ module _ (s : List ℕ) (k : ℕ) (m : List ℕ) (m-is : m ≡ messageAt s k .oc
       let w = stand s k m m-is some in
       let e : Message (w .number) (w .conversation) m = subst (Message (w .number) (w .conversation)) (sym m-is) (w .passes) in
       message-held p (w .number) (w .conversation) m e (omega (arith, w .ends, ap length m-is))
+
+  module _ (i : ℕ) (v : Vector) (v-is : v ≡ vectorIn m i) (a : ℕ) where
+    pub length-small : a ≡ extent v → a < 2 ^ 63
+    length-small e = omega (arith, vector-short (messageAt s k .place) m (held (messageAt s k .place) refl) i v v-is)
+
+    pub place-small : (j p : ℕ) → p ≡ messageAt s j .place → a ≡ vectorPlace p v → a < 2 ^ 63
+    unfolding vectorPlace
+    place-small j p p-is e = elim (which (eqb (extent v) 0)) [
+      | inl z ↦ let b : a ≡ p = e ∙ simp z in omega (arith, message-early s j p p-is)
+      | inr z ↦ let b : a ≡ p + v .offset .0 = e ∙ simp z in omega (arith, message-early s j p p-is, lies-inside (messageAt s k .place) m (held (messageAt s k .place) refl) i v v-is (eqb-false _ _ z), held (messageAt s k .place) refl .ends)
+    ]
 
   module _ (n : ℕ) (n-is : n ≡ length (vectorsIn m)) where
     pub vectors-few : n < 2 ^ 63
@@ -66,16 +82,10 @@ module _ (s : List ℕ) (k : ℕ) (m : List ℕ) (m-is : m ≡ messageAt s k .oc
             ∙ sym (here g ∙ ap (λ (x : Reply Vector). andThen x (g (messageAt s k))) (item-given (vectorsIn m) i noVector inside-all))
 
         module _ (a : ℕ) (a-is : a ≡ extent v) where
-          pub length-small : a < 2 ^ 63
-          length-small = omega (arith, vector-short (messageAt s k .place) m (held (messageAt s k .place) refl) n n-is i inside v v-is)
-
           pub length-given : (z : ℤ) → SFits w64 z → z ≡ pos a → toZ w64 (ofZ w64 z) ≡ vectorLengthAnswer s k i
           length-given z f e = same z f (pos a) e ∙ ap pos a-is ∙ ap answerOf (given-is (λ x v. given (extent v)))
 
         module _ (p : ℕ) (p-is : p ≡ messageAt s k .place) (a : ℕ) (a-is : a ≡ vectorPlace p v) where
-          pub place-small : a < 2 ^ 63
-          place-small = omega (arith, vector-early p m (held p p-is) n n-is i inside v v-is)
-
           pub place-given : (z : ℤ) → SFits w64 z → z ≡ pos a → toZ w64 (ofZ w64 z) ≡ vectorPlaceAnswer s k i
           place-given z f e =
               same z f (pos a) e ∙ ap pos (a-is ∙ ap (λ (x : ℕ). vectorPlace x v) p-is)

@@ -49,8 +49,8 @@ pub fn count_messages(token: &[u8]) -> i64
 {
     let r = read_token(token);
     match r {
-        Answer::Messages(n) => number(n),
-        Answer::Refused(n, _) => refusal(n),
+        Answer::Messages(count) => number(count),
+        Answer::Refused(reason, _) => refusal(reason),
     }
 }
 
@@ -113,7 +113,8 @@ pub fn count_vectors(token: &[u8], message: usize) -> i64
     if m.len() == 0 {
         return refusal(lack(token));
     }
-    wide_number(vector_count(m))
+    let n = vector_count(m);
+    wide_number(n)
 }
 
 // The token place of a message's vector; an empty one's is its message's.

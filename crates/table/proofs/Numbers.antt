@@ -2,15 +2,15 @@
 -- Assumes nothing.
 use Prim.Native.Nat.{ℕ, zero, suc, _+_, _*_, _<_, _≤_, _^_}
 use mathlib.Core.Path.{_≡_, refl, sym, ap, subst, _∙_}
-use mathlib.Core.Bool.{true, false, cond}
+use mathlib.Core.Bool.{true, false}
 use mathlib.Core.Logic.{inl, inr}
 use mathlib.Core.List.{List, [], _∷_, _++_, append-assoc, append-nil, List·Memᴰ, List·Memᴰ·head, List·Memᴰ·tail}
 use native.Mathlib.Numerals.{add-one}
 use native.Mathlib.Omega.{arith}
-use lib.ListN.{length, take, getD, length-append}
+use lib.ListN.{length, take, getD, length-append, List·getD-eq-default}
 use lib.Seq.{take-suc, take-all}
-use lib.Dec.{eqb}
-use borrow.Author.Tests.{eqb-true, eqb-false}
+use lib.Dec.{leb, eqb}
+use borrow.Author.Tests.{leb-true, leb-false, eqb-true, eqb-false}
 use Rattle.octets.proofs.Bools.{which}
 use Rattle.vector.specs.declared.Vector.{Vector}
 use Rattle.vector.specs.Vector.{extent}
@@ -94,9 +94,13 @@ module _ (p : ℕ) (m : List ℕ) (held : Held p m) where
   pub held-place : p < 2 ^ 32
   held-place = omega (arith, held .ends)
 
-  module _ (n : ℕ) (n-is : n ≡ length (vectorsIn m)) (k : ℕ) (inside : k < n) (v : Vector) (v-is : v ≡ vectorIn m k) where
+  -- beyond the last vector stands an empty one
+  module _ (k : ℕ) (v : Vector) (v-is : v ≡ vectorIn m k) where
     pub lies-inside : (extent v ≡ 0 → ⊥) → v .offset .0 + extent v ≤ length m
-    lies-inside some = held .lies v (subst (λ (x : Vector). List·Memᴰ x (vectorsIn m)) (sym v-is) (mem-at (vectorsIn m) k (omega arith))) some .before
+    lies-inside some = elim (which (leb (length (vectorsIn m)) k)) [
+      | inl e ↦ absurd (some (ap extent (v-is ∙ List·getD-eq-default (vectorsIn m) noVector {n = k} (leb-true _ _ e))))
+      | inr e ↦ held .lies v (subst (λ (x : Vector). List·Memᴰ x (vectorsIn m)) (sym v-is) (mem-at (vectorsIn m) k (leb-false _ _ e))) some .before
+    ]
 
     pub vector-short : extent v < 2 ^ 32
     vector-short = elim (which (eqb (extent v) 0)) [
