@@ -18,16 +18,19 @@
 --   vectorsAnswer s k    the number of vectors of message k
 --   vectorPlaceAnswer s k i    the token place of vector i of message k; vectorLengthAnswer: its length in octets
 --   tableAnswer s d      the table of all messages, at the front of the buffer d
-use Prim.Native.Nat.{ℕ, zero, suc}
+--   FrontAccepted        what lies before the message at fault, where anything does, is an accepted token
+use Prim.Native.Nat.{ℕ, zero, suc, _<_}
+use mathlib.Core.Path.{_≡_}
 use mathlib.Core.Bool.{cond}
 use mathlib.Core.List.{List, [], _∷_}
-use lib.ListN.{length}
+use lib.ListN.{length, take}
 use lib.Dec.{leb}
 use lib.IntN.{ℤ, pos, negℤ}
 use Rattle.vector.specs.declared.Vector.{Vector}
 use Rattle.vector.specs.Vector.{extent}
 use Rattle.message.specs.Layout.{headOf}
 use Rattle.token.specs.Token.{Placed, Reading, Accepted, Refused, tokenOf}
+use Rattle.token.specs.Walk.{Accepts}
 use Rattle.coverage.specs.Coverage.{vectorsIn}
 use Rattle.put.specs.Put.{put}
 use Rattle.table.specs.Table.{fieldsIn, vectorPlace, tableOf}
@@ -116,3 +119,7 @@ vectorLengthAnswer s k i = answerOf (andThen (messageIn s k) (λ m. andThen (ite
 -- all fields, and all vectors, in one call
 abbrev pub tableAnswer : List ℕ → List ℕ → Lent
 tableAnswer s d = writtenIn d (andThen (messagesIn s) (λ ms. fits (length d) (tableOf ms)))
+
+-- so a host can show the messages before the fault
+abbrev pub FrontAccepted : Type 0
+FrontAccepted = (s : List ℕ) (n p : ℕ) → tokenOf s ≡ Refused n p → 0 < p → Accepts (take p s)
