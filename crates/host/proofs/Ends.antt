@@ -1,6 +1,6 @@
 -- Every line of a listing has one line end.
 -- Assumes nothing.
-use Prim.Native.Nat.{ℕ, zero, suc, _+_, _/_, _%_}
+use Prim.Native.Nat.{ℕ, zero, suc, _+_, _/_, _%_, _<_}
 use mathlib.Core.Path.{_≡_, refl, sym, ap, _∙_}
 use mathlib.Core.Bool.{true, false, cond}
 use mathlib.Core.Logic.{_⊎_, inl, inr}
@@ -22,7 +22,7 @@ use Rattle.text.specs.Text.{quoted, decimalTo, decimal, decimal64, signed, hexD
 use Rattle.lines.specs.Lines.{lengths, messageLine, schemeLine, span, extensionLine, exchangeLine, checksumLine, errorLine, alertLine, numberedFrom, numbered, contentLines, messageLines, endLine, refusedLine}
 use Rattle.windows.specs.Windows.{texts}
 use Rattle.listing.specs.Listing.{allLines, readingLines, tokenLines, linesOf}
-use Rattle.host.specs.Following.{lineEnds}
+use Rattle.host.specs.Following.{lineEnds, ListingEnds}
 
 pub ends-append : (xs ys : List ℕ) → lineEnds (xs ++ ys) ≡ lineEnds xs + lineEnds ys
 unfolding lineEnds
@@ -177,11 +177,19 @@ unfolding texts
 one-each [] h = tt
 one-each (l ∷ ls) h = (ends-pieces l ∙ h .0, one-each ls (h .1))
 
-pub listing-ends : (s : List ℕ) → OneEach (linesOf s)
+pub lines-ends : (s : List ℕ) → OneEach (linesOf s)
 unfolding linesOf
-listing-ends s = one-each (tokenLines s) (ones-reading (tokenOf s) (length s))
+lines-ends s = one-each (tokenLines s) (ones-reading (tokenOf s) (length s))
 
 -- as many line ends as lines
 pub ends-joined : (ts : List (List ℕ)) → OneEach ts → lineEnds (joined ts) ≡ length ts
 ends-joined [] h = unfold lineEnds in refl
 ends-joined (t ∷ ts) h = omega (arith, ends-append t (joined ts), h .0, ends-joined ts (h .1))
+
+one-at : (ts : List (List ℕ)) → OneEach ts → (k : ℕ) → k < length ts → lineEnds (getD ts k []) ≡ 1
+one-at [] h k i = absurd (omega arith)
+one-at (t ∷ ts) h zero i = h .0
+one-at (t ∷ ts) h (suc k) i = one-at ts (h .1) k (omega arith)
+
+pub listing-ends : ListingEnds
+listing-ends s k i = one-at (linesOf s) (lines-ends s) k i

@@ -23,7 +23,7 @@ use Rattle.replies.specs.Replies.{Reply, given, refused, andThen, readingReply,
 use Rattle.host.specs.Host.{windowText, windowAnswer}
 use Rattle.host.specs.Following.{textIn, lineEnds, shownFrom, EachFits, HostWindows}
 use Rattle.host.proofs.Windows.{shownBy, text-beyond, text-none, text-full, text-some}
-use Rattle.host.proofs.Ends.{OneEach, listing-ends, ends-joined}
+use Rattle.host.proofs.Ends.{OneEach, lines-ends, ends-joined}
 
 -- ---- part of lines with one line end each
 each-drop : (n : ℕ) (ts : List (List ℕ)) → OneEach ts → OneEach (drop n ts)
@@ -79,7 +79,7 @@ module _ (s : List ℕ) (first end : ℕ) (d : List ℕ) where
 
   text-ends : lineEnds (joined shown) ≡ length shown
   unfolding shown shownBy
-  text-ends = ends-joined shown (each-fitting (length d) (range first end (linesOf s)) (each-take (end - first) (drop first (linesOf s)) (each-drop first (linesOf s) (listing-ends s))))
+  text-ends = ends-joined shown (each-fitting (length d) (range first end (linesOf s)) (each-take (end - first) (drop first (linesOf s)) (each-drop first (linesOf s) (lines-ends s))))
 
   of-text : Reply (List ℕ) → List ℕ
   of-text r = textIn (writtenIn d r)

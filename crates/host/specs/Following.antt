@@ -4,6 +4,7 @@
 --   octetsIn z           how many octets an answer says were written: none where it is a refusal
 --   textIn w             the octets that a call wrote into the buffer
 --   lineEnds v           how many line ends stand in a text
+--   ListingEnds          each line of a listing has one line end
 --   shownFrom s a qs     the texts of windows asked for one after the other, the first from line a, each from the line behind the one before: as many lines on as
 --                        it has line ends
 --   EachFits s a qs      while lines are left, each of them asks for a line and has room for the first
@@ -33,6 +34,9 @@ textIn w = take (octetsIn (w .answer)) (w .buffer)
 unfoldable pub lineEnds : List ℕ → ℕ
 lineEnds [] = 0
 lineEnds (x ∷ xs) = cond (eqb x 10) 1 0 + lineEnds xs
+
+abbrev pub ListingEnds : Type 0
+ListingEnds = (s : List ℕ) (k : ℕ) → k < length (linesOf s) → lineEnds (getD (linesOf s) k []) ≡ 1
 
 -- "each starting at the line behind the one before"
 unfoldable pub shownFrom : List ℕ → ℕ → List Request → List ℕ
