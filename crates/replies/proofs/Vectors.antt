@@ -91,4 +91,8 @@ module _ (s : List ℕ) (k : ℕ) (m : List ℕ) (m-is : m ≡ messageAt s k .oc
               same z f (pos a) e ∙ ap pos (a-is ∙ ap (λ (x : ℕ). vectorPlace x v) p-is)
               ∙ ap answerOf (given-is (λ x v. given (vectorPlace (x .place) v)))
 
-pub ruleset vectors = (vectors-few, vectors-number, place-beyond, length-beyond, length-small, length-given, place-small, place-given)
+pub ruleset counts = (vectors-few, vectors-number)
+
+pub ruleset places = (place-beyond, place-small, place-given)
+
+pub ruleset lengths = (length-beyond, length-small, length-given)

@@ -1,6 +1,6 @@
 -- Assumes nothing.
 use Rattle.replies.proofs.Messages.{messages}
-use Rattle.replies.proofs.Vectors.{vectors}
+use Rattle.replies.proofs.Vectors.{counts}
 use borrow.Author.Needs.{needs}
 use Rattle.replies.proofs.count_vectors.Statement.{statement}
 use Rattle.replies.proofs.count_vectors.Tie as tie
@@ -21,10 +21,10 @@ vector-count-requires : tie.Need-vector-count-requires
 vector-count-requires c κs = search needs
 
 wide-number-requires : tie.Need-wide-number-requires
-wide-number-requires c κs = search vectors
+wide-number-requires c κs = search counts
 
 returns-2 : tie.Need-returns-2
-returns-2 c = search vectors
+returns-2 c = search counts
 
 pub count-vectors-spec : {M : Type 1} → statement M
 count-vectors-spec =

@@ -1,6 +1,6 @@
 -- Assumes nothing.
 use Rattle.replies.proofs.Messages.{messages}
-use Rattle.replies.proofs.Vectors.{vectors}
+use Rattle.replies.proofs.Vectors.{lengths}
 use borrow.Author.Needs.{needs}
 use Rattle.replies.proofs.length_of_vector.Statement.{statement}
 use Rattle.replies.proofs.length_of_vector.Tie as tie
@@ -24,7 +24,7 @@ refusal-requires-2 : tie.Need-refusal-requires-2
 refusal-requires-2 c κs = search needs
 
 returns-2 : tie.Need-returns-2
-returns-2 c = search vectors
+returns-2 c = search lengths
 
 vector-of-requires : tie.Need-vector-of-requires
 vector-of-requires c κs = search needs
@@ -33,10 +33,10 @@ vector-length-requires : tie.Need-vector-length-requires
 vector-length-requires c κs = search needs
 
 wide-number-requires : tie.Need-wide-number-requires
-wide-number-requires c κs = search vectors
+wide-number-requires c κs = search lengths
 
 returns-3 : tie.Need-returns-3
-returns-3 c = search vectors
+returns-3 c = search lengths
 
 pub length-of-vector-spec : {M : Type 1} → statement M
 length-of-vector-spec =

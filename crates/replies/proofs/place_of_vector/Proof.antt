@@ -1,6 +1,6 @@
 -- Assumes nothing.
 use Rattle.replies.proofs.Messages.{messages}
-use Rattle.replies.proofs.Vectors.{vectors}
+use Rattle.replies.proofs.Vectors.{places}
 use borrow.Author.Needs.{needs}
 use Rattle.replies.proofs.place_of_vector.Statement.{statement}
 use Rattle.replies.proofs.place_of_vector.Tie as tie
@@ -24,7 +24,7 @@ refusal-requires-2 : tie.Need-refusal-requires-2
 refusal-requires-2 c κs = search needs
 
 returns-2 : tie.Need-returns-2
-returns-2 c = search vectors
+returns-2 c = search places
 
 place-at-requires : tie.Need-place-at-requires
 place-at-requires c κs = search needs
@@ -36,10 +36,10 @@ vector-place-requires : tie.Need-vector-place-requires
 vector-place-requires c κs = search messages
 
 wide-number-requires : tie.Need-wide-number-requires
-wide-number-requires c κs = search vectors
+wide-number-requires c κs = search places
 
 returns-3 : tie.Need-returns-3
-returns-3 c = search vectors
+returns-3 c = search places
 
 pub place-of-vector-spec : {M : Type 1} → statement M
 place-of-vector-spec =
