@@ -22,7 +22,7 @@ use Rattle.windows.proofs.Stepping.{length-texts}
 use Rattle.listing.specs.Listing.{allLines, readingLines, linesOf}
 use Rattle.listing.proofs.Turns.{message-fit}
 use Rattle.listing.proofs.Bounds.{few-lines}
-use Rattle.replies.specs.Replies.{Reply, given, andThen, readingReply, answerOf}
+use Rattle.replies.specs.Replies.{given, andThen, readingReply, answerOf}
 use Rattle.host.specs.Host.{linesAnswer}
 use Rattle.replies.proofs.Answers.{same}
 

@@ -1,9 +1,8 @@
 -- Every line of a listing has one line end.
 -- Assumes nothing.
 use Prim.Native.Nat.{ℕ, zero, suc, _+_, _/_, _%_, _<_}
-use mathlib.Core.Path.{_≡_, refl, sym, ap, _∙_}
-use mathlib.Core.Bool.{true, false, cond}
-use mathlib.Core.Logic.{_⊎_, inl, inr}
+use mathlib.Core.Path.{_≡_, refl, _∙_}
+use mathlib.Core.Logic.{inl, inr}
 use mathlib.Core.List.{List, [], _∷_, _++_}
 use native.Mathlib.Omega.{arith}
 use lib.ListN.{length, getD}
@@ -18,7 +17,7 @@ use Rattle.message.specs.Show.{idsOf}
 use Rattle.message.specs.Layout.{Head, headOf, shapeOf, Element, Content, Nego, Exchange, Verify, Alert, contentOf}
 use Rattle.token.specs.Token.{Placed, Reading, Accepted, Refused, tokenOf}
 use Rattle.put.specs.Put.{joined}
-use Rattle.text.specs.Text.{quoted, decimalTo, decimal, decimal64, signed, hexDigit, hexOf, glyphOf, glyphs, idOrder, idText}
+use Rattle.text.specs.Text.{quoted, decimalTo, signed, hexDigit, hexOf, glyphOf, glyphs, idOrder, idText}
 use Rattle.lines.specs.Lines.{lengths, messageLine, schemeLine, span, extensionLine, exchangeLine, checksumLine, errorLine, alertLine, numberedFrom, numbered, contentLines, messageLines, endLine, refusedLine}
 use Rattle.windows.specs.Windows.{texts}
 use Rattle.listing.specs.Listing.{allLines, readingLines, tokenLines, linesOf}

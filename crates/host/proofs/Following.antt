@@ -2,24 +2,22 @@
 -- Assumes nothing.
 use Prim.Native.Nat.{ℕ, zero, suc, _+_, _-_, _<_, _≤_}
 use mathlib.Core.Path.{_≡_, refl, sym, ap, subst, _∙_}
-use mathlib.Core.Bool.{true, false, cond}
 use mathlib.Core.Logic.{inl, inr}
 use mathlib.Core.List.{List, [], _∷_, _++_}
 use native.Mathlib.Omega.{arith}
-use lib.ListN.{length, take, drop, getD, length-take, length-drop}
+use lib.ListN.{length, take, drop, length-take, length-drop}
 use lib.Dec.{leb}
-use lib.IntN.{pos, negℤ}
 use borrow.Author.Tests.{leb-true, leb-false}
 use Rattle.octets.proofs.Bools.{which}
-use Rattle.token.specs.Token.{Reading, tokenOf}
-use Rattle.token.specs.Walk.{messagesOf, Accepts}
+use Rattle.token.specs.Token.{Reading}
+use Rattle.token.specs.Walk.{Accepts}
 use Rattle.put.specs.Put.{joined, put}
 use Rattle.text.proofs.Pieces.{take-put}
 use Rattle.windows.specs.Windows.{fitting, range, windowOf, textOf, Request, following, EachShows}
 use Rattle.windows.proofs.Windows.{fitting-room}
 use Rattle.windows.proofs.Covers.{gets-on, windows-all}
 use Rattle.listing.specs.Listing.{linesOf}
-use Rattle.replies.specs.Replies.{Reply, given, refused, andThen, readingReply, writtenIn}
+use Rattle.replies.specs.Replies.{Reply, andThen, readingReply, writtenIn}
 use Rattle.host.specs.Host.{windowText, windowAnswer}
 use Rattle.host.specs.Following.{textIn, lineEnds, shownFrom, EachFits, HostWindows}
 use Rattle.host.proofs.Windows.{shownBy, text-beyond, text-none, text-full, text-some}

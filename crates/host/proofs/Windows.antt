@@ -1,12 +1,12 @@
 -- A window's answer, from the lines and octets that it shows. In the words of the code.
 -- Assumes nothing.
 use Prim.Native.Nat.{ℕ, _+_, _-_, _*_, _<_, _≤_, _^_}
-use mathlib.Core.Path.{_≡_, refl, sym, ap, _∙_}
-use mathlib.Core.Bool.{true, false, cond}
-use mathlib.Core.Logic.{_⊎_, inl, inr}
+use mathlib.Core.Path.{_≡_, sym, ap, _∙_}
+use mathlib.Core.Bool.{cond}
+use mathlib.Core.Logic.{inl, inr}
 use mathlib.Core.List.{List, [], _∷_}
 use native.Mathlib.Omega.{arith}
-use lib.ListN.{length, take, drop, getD, length-take, length-drop}
+use lib.ListN.{length, drop, getD, length-take}
 use lib.Seq.{getD-take, getD-drop}
 use lib.Dec.{leb, ltb}
 use lib.IntN.{ℤ, pos, negℤ}
@@ -14,7 +14,7 @@ use mir.Syntax.{w64}
 use mir.Val.{SFits, toZ, ofZ}
 use borrow.Author.Tests.{leb-true, leb-false, le-leb, lt-leb, lt-ltb, le-ltb}
 use Rattle.octets.proofs.Bools.{which}
-use Rattle.token.specs.Token.{Placed, Reading, tokenOf}
+use Rattle.token.specs.Token.{Reading, tokenOf}
 use Rattle.token.specs.Walk.{messagesOf, Accepts}
 use Rattle.put.specs.Put.{joined, put}
 use Rattle.put.proofs.Laws.{put-none}
@@ -22,7 +22,7 @@ use Rattle.windows.specs.declared.Shown.{Shown}
 use Rattle.windows.specs.Windows.{fitting, range, Window, asWindow, windowOf}
 use Rattle.windows.proofs.Covers.{gets-on, window-octets}
 use Rattle.listing.specs.Listing.{allLines, linesOf}
-use Rattle.replies.specs.Replies.{Reply, given, refused, andThen, readingReply, itemAt, fits, lent, writtenIn}
+use Rattle.replies.specs.Replies.{Reply, given, refused, andThen, readingReply, fits, lent, writtenIn}
 use Rattle.host.specs.Host.{windowText, windowAnswer}
 use Rattle.replies.proofs.Answers.{same}
 use Rattle.replies.proofs.Messages.{item-given, item-refused}

@@ -7,7 +7,7 @@ use mathlib.Core.List.{List}
 use native.Mathlib.Omega.{arith}
 use lib.ListN.{length, length-append}
 use borrow.Author.Tests.{lt-ltb}
-use lib.IntN.{ℤ, pos, negsuc, negℤ, _-ℤ_}
+use lib.IntN.{ℤ, pos, negℤ, _-ℤ_}
 use mir.Syntax.{w64}
 use mir.Val.{SFits, toZ, ofZ}
 use mir.Facts.{toZ-pos, toZ-ofZ}
@@ -16,7 +16,7 @@ use Rattle.token.specs.declared.Answer.{Answer}
 use Rattle.token.specs.declared.Answer.the-variants as answer
 use Rattle.token.specs.Token.{Placed, Reading, tokenOf, outcomeOf, told}
 use Rattle.token.specs.Split.{join}
-use Rattle.token.specs.Walk.{messagesOf, Accepts}
+use Rattle.token.specs.Walk.{messagesOf}
 use Rattle.token.proofs.Splits.{refused-stops}
 use Rattle.token.proofs.Walks.{answer-accepts, answer-number, answer-refuses}
 use Rattle.replies.specs.Replies.{Reply, given, refused, andThen, readingReply, messagesIn, answerOf, lent, writtenIn, messagesAnswer, faultPlace, placeAnswer}

@@ -1,6 +1,6 @@
 -- The messages before the one at fault are an accepted token.
 -- Assumes nothing.
-use Prim.Native.Nat.{ℕ, _<_, _≤_}
+use Prim.Native.Nat.{ℕ, _<_}
 use mathlib.Core.Path.{_≡_, refl, sym, ap, subst, _∙_}
 use mathlib.Core.Logic.{inl, inr}
 use mathlib.Core.List.{List, [], _∷_, _++_, append-assoc}
@@ -8,7 +8,7 @@ use native.Mathlib.Omega.{arith}
 use lib.ListN.{length, take, length-append}
 use lib.Seq.{take-at}
 use Rattle.message.specs.Layout.{Head, headOf}
-use Rattle.token.specs.Token.{Reading, Accepted, tokenOf}
+use Rattle.token.specs.Token.{Accepted, tokenOf}
 use Rattle.token.specs.Split.{Numbered, join, placedFrom, Stop}
 use Rattle.token.specs.Walk.{messagesOf, Accepts}
 use Rattle.token.proofs.Splits.{message-head, refused-stops, splits-accepted}

@@ -2,7 +2,6 @@
 -- Assumes nothing.
 use Prim.Native.Nat.{ℕ, zero, suc, _+_, _<_, _≤_, _^_}
 use mathlib.Core.Path.{_≡_, refl, sym, ap, subst, _∙_}
-use mathlib.Core.Bool.{true, false}
 use mathlib.Core.Logic.{_⊎_, inl, inr}
 use mathlib.Core.List.{List, [], _∷_}
 use native.Mathlib.Omega.{arith}
@@ -20,12 +19,12 @@ use Rattle.token.specs.declared.Answer.{Answer}
 use Rattle.token.specs.declared.Answer.the-variants as answer
 use Rattle.token.specs.Token.{Placed, Reading, Accepted, Refused, tokenOf, outcomeOf, told}
 use Rattle.token.specs.Split.{Message, Numbered, join, placedFrom}
-use Rattle.token.specs.Walk.{messagesOf, Accepts, messageAt}
+use Rattle.token.specs.Walk.{messagesOf, messageAt}
 use Rattle.token.proofs.Splits.{message-length}
 use Rattle.token.proofs.Walks.{whole, accepted-short, answer-accepts, answer-refuses}
 use Rattle.put.specs.Put.{put, Written}
 use Rattle.table.specs.Table.{placed, fieldsIn}
-use Rattle.replies.specs.Replies.{Reply, given, refused, andThen, readingReply, messagesIn, itemAt, fits, messageIn, lackOf, answerOf, Lent, lent, writtenIn, fieldAnswer, conversationAnswer}
+use Rattle.replies.specs.Replies.{Reply, given, refused, andThen, readingReply, itemAt, fits, messageIn, lackOf, answerOf, lent, writtenIn, fieldAnswer, conversationAnswer}
 use Rattle.replies.proofs.Answers.{same}
 
 -- ---- item k of a list

@@ -26,7 +26,6 @@ use mathlib.Core.List.{List, [], _∷_}
 use lib.ListN.{length, take}
 use lib.Dec.{leb}
 use lib.IntN.{ℤ, pos, negℤ}
-use Rattle.vector.specs.declared.Vector.{Vector}
 use Rattle.vector.specs.Vector.{extent}
 use Rattle.message.specs.Layout.{headOf}
 use Rattle.token.specs.Token.{Placed, Reading, Accepted, Refused, tokenOf}

@@ -1,8 +1,7 @@
 -- The table of a token, message by message: each entry is no longer than its message. In the words of the code where a function is meant.
 -- Assumes nothing.
-use Prim.Native.Nat.{ℕ, _+_, _-_, _*_, _/_, _<_, _≤_, _^_}
+use Prim.Native.Nat.{ℕ, _+_, _-_, _*_, _<_, _≤_, _^_}
 use mathlib.Core.Path.{_≡_, refl, sym, ap, subst, _∙_}
-use mathlib.Core.Bool.{true, false}
 use mathlib.Core.Logic.{inl, inr}
 use mathlib.Core.List.{List, [], _∷_, _++_, append-assoc, append-nil, List·Memᴰ, List·Memᴰ·head, List·Memᴰ·tail}
 use native.Mathlib.Omega.{arith}
@@ -12,11 +11,11 @@ use borrow.Author.Tests.{le-leb, leb-true, leb-false, eqb-true, eqb-false}
 use Rattle.octets.proofs.Bools.{which}
 use Rattle.octets.proofs.Slices.{tail-all}
 use Rattle.vector.specs.declared.Vector.{Vector}
-use Rattle.vector.specs.Vector.{extent, part, Inside}
-use Rattle.message.specs.Layout.{Shape, nego, exchange, verify, alert, headOf, shapeOf, headerOf, extensionVector, alertVector, contentOf, contentIn, vectorsOf}
+use Rattle.vector.specs.Vector.{extent, part}
+use Rattle.message.specs.Layout.{Shape, headOf, shapeOf, headerOf, extensionVector, alertVector, contentOf, contentIn, vectorsOf}
 use Rattle.message.specs.Show.{firstOf}
 use Rattle.message.proofs.Shapes.{shape-nego, shape-alert, header-least}
-use Rattle.token.specs.Token.{Placed, Accepted, tokenOf}
+use Rattle.token.specs.Token.{Placed, tokenOf}
 use Rattle.token.specs.Split.{Message, Numbered, join, placedFrom}
 use Rattle.token.specs.Walk.{messagesOf, Accepts}
 use Rattle.token.proofs.Cuts.{passes-sized}
@@ -25,7 +24,7 @@ use Rattle.token.proofs.Insides.{message-inside}
 use Rattle.token.proofs.Walks.{Left, Turn, turn, whole, accepted-short}
 use Rattle.coverage.specs.Coverage.{headerIn, vectorsIn}
 use Rattle.coverage.proofs.Numbered.{count-nego, count-one, count-alert}
-use Rattle.put.specs.Put.{put, Written}
+use Rattle.put.specs.Put.{Written}
 use Rattle.put.proofs.Laws.{put-none, length-put}
 use Rattle.table.specs.Table.{placed, fieldsIn, spansIn, entryOf, entriesOf, numbers, tableOf, TableFits, Held}
 use Rattle.table.proofs.Numbers.{numbers-append, length-numbers, length-spans, both-written}

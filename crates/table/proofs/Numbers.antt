@@ -2,7 +2,6 @@
 -- Assumes nothing.
 use Prim.Native.Nat.{ℕ, zero, suc, _+_, _*_, _<_, _≤_, _^_}
 use mathlib.Core.Path.{_≡_, refl, sym, ap, subst, _∙_}
-use mathlib.Core.Bool.{true, false}
 use mathlib.Core.Logic.{inl, inr}
 use mathlib.Core.List.{List, [], _∷_, _++_, append-assoc, append-nil, List·Memᴰ, List·Memᴰ·head, List·Memᴰ·tail}
 use native.Mathlib.Numerals.{add-one}
@@ -15,9 +14,9 @@ use Rattle.octets.proofs.Bools.{which}
 use Rattle.vector.specs.declared.Vector.{Vector}
 use Rattle.vector.specs.Vector.{extent}
 use Rattle.coverage.specs.Coverage.{vectorsIn, noVector, vectorIn}
-use Rattle.put.specs.Put.{octetsOf, joined, put, Written}
+use Rattle.put.specs.Put.{octetsOf, Written}
 use Rattle.put.proofs.Laws.{put-none, length-put, wrote, step, done}
-use Rattle.table.specs.Table.{placed, vectorPlace, spansIn, fieldsIn, entryOf, numbers, Held}
+use Rattle.table.specs.Table.{vectorPlace, spansIn, numbers, Held}
 
 pub numbers-append : (xs ys : List ℕ) → numbers (xs ++ ys) ≡ numbers xs ++ numbers ys
 unfolding numbers

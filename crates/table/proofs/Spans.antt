@@ -1,13 +1,12 @@
 -- A message's fields and a vector's place, in the words of the code.
 -- Assumes nothing.
 use Prim.Native.Nat.{ℕ, _+_}
-use mathlib.Core.Path.{_≡_, sym, ap, _∙_}
+use mathlib.Core.Path.{_≡_, sym, _∙_}
 use mathlib.Core.List.{List, [], _∷_}
 use borrow.Author.Tests.{eq-eqb, ne-eqb}
 use Rattle.octets.specs.Octets.{le}
 use Rattle.vector.specs.declared.Vector.{Vector}
 use Rattle.vector.specs.Vector.{extent}
-use Rattle.vector.proofs.Rule.{rules}
 use Rattle.message.specs.Layout.{headOf}
 use Rattle.table.specs.Table.{placed, fieldsIn, vectorPlace}
 
