@@ -3,17 +3,17 @@
 # (docs/DECISIONS.md, F6); and no function has more than 40 lines.
 set -eu
 cd "$(dirname "$0")/.."
-below=' der der_put octets vector message put encode schemes calls negotiating sending admitting windows lines listing coverage offers '
+below=' der der_put octets vector message put encode schemes calls negotiating sending admitting windows lines listing coverage offers table replies '
 found=$(
     find crates/*/src -name '*.rt' | sort | while IFS= read -r file; do
         crate=${file#crates/}
         crate=${crate%%/*}
         case $below in *" $crate "*) asks=1 ;; *) asks=0 ;; esac
         awk -v file="$file" -v asks="$asks" '
-            /^ *(pub(\(crate\))? )?fn / && !name {
-                public = $0 ~ /^ *pub fn /
+            /^ *(pub(\(crate\))? )?(extern "C" )?fn / && !name {
+                public = $0 ~ /^ *pub (extern "C" )?fn /
                 name = $0
-                sub(/^ *(pub(\(crate\))? )?fn /, "", name)
+                sub(/^ *(pub(\(crate\))? )?(extern "C" )?fn /, "", name)
                 sub(/\(.*/, "", name)
                 from = NR
                 ends = $0
@@ -34,4 +34,4 @@ found=$(
     done
 )
 [ -z "$found" ] || { printf '%s\n' "$found" >&2; exit 1; }
-echo "functions: $(grep -rhE '^ *pub fn ' crates/*/src | wc -l) public ones with a contract, none above 40 lines"
+echo "functions: $(grep -rhE '^ *pub (extern "C" )?fn ' crates/*/src | wc -l) public ones with a contract, none above 40 lines"

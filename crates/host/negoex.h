@@ -1,0 +1,80 @@
+/*
+ * NEGOEX tokens (draft-zhu-negoex-04) for C and C++: the structural reading, the listing's windows, and the table of a token.
+ * Every function is proved to answer what its definition says, for all octets and all numbers: crates/replies/specs/Replies.antt and
+ * crates/host/specs/Host.antt. docs/HOST.md shows how to build, link and call the library.
+ *
+ * A token is `token_size` octets from `token` on, a buffer `buffer_size` octets from `buffer` on.
+ * - No pointer is null, also where its size is 0, and no size is above PTRDIFF_MAX.
+ * - The buffer and the token don't overlap. The token is never changed, and no pointer is kept.
+ * - Nothing is allocated, printed or kept between calls; threads may call at the same time.
+ *
+ * An answer that is not negative is the number asked for. A negative one is a refusal's number, negated; then the buffer is as it was.
+ *    1 to 13   the token is refused by the structural reading (docs/RULES.md); 9 is never given
+ *    19        an index or first line beyond the list: the message first, then the vector or the field
+ *    16        what is asked for, or a window's first line, doesn't fit into the buffer
+ * The first that applies, in this order, is answered. Indices count from 0.
+ *
+ * Each call reads the whole token. To show all of it, call negoex_table or negoex_window once, and not a function for each number.
+ */
+#ifndef NEGOEX_H
+#define NEGOEX_H
+
+#include <stddef.h>
+#include <stdint.h>
+
+#ifdef __cplusplus
+extern "C" {
+#endif
+
+/* The number of messages of a token; an accepted one has at least one. */
+int64_t negoex_messages(const uint8_t *token, size_t token_size);
+
+/* Of a refused token, the place of the message at fault; 0 where the token is accepted. Never negative.
+   The octets before that place are, where there are any, a token that is accepted: its messages can be shown. */
+int64_t negoex_place(const uint8_t *token, size_t token_size);
+
+/* The fields of a message's header, by these numbers. */
+#define NEGOEX_PLACE 0          /* the message's place in the token */
+#define NEGOEX_TYPE 1           /* 0 to 7 */
+#define NEGOEX_SEQUENCE 2       /* the sequence number, up to 4,294,967,295 */
+#define NEGOEX_HEADER_LENGTH 3  /* in octets */
+#define NEGOEX_MESSAGE_LENGTH 4 /* in octets, the header among them */
+
+/* A field of a message's header. */
+int64_t negoex_field(const uint8_t *token, size_t token_size, size_t message, size_t field);
+
+/* Writes a message's conversation to the buffer's front: 16 octets, as they stand in the message. The answer is 16. */
+int64_t negoex_conversation(const uint8_t *token, size_t token_size, size_t message, uint8_t *buffer, size_t buffer_size);
+
+/* The number of a message's vectors: those of the header in order, then the nested ones in order.
+     types 0, 1        0 schemes, 1 extensions, 2 and on: the value of each extension
+     types 2, 3, 4, 5  0 exchange
+     type 6            0 checksum value
+     type 7            0 alerts, 1 and on: the value of each alert */
+int64_t negoex_vectors(const uint8_t *token, size_t token_size, size_t message);
+
+/* A vector's place in the token; an empty one's is its message's. */
+int64_t negoex_vector_place(const uint8_t *token, size_t token_size, size_t message, size_t vector);
+
+/* A vector's length in octets. */
+int64_t negoex_vector_length(const uint8_t *token, size_t token_size, size_t message, size_t vector);
+
+/* The number of lines of the token's listing, the last line among them. */
+int64_t negoex_lines(const uint8_t *token, size_t token_size);
+
+/* Writes a window of the listing to the buffer's front: of the lines from `first` up to, not including, `end`, as many whole ones as fit. A range that ends
+   past the last line ends there; an empty one (`end` not above `first`) writes nothing. The answer is the number of octets written.
+   Each line ends in a line feed and has no other, so the next window starts at `first` and as many lines on as there are line feeds in this one.
+   Every line has fewer than 128 octets: in such a buffer a window always gets on. SIZE_MAX as `end` is the end of the listing. */
+int64_t negoex_window(const uint8_t *token, size_t token_size, size_t first, size_t end, uint8_t *buffer, size_t buffer_size);
+
+/* Writes the table of a token to the buffer's front: of each message, in order, its five fields, the number of its vectors, and of each vector its place and
+   its length; each number in four octets, least significant first. A message has 24 octets and 8 for each vector. The answer is the number of octets written.
+   The table is never longer than the token: a buffer of `token_size` octets is enough. */
+int64_t negoex_table(const uint8_t *token, size_t token_size, uint8_t *buffer, size_t buffer_size);
+
+#ifdef __cplusplus
+}
+#endif
+
+#endif
