@@ -64,7 +64,7 @@ int64_t negoex_lines(const uint8_t *token, size_t token_size);
 
 /* Writes a window of the listing to the buffer's front: of the lines from `first` up to, not including, `end`, as many whole ones as fit. A range that ends
    past the last line ends there; an empty one (`end` not above `first`) writes nothing. The answer is the number of octets written.
-   Each line ends in a line feed and has no other, so the next window starts at `first` and as many lines on as there are line feeds in this one.
+   Each line has one line feed, so the next window starts at `first` and as many lines on as there are line feeds in this one.
    Every line has fewer than 128 octets: in such a buffer a window always gets on. SIZE_MAX as `end` is the end of the listing. */
 int64_t negoex_window(const uint8_t *token, size_t token_size, size_t first, size_t end, uint8_t *buffer, size_t buffer_size);
 

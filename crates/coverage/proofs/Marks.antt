@@ -16,7 +16,7 @@ use Rattle.octets.proofs.Bools.{which}
 use Rattle.vector.specs.declared.Vector.{Vector}
 use Rattle.vector.specs.Vector.{extent, part}
 use Rattle.message.specs.Layout.{Shape, headOf, shapeOf, headerOf, nego, exchange, verify, alert, valuesOf, elementsAt, elementsOf, octetVector, schemeVector, extensionVector, exchangeVector, checksumVector, alertVector, vectorsOf, contentOf}
-use Rattle.message.proofs.Shapes.{shape-nego, shape-exchange, shape-verify, shape-alert, header-least}
+use Rattle.message.proofs.Shapes.{shape-nego, shape-exchange, shape-verify, shape-alert, room-nego, room-exchange, room-verify, room-alert, header-least}
 use Rattle.coverage.specs.declared.Octets.{Octets}
 use Rattle.coverage.specs.Coverage.{headerIn, vectorsIn, liesInOne, inVector, isBare, one, count, headerOctets, vectorOctets, bareOctets, octetsIn}
 use Rattle.coverage.specs.Sweep.{Clear, marked, markedAll, sweep}
@@ -130,21 +130,6 @@ module _ (map m : List ℕ) where
 
 -- ---- the layout by the kind's number
 module _ (kind : ℕ) (m : List ℕ) where
-  module _ (k : headerOf (shapeOf kind) ≤ length m) where
-    pub room-nego : kind ≤ 1 → 96 ≤ length m
-    room-nego h = rw (shape-nego kind h) at k
-
-    module _ (not-nego : 1 < kind) where
-      pub room-exchange : kind ≤ 5 → 64 ≤ length m
-      room-exchange h = rw (shape-exchange kind not-nego h) at k
-
-      module _ (not-exchange : 5 < kind) where
-        pub room-verify : kind ≡ 6 → 80 ≤ length m
-        room-verify h = rw (shape-verify kind not-nego not-exchange h) at k
-
-        pub room-alert : (kind ≡ 6 → ⊥) → 72 ≤ length m
-        room-alert h = rw (shape-alert kind not-nego not-exchange h) at k
-
   module _ (map map1 : List ℕ) where
     abbrev Done : Shape → Type 0
     Done shape = map1 ≡ markedAll map (vectorsOf (contentOf shape m))

@@ -13,9 +13,8 @@ use Rattle.octets.specs.Octets.{le}
 use Rattle.vector.specs.declared.Vector.{Vector}
 use Rattle.vector.specs.Vector.{part}
 use Rattle.message.specs.Layout.{Shape, headOf, shapeOf, headerOf, nego, alert, valuesOf, elementsAt, elementsOf, octetVector, schemeVector, extensionVector, exchangeVector, checksumVector, alertVector, vectorsOf, contentOf}
-use Rattle.message.proofs.Shapes.{shape-nego, shape-exchange, shape-verify, shape-alert, header-least}
+use Rattle.message.proofs.Shapes.{shape-nego, shape-exchange, shape-verify, shape-alert, room-nego, room-alert, header-least}
 use Rattle.coverage.specs.Coverage.{headerIn, vectorsIn, noVector, vectorIn}
-use Rattle.coverage.proofs.Marks.{room-nego, room-alert}
 
 -- ---- the values of an array
 values-length : (n : ℕ) (a : List ℕ) (at : ℕ) → length (valuesOf (elementsAt n a at)) ≡ n
@@ -101,10 +100,10 @@ module _ (m : List ℕ) (k : ℕ) (v : Vector) where
 -- ---- how many
 module _ (kind : ℕ) (m : List ℕ) (h : headerOf (shapeOf kind) ≤ length m) where
   pub room-extensions : kind ≤ 1 → 96 ≤ length m
-  room-extensions g = room-nego kind m h g
+  room-extensions g = room-nego kind (length m) h g
 
   pub room-alerts : 1 < kind → 6 < kind → 72 ≤ length m
-  room-alerts g f = room-alert kind m h g (omega arith) (λ q. omega arith)
+  room-alerts g f = room-alert kind (length m) h g (omega arith) (λ q. omega arith)
 
 module _ (m : List ℕ) (kind : ℕ) where
   abbrev Has : ℕ → Type 0

@@ -6,6 +6,7 @@ use mathlib.Core.Logic.{inl, inr}
 use mathlib.Core.List.{List, [], _∷_, _++_}
 use native.Mathlib.Omega.{arith}
 use lib.ListN.{length, take, drop, length-take, length-drop}
+use lib.Seq.{take-all}
 use lib.Dec.{leb}
 use borrow.Author.Tests.{leb-true, leb-false}
 use Rattle.octets.proofs.Bools.{which}
@@ -13,13 +14,13 @@ use Rattle.token.specs.Token.{Reading}
 use Rattle.token.specs.Walk.{Accepts}
 use Rattle.put.specs.Put.{joined, put}
 use Rattle.text.proofs.Pieces.{take-put}
-use Rattle.windows.specs.Windows.{fitting, range, windowOf, textOf, Request, following, EachShows}
+use Rattle.windows.specs.Windows.{fitting, range, windowOf, textOf, Request, following, reached, EachShows}
 use Rattle.windows.proofs.Windows.{fitting-room}
-use Rattle.windows.proofs.Covers.{gets-on, windows-all}
+use Rattle.windows.proofs.Covers.{gets-on, windows-joined, reached-all}
 use Rattle.listing.specs.Listing.{linesOf}
 use Rattle.replies.specs.Replies.{Reply, andThen, readingReply, writtenIn}
 use Rattle.host.specs.Host.{windowText, windowAnswer}
-use Rattle.host.specs.Following.{textIn, lineEnds, shownFrom, EachFits, HostWindows}
+use Rattle.host.specs.Following.{textIn, lineEnds, shownFrom, reachedFrom, EachFits, HostWindows, HostReaches}
 use Rattle.host.proofs.Windows.{shownBy, text-beyond, text-none, text-full, text-some}
 use Rattle.host.proofs.Ends.{OneEach, lines-ends, ends-joined}
 
@@ -132,5 +133,20 @@ fits-shows s a first (q ∷ qs) h = (
   fits-shows s a (first + windowOf (linesOf s) first (q .end) (q .buffer) .lines) qs (subst (λ (n : ℕ). EachFits s n qs) (host-lines s first (q .end) (q .buffer) a) (h .1)),
 )
 
+reached-following : (s : List ℕ) → Accepts s → (first : ℕ) (qs : List Request) → reachedFrom s first qs ≡ reached (linesOf s) first qs
+unfolding reachedFrom reached
+reached-following s a first [] = refl
+reached-following s a first (q ∷ qs) =
+    ap (λ (n : ℕ). reachedFrom s n qs) (host-lines s first (q .end) (q .buffer) a)
+    ∙ reached-following s a (first + windowOf (linesOf s) first (q .end) (q .buffer) .lines) qs
+
 pub host-windows : HostWindows
-host-windows s qs a h enough = shown-following s a 0 qs ∙ windows-all (linesOf s) qs (fits-shows s a 0 qs h) enough
+host-windows s qs a far =
+    let e = reached-following s a 0 qs in
+    shown-following s a 0 qs ∙ windows-joined (linesOf s) qs ∙ ap joined (take-all (reached (linesOf s) 0 qs) (linesOf s) (omega arith))
+
+pub host-reaches : HostReaches
+host-reaches s qs a h enough =
+    let e = reached-following s a 0 qs in
+    let g = reached-all (linesOf s) 0 qs (fits-shows s a 0 qs h) (omega arith) in
+    omega arith

@@ -13,10 +13,10 @@ use lib.IntN.{ℤ}
 use Rattle.put.specs.Put.{joined}
 use Rattle.windows.specs.Windows.{fitting, range}
 use Rattle.listing.specs.Listing.{linesOf}
-use Rattle.replies.specs.Replies.{Reply, given, andThen, messagesIn, itemAt, fits, answerOf, Lent, writtenIn}
+use Rattle.replies.specs.Replies.{Reply, given, andThen, messagesReply, itemAt, fits, answerOf, Lent, writtenIn}
 
 abbrev pub linesAnswer : List ℕ → ℤ
-linesAnswer s = answerOf (andThen (messagesIn s) (λ ms. given (length (linesOf s))))
+linesAnswer s = answerOf (andThen (messagesReply s) (λ ms. given (length (linesOf s))))
 
 -- "a range of listing lines written into their buffer, as many whole lines as fit"; an empty range has no first line to fit
 abbrev pub windowText : List (List ℕ) → ℕ → ℕ → ℕ → Reply (List ℕ)
@@ -25,4 +25,4 @@ windowText ls first end room =
     cond (ltb first end) (andThen (fits room l) (λ v. given (joined (fitting room (range first end ls))))) (given []))
 
 abbrev pub windowAnswer : List ℕ → ℕ → ℕ → List ℕ → Lent
-windowAnswer s first end d = writtenIn d (andThen (messagesIn s) (λ ms. windowText (linesOf s) first end (length d)))
+windowAnswer s first end d = writtenIn d (andThen (messagesReply s) (λ ms. windowText (linesOf s) first end (length d)))

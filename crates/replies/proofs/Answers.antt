@@ -19,7 +19,7 @@ use Rattle.token.specs.Split.{join}
 use Rattle.token.specs.Walk.{messagesOf}
 use Rattle.token.proofs.Splits.{refused-stops}
 use Rattle.token.proofs.Walks.{answer-accepts, answer-number, answer-refuses}
-use Rattle.replies.specs.Replies.{Reply, given, refused, andThen, readingReply, messagesIn, answerOf, lent, writtenIn, messagesAnswer, faultPlace, placeAnswer}
+use Rattle.replies.specs.Replies.{Reply, given, refused, andThen, readingReply, messagesReply, answerOf, lent, writtenIn, messagesAnswer, faultPlace, placeAnswer}
 
 -- ---- numbers
 minus : (n : ℕ) → pos 0 -ℤ pos n ≡ negℤ (pos n)
@@ -44,7 +44,7 @@ module _ (z : ℤ) (f : SFits w64 z) where
 -- ---- the two outcomes of the structural reading
 module _ (s : List ℕ) (r : Answer) (r-is : told r ≡ outcomeOf (tokenOf s)) where
   module _ (n : ℕ) (here : r ≡ answer.Messages n) where
-    pub reply-given : messagesIn s ≡ given (messagesOf (tokenOf s))
+    pub reply-given : messagesReply s ≡ given (messagesOf (tokenOf s))
     reply-given = ap readingReply (answer-accepts s r r-is n here)
 
     pub messages-number : (z : ℤ) → SFits w64 z → z ≡ pos n → toZ w64 (ofZ w64 z) ≡ messagesAnswer s
@@ -55,13 +55,13 @@ module _ (s : List ℕ) (r : Answer) (r-is : told r ≡ outcomeOf (tokenOf s)) w
     place-none z f e = same z f (pos 0) e ∙ sym (ap (λ (x : Reading). pos (faultPlace x)) (answer-accepts s r r-is n here))
 
   module _ (n : ℕ) (place : TokenPlace) (here : r ≡ answer.Refused n place) where
-    pub reply-refused : messagesIn s ≡ refused n
+    pub reply-refused : messagesReply s ≡ refused n
     reply-refused = ap readingReply (answer-refuses s r r-is n place here)
 
-    pub any-refused : (f : List Placed → Reply ℕ) (z : ℤ) → SFits w64 z → z ≡ negℤ (pos n) → toZ w64 (ofZ w64 z) ≡ answerOf (andThen (messagesIn s) f)
+    pub any-refused : (f : List Placed → Reply ℕ) (z : ℤ) → SFits w64 z → z ≡ negℤ (pos n) → toZ w64 (ofZ w64 z) ≡ answerOf (andThen (messagesReply s) f)
     any-refused f z g e = same z g (negℤ (pos n)) e ∙ sym (ap (λ (x : Reply (List Placed)). answerOf (andThen x f)) reply-refused)
 
-    pub lent-refused : (f : List Placed → Reply (List ℕ)) (d : List ℕ) (z : ℤ) → SFits w64 z → z ≡ negℤ (pos n) → lent (toZ w64 (ofZ w64 z)) d ≡ writtenIn d (andThen (messagesIn s) f)
+    pub lent-refused : (f : List Placed → Reply (List ℕ)) (d : List ℕ) (z : ℤ) → SFits w64 z → z ≡ negℤ (pos n) → lent (toZ w64 (ofZ w64 z)) d ≡ writtenIn d (andThen (messagesReply s) f)
     lent-refused f d z g e = ap (λ (x : ℤ). lent x d) (same z g (negℤ (pos n)) e) ∙ sym (ap (λ (x : Reply (List Placed)). writtenIn d (andThen x f)) reply-refused)
 
     pub place-fault : (z : ℤ) → SFits w64 z → z ≡ pos (place .0) → toZ w64 (ofZ w64 z) ≡ placeAnswer s

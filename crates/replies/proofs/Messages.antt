@@ -23,7 +23,7 @@ use Rattle.token.specs.Walk.{messagesOf, messageAt}
 use Rattle.token.proofs.Splits.{message-length}
 use Rattle.token.proofs.Walks.{whole, accepted-short, answer-accepts, answer-refuses}
 use Rattle.put.specs.Put.{put, Written}
-use Rattle.table.specs.Table.{placed, fieldsIn}
+use Rattle.table.specs.Table.{placedAt, fieldsIn}
 use Rattle.replies.specs.Replies.{Reply, given, refused, andThen, readingReply, itemAt, fits, messageIn, lackOf, answerOf, lent, writtenIn, fieldAnswer, conversationAnswer}
 use Rattle.replies.proofs.Answers.{same}
 
@@ -140,10 +140,10 @@ module _ (s : List ℕ) (k : ℕ) (m : List ℕ) (m-is : m ≡ messageAt s k .oc
     message-long = omega (arith, ap length m-is, message-length (stand .number) (stand .conversation) (messageAt s k .octets) (stand .passes))
 
     module _ (p : ℕ) (p-is : p ≡ messageAt s k .place) where
-      message-is : placed p m ≡ messageAt s k
+      message-is : placedAt p m ≡ messageAt s k
       message-is = rw (p-is, m-is)
 
-      module _ (xs : List ℕ) (xs-is : xs ≡ fieldsIn (placed p m)) (i : ℕ) (z : ℤ) (f : SFits w64 z) where
+      module _ (xs : List ℕ) (xs-is : xs ≡ fieldsIn (placedAt p m)) (i : ℕ) (z : ℤ) (f : SFits w64 z) where
         pub field-given : i < 5 → z ≡ pos (getD xs i 0) → toZ w64 (ofZ w64 z) ≡ fieldAnswer s k i
         field-given h e =
             same z f (pos (getD xs i 0)) e

@@ -3,7 +3,7 @@
 -- Glossary
 --   Reply A              what a call gives, or the number of its refusal
 --   andThen r f          the reply that f gives behind r; a refusal stays
---   readingReply         the messages of a reading, or its refusal; messagesIn s: those of the token s
+--   readingReply         the messages of a reading, or its refusal; messagesReply s: those of the token s
 --   itemAt xs k          item k of a list, 19 beyond it
 --   fits room v          the octets v, 16 where they don't fit into the room
 --   messageIn s k        message k of the token s
@@ -48,8 +48,8 @@ abbrev pub readingReply : Reading → Reply (List Placed)
 readingReply (Accepted ms) = given ms
 readingReply (Refused n place) = refused n
 
-abbrev pub messagesIn : List ℕ → Reply (List Placed)
-messagesIn s = readingReply (tokenOf s)
+abbrev pub messagesReply : List ℕ → Reply (List Placed)
+messagesReply s = readingReply (tokenOf s)
 
 -- "then 19 for an index or first line beyond the list"
 unfoldable pub itemAt : {A : Type 0} → List A → ℕ → Reply A
@@ -63,7 +63,7 @@ fits room v = cond (leb (length v) room) (given v) (refused 16)
 
 -- "a message's header fields by its place in the list"
 unfoldable pub messageIn : List ℕ → ℕ → Reply Placed
-messageIn s k = andThen (messagesIn s) (λ ms. itemAt ms k)
+messageIn s k = andThen (messagesReply s) (λ ms. itemAt ms k)
 
 abbrev pub lackOf : Reading → ℕ
 lackOf (Accepted ms) = 19
@@ -88,7 +88,7 @@ writtenIn d (refused n) = lent (negℤ (pos n)) d
 
 -- "structural reading with number of messages or refusal"
 abbrev pub messagesAnswer : List ℕ → ℤ
-messagesAnswer s = answerOf (andThen (messagesIn s) (λ ms. given (length ms)))
+messagesAnswer s = answerOf (andThen (messagesReply s) (λ ms. given (length ms)))
 
 -- document 01: "Each returns its number and the token place of the message at fault"
 abbrev pub faultPlace : Reading → ℕ
@@ -117,7 +117,7 @@ vectorLengthAnswer s k i = answerOf (andThen (messageIn s k) (λ m. andThen (ite
 
 -- all fields, and all vectors, in one call
 abbrev pub tableAnswer : List ℕ → List ℕ → Lent
-tableAnswer s d = writtenIn d (andThen (messagesIn s) (λ ms. fits (length d) (tableOf ms)))
+tableAnswer s d = writtenIn d (andThen (messagesReply s) (λ ms. fits (length d) (tableOf ms)))
 
 -- so a host can show the messages before the fault
 abbrev pub FrontAccepted : Type 0

@@ -26,7 +26,7 @@ use Rattle.coverage.specs.Coverage.{headerIn, vectorsIn}
 use Rattle.coverage.proofs.Numbered.{count-nego, count-one, count-alert}
 use Rattle.put.specs.Put.{Written}
 use Rattle.put.proofs.Laws.{put-none, length-put}
-use Rattle.table.specs.Table.{placed, fieldsIn, spansIn, entryOf, entriesOf, numbers, tableOf, TableFits, Held}
+use Rattle.table.specs.Table.{placedAt, fieldsIn, spansIn, entryOf, entriesOf, numbers, tableOf, TableFits, Held}
 use Rattle.table.proofs.Numbers.{numbers-append, length-numbers, length-spans, both-written}
 
 -- ---- a message of an accepted token
@@ -45,8 +45,8 @@ message-held p q c m e h =
     }
 
 -- ---- the size of an entry
-pub entry-length : (p : ℕ) (m : List ℕ) → length (numbers (entryOf (placed p m))) ≡ 24 + 8 * length (vectorsIn m)
-entry-length p m = omega (arith, length-numbers (entryOf (placed p m)), length-spans p (vectorsIn m))
+pub entry-length : (p : ℕ) (m : List ℕ) → length (numbers (entryOf (placedAt p m))) ≡ 24 + 8 * length (vectorsIn m)
+entry-length p m = omega (arith, length-numbers (entryOf (placedAt p m)), length-spans p (vectorsIn m))
 
 -- an array that lies behind its header leaves room for the header
 part-few : (header : ℕ) (m : List ℕ) (v : Vector) → header ≤ length m → ((extent v ≡ 0 → ⊥) → header ≤ v .offset .0) → length (part m v) + header ≤ length m
@@ -110,8 +110,8 @@ table-within (m ∷ ms) place q v e h =
     let held : Held place m = message-held place q v m (e .0) (omega (arith, length-append m (join ms))) in
     omega (
       arith,
-      ap length (table-first (placed place m) (placedFrom (place + length m) ms)),
-      length-append (numbers (entryOf (placed place m))) (tableOf (placedFrom (place + length m) ms)),
+      ap length (table-first (placedAt place m) (placedFrom (place + length m) ms)),
+      length-append (numbers (entryOf (placedAt place m))) (tableOf (placedFrom (place + length m) ms)),
       entry-length place m,
       entry-within place m held,
       length-append m (join ms),
@@ -157,18 +157,18 @@ module _ (T rest : List ℕ) (place : ℕ) (done : List ℕ) (on : Walked T rest
     walked-less : length (take (length rest - length m) (drop (length m) rest)) < length rest
     walked-less = omega (arith, ap length (tail-all rest (length m)), length-drop (length m) rest, here .some, here .fits, ap length m-is)
 
-    walked-on : Walked T (take (length rest - length m) (drop (length m) rest)) (place + length m) (done ++ numbers (entryOf (placed place m)))
+    walked-on : Walked T (take (length rest - length m) (drop (length m) rest)) (place + length m) (done ++ numbers (entryOf (placedAt place m)))
     walked-on =
-        subst (λ (l : List ℕ). Walked T l (place + length m) (done ++ numbers (entryOf (placed place m)))) (sym (tail-all rest (length m)))
-        (subst (λ (l : List ℕ). Walked T (drop (length l) rest) (place + length l) (done ++ numbers (entryOf (placed place l)))) (sym m-is)
+        subst (λ (l : List ℕ). Walked T l (place + length m) (done ++ numbers (entryOf (placedAt place m)))) (sym (tail-all rest (length m)))
+        (subst (λ (l : List ℕ). Walked T (drop (length l) rest) (place + length l) (done ++ numbers (entryOf (placedAt place l)))) (sym m-is)
         (record {
           left = here .left;
           ends = let a = on .ends in omega (arith, length-drop (length (firstOf rest)) rest, here .fits);
           come =
               on .come
               ∙ ap (λ (ms : List (List ℕ)). done ++ tableOf (placedFrom place ms)) (here .messages)
-              ∙ ap (λ (l : List ℕ). done ++ l) (table-first (placed place (firstOf rest)) (placedFrom (place + length (firstOf rest)) (here .left .ms)))
-              ∙ sym (append-assoc done (numbers (entryOf (placed place (firstOf rest)))) (tableOf (placedFrom (place + length (firstOf rest)) (here .left .ms))));
+              ∙ ap (λ (l : List ℕ). done ++ l) (table-first (placedAt place (firstOf rest)) (placedFrom (place + length (firstOf rest)) (here .left .ms)))
+              ∙ sym (append-assoc done (numbers (entryOf (placedAt place (firstOf rest)))) (tableOf (placedFrom (place + length (firstOf rest)) (here .left .ms))));
         }))
 
     -- what is passed with this message is no longer than the table
@@ -177,8 +177,8 @@ module _ (T rest : List ℕ) (place : ℕ) (done : List ℕ) (on : Walked T rest
         omega (
           arith,
           ap length (walked-on .come),
-          length-append (done ++ numbers (entryOf (placed place m))) (tableOf (placedFrom (place + length m) (walked-on .left .ms))),
-          length-append done (numbers (entryOf (placed place m))),
+          length-append (done ++ numbers (entryOf (placedAt place m))) (tableOf (placedFrom (place + length m) (walked-on .left .ms))),
+          length-append done (numbers (entryOf (placedAt place m))),
           entry-length place m,
         )
 
@@ -220,9 +220,9 @@ module _ (T rest : List ℕ) (n : ℕ) (on : Sized T rest n) where
       pub sized-on : Sized T (take (length rest - length m) (drop (length m) rest)) (n + (24 + 8 * c))
       sized-on = record {
         place = on .place + length m;
-        done = on .done ++ numbers (entryOf (placed (on .place) m));
+        done = on .done ++ numbers (entryOf (placedAt (on .place) m));
         walked = walked-on T rest (on .place) (on .done) (on .walked) more m m-is;
-        n-is = omega (arith, on .n-is, length-append (on .done) (numbers (entryOf (placed (on .place) m))), entry-length (on .place) m);
+        n-is = omega (arith, on .n-is, length-append (on .done) (numbers (entryOf (placedAt (on .place) m))), entry-length (on .place) m);
         short = on .short;
       }
 
@@ -233,16 +233,16 @@ module _ (p : ℕ) (m : List ℕ) (d : List ℕ) (at : ℕ) (room : at + (24 + 8
   pub entry-front : at + 24 ≤ length d
   entry-front = omega (arith, room)
 
-  module _ (n : ℕ) (n-is : n ≡ length (vectorsIn m)) (e : List ℕ) (next : ℕ) (w : Written d at 24 (numbers (fieldsIn (placed p m) ++ (n ∷ []))) e next) where
+  module _ (n : ℕ) (n-is : n ≡ length (vectorsIn m)) (e : List ℕ) (next : ℕ) (w : Written d at 24 (numbers (fieldsIn (placedAt p m) ++ (n ∷ []))) e next) where
     pub entry-rest : next + 8 * length (vectorsIn m) ≤ length e
     entry-rest =
-        let l : length e ≡ length d = ap length (w .holds) ∙ length-put d at (numbers (fieldsIn (placed p m) ++ (n ∷ []))) (let a = w .size in omega arith) in
+        let l : length e ≡ length d = ap length (w .holds) ∙ length-put d at (numbers (fieldsIn (placedAt p m) ++ (n ∷ []))) (let a = w .size in omega arith) in
         omega (arith, w .after)
 
-    pub entry-written : (e' : List ℕ) (next' : ℕ) → Written e next (8 * length (vectorsIn m)) (numbers (spansIn p (vectorsIn m))) e' next' → Written d at (24 + 8 * length (vectorsIn m)) (numbers (entryOf (placed p m))) e' next'
+    pub entry-written : (e' : List ℕ) (next' : ℕ) → Written e next (8 * length (vectorsIn m)) (numbers (spansIn p (vectorsIn m))) e' next' → Written d at (24 + 8 * length (vectorsIn m)) (numbers (entryOf (placedAt p m))) e' next'
     entry-written e' next' x =
         subst (λ (l : List ℕ). Written d at (24 + 8 * length (vectorsIn m)) l e' next')
-        (sym (numbers-append (fieldsIn (placed p m) ++ (n ∷ [])) (spansIn p (vectorsIn m))) ∙ ap (λ (k : ℕ). numbers (fieldsIn (placed p m) ++ (k ∷ spansIn p (vectorsIn m)))) n-is)
+        (sym (numbers-append (fieldsIn (placedAt p m) ++ (n ∷ [])) (spansIn p (vectorsIn m))) ∙ ap (λ (k : ℕ). numbers (fieldsIn (placedAt p m) ++ (k ∷ spansIn p (vectorsIn m)))) n-is)
         (both-written room w x)
 
 pub record Stored (T d rest : List ℕ) (place : ℕ) (e : List ℕ) (next : ℕ) : Type 0 where
@@ -282,14 +282,14 @@ module _ (T d rest : List ℕ) (place : ℕ) (e : List ℕ) (next : ℕ) (on : S
         let l : length e ≡ length d = ap length (on .written .holds) ∙ length-put d 0 (on .done) (omega (arith, here-room)) in
         omega (arith, on .written .after, here-room)
 
-    pub stored-on : (e' : List ℕ) (next' place' : ℕ) → place' ≡ place + length m → Written e next (24 + 8 * length (vectorsIn m)) (numbers (entryOf (placed place m))) e' next' → Stored T d (take (length rest - length m) (drop (length m) rest)) place' e' next'
+    pub stored-on : (e' : List ℕ) (next' place' : ℕ) → place' ≡ place + length m → Written e next (24 + 8 * length (vectorsIn m)) (numbers (entryOf (placedAt place m))) e' next' → Stored T d (take (length rest - length m) (drop (length m) rest)) place' e' next'
     stored-on e' next' place' place-is w =
-        let size : length (on .done) + (24 + 8 * length (vectorsIn m)) ≡ length (on .done ++ numbers (entryOf (placed place m))) = omega (arith, length-append (on .done) (numbers (entryOf (placed place m))), entry-length place m) in
+        let size : length (on .done) + (24 + 8 * length (vectorsIn m)) ≡ length (on .done ++ numbers (entryOf (placedAt place m))) = omega (arith, length-append (on .done) (numbers (entryOf (placedAt place m))), entry-length place m) in
         subst (λ (p : ℕ). Stored T d (take (length rest - length m) (drop (length m) rest)) p e' next') (sym place-is)
         (record {
-          done = on .done ++ numbers (entryOf (placed place m));
+          done = on .done ++ numbers (entryOf (placedAt place m));
           walked = walked-on T rest place (on .done) (on .walked) more m m-is;
-          written = subst (λ (n : ℕ). Written d 0 n (on .done ++ numbers (entryOf (placed place m))) e' next') size (both-written (omega (arith, here-room)) (on .written) w);
+          written = subst (λ (n : ℕ). Written d 0 n (on .done ++ numbers (entryOf (placedAt place m))) e' next') size (both-written (omega (arith, here-room)) (on .written) w);
           room = on .room;
         })
 

@@ -1,8 +1,8 @@
 -- What a viewer shows of a message in numbers, and the table of all messages. Document 02, C-17.
 --
 -- Glossary
---   placed p m        the message m at the token place p
---   fieldsIn m        the header's fields of a placed message: token place, type, sequence number, header length, message length
+--   placedAt p m      the message m at the token place p
+--   fieldsIn m        the token place of a placed message, and its header's type, sequence number, header length and message length
 --   vectorPlace p v   the token place of the vector v of a message at the token place p
 --   spansIn p vs      place and length of each of the vectors vs of a message at p
 --   entryOf m         what the table has of m: its fields, the number of its vectors, and place and length of each
@@ -24,8 +24,8 @@ use Rattle.token.specs.Token.{Placed, Accepted, tokenOf}
 use Rattle.coverage.specs.Coverage.{headerIn, vectorsIn}
 use Rattle.put.specs.Put.{octetsOf}
 
-abbrev pub placed : ℕ → List ℕ → Placed
-placed p m = record { place = p; octets = m }
+abbrev pub placedAt : ℕ → List ℕ → Placed
+placedAt p m = record { place = p; octets = m }
 
 -- "a message's header fields"
 abbrev pub fieldsIn : Placed → List ℕ

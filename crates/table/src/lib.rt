@@ -8,7 +8,7 @@ ghost use Rattle.token.specs.Token.{tokenOf};
 ghost use Rattle.token.specs.Walk.{messagesOf, Accepts};
 ghost use Rattle.coverage.specs.Coverage.{vectorsIn};
 ghost use Rattle.put.specs.Put.{Written};
-ghost use Rattle.table.specs.Table.{placed, fieldsIn, vectorPlace, spansIn, entryOf, numbers, tableOf, Held};
+ghost use Rattle.table.specs.Table.{placedAt, fieldsIn, vectorPlace, spansIn, entryOf, numbers, tableOf, Held};
 use coverage::vectors::vector_count;
 use coverage::vectors::vector_of;
 use message::field;
@@ -23,7 +23,7 @@ use vector::in_token;
 // The header's fields of the message m at a place.
 pub fn fields(place: TokenPlace, m: &[u8]) -> [u32; 5]
     requires { ⌜ (place .0 < 2 ^ 32) × (40 ≤ length (now m)) ⌝ }
-    ensures { λ r. ⌜ r ≡ fieldsIn (placed (place .0) (now (m .entry))) ⌝ }
+    ensures { λ r. ⌜ r ≡ fieldsIn (placedAt (place .0) (now (m .entry))) ⌝ }
 {
     [
         place.0 as u32,
@@ -81,7 +81,7 @@ fn put_spans(d: &mut [u8], at: usize, place: TokenPlace, m: &[u8]) -> usize
 // The fields of the message m at a place, and the number n of its vectors.
 fn put_fields(d: &mut [u8], at: usize, place: TokenPlace, m: &[u8], n: u32) -> usize
     requires { ⌜ (at + 24 ≤ length (now d)) × (place .0 < 2 ^ 32) × (40 ≤ length (now m)) ⌝ }
-    ensures { λ r. ⌜ Written (now (d .entry)) at 24 (numbers (fieldsIn (placed (place .0) (now (m .entry))) ++ (n ∷ []))) (now (d .exit)) r ⌝ }
+    ensures { λ r. ⌜ Written (now (d .entry)) at 24 (numbers (fieldsIn (placedAt (place .0) (now (m .entry))) ++ (n ∷ []))) (now (d .exit)) r ⌝ }
 {
     let type_at = put_u32(d, at, place.0 as u32);
     let sequence_at = put_u32(d, type_at, le_u32(m, field::TYPE));
@@ -95,7 +95,7 @@ fn put_fields(d: &mut [u8], at: usize, place: TokenPlace, m: &[u8], n: u32) -> u
 fn put_entry(d: &mut [u8], at: usize, place: TokenPlace, m: &[u8]) -> usize
     requires { ⌜ Held (place .0) (now m) ⌝ }
     requires { ⌜ at + (24 + 8 * length (vectorsIn (now m))) ≤ length (now d) ⌝ }
-    ensures { λ r. ⌜ Written (now (d .entry)) at (24 + 8 * length (vectorsIn (now (m .entry)))) (numbers (entryOf (placed (place .0) (now (m .entry))))) (now (d .exit)) r ⌝ }
+    ensures { λ r. ⌜ Written (now (d .entry)) at (24 + 8 * length (vectorsIn (now (m .entry)))) (numbers (entryOf (placedAt (place .0) (now (m .entry))))) (now (d .exit)) r ⌝ }
 {
     let spans_at = put_fields(d, at, place, m, vector_count(m) as u32);
     put_spans(d, spans_at, place, m)

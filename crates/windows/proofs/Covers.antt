@@ -114,7 +114,7 @@ pub windows-joined : WindowsJoined
 windows-joined ls qs = let e : reached ls 0 qs - 0 ≡ reached ls 0 qs = omega arith in following-joined ls 0 qs ∙ ap (λ (n : ℕ). joined (take n ls)) e
 
 -- enough windows, each with a line, reach the end
-reached-all : (ls : List (List ℕ)) (first : ℕ) (qs : List Request) → EachShows ls first qs → length ls ≤ first + length qs → length ls ≤ reached ls first qs
+pub reached-all : (ls : List (List ℕ)) (first : ℕ) (qs : List Request) → EachShows ls first qs → length ls ≤ first + length qs → length ls ≤ reached ls first qs
 unfolding reached EachShows
 reached-all ls first [] h g = omega arith
 reached-all ls first (q ∷ qs) h g = go (which (leb (suc first) (length ls))) (reached-all ls (first + windowOf ls first (q .end) (q .buffer) .lines) qs (h .1)) where
