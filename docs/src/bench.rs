@@ -100,7 +100,7 @@ fn extensions(count: usize) -> Vec<u8> {
     let mut body = vec![0u8; count * 12];
     for k in 0..count {
         put(&mut body, k * 12, k as u64, 4);
-        put(&mut body, k * 12 + 4, 96 + (k as u64 * 7) % (count as u64 * 12 - 8), 4);
+        put(&mut body, k * 12 + 4, 96 + (k as u64 * 7) % (count as u64 * 12 - 7), 4);
         put(&mut body, k * 12 + 8, 8, 4);
     }
     let mut m = message(0, 0, &body);
@@ -290,60 +290,52 @@ fn sizes() {
     println!("sizes are measured with the whole product's library");
 }
 
+/// The least of many rounds.
+#[cfg(product)]
+fn least(mut round: impl FnMut() -> f64) -> f64 {
+    (0..301).map(|_| round()).fold(f64::INFINITY, f64::min)
+}
+
 #[cfg(product)]
 fn sizes() {
-    let row = |what: &str, size: usize, unit: usize, mut f: Box<dyn FnMut()>| {
-        let calls = calls_for(&mut f);
-        let ns = (0..301).map(|_| time(calls, &mut f)).fold(f64::INFINITY, f64::min);
-        println!("{what} {size} {ns:.1} {:.3}", ns / unit as f64);
+    let row = |what: &str, size: usize, ns: f64| println!("{what} {size} {ns:.1} {:.2}", ns / size.max(1) as f64);
+    let reading = |token: &[u8]| {
+        assert_eq!(answer(ours_read, token).0, 0);
+        let calls = calls_for(|| {
+            black_box(answer(ours_read, black_box(token)));
+        });
+        least(|| read_time(ours_read, calls, token))
     };
-    let reading = |token: Vec<u8>| -> Box<dyn FnMut()> {
-        assert_eq!(answer(ours_read, &token).0, 0);
-        Box::new(move || {
-            black_box(answer(ours_read, black_box(&token)));
-        })
-    };
-    let listing = |token: Vec<u8>| -> Box<dyn FnMut()> {
-        let mut text = vec![0u8; 1 << 20];
-        Box::new(move || {
+    let mut text = vec![0u8; 1 << 20];
+    let mut listing = |token: &[u8]| {
+        let mut call = || {
             black_box(unsafe { ours_listing(token.as_ptr(), token.len(), usize::MAX, text.as_mut_ptr(), text.len()) });
-        })
+        };
+        let calls = calls_for(&mut call);
+        least(|| time(calls, &mut call))
     };
-    let record = |token: Vec<u8>| -> Box<dyn FnMut()> {
-        let mut transcript = vec![0u8; 65_536];
-        let own = [9u8; 16];
-        let mut call = move || unsafe { ours_record(transcript.as_mut_ptr(), transcript.len(), token.as_ptr(), token.len(), own.as_ptr(), own.len()) };
+    let mut transcript = vec![0u8; 65_536];
+    let own = [9u8; 16];
+    let mut record = |token: &[u8]| {
+        let mut call = || unsafe { ours_record(transcript.as_mut_ptr(), transcript.len(), token.as_ptr(), token.len(), own.as_ptr(), own.len()) };
         assert_eq!(call(), 0);
-        Box::new(move || {
+        let mut call = || {
             black_box(call());
-        })
+        };
+        let calls = calls_for(&mut call);
+        least(|| time(calls, &mut call))
     };
-    let offer = |body: usize| {
-        [message(0, 0, &[9; 16]), {
-            let mut m = message(2, 1, &vec![5; body]);
-            m[40..56].fill(9);
-            m
-        }]
-        .concat()
+    let offer = |octets: usize| {
+        let mut metadata = message(2, 1, &vec![5; octets - 176]);
+        metadata[40..56].fill(9);
+        [message(0, 0, &[9; 16]), metadata].concat()
     };
-    for octets in [64, 256, 1_024, 4_096, 16_384, 65_535] {
-        row("reading-by-octets", octets, octets, reading(message(2, 0, &vec![7; octets - 64])));
-    }
-    for messages in [1, 4, 16, 64, 256, 1_023] {
-        row("reading-by-messages", messages, messages, reading(empty_exchanges(0, messages as u32)));
-    }
-    for elements in [1, 10, 100, 1_000, 5_400] {
-        row("reading-by-elements", elements, elements, reading(extensions(elements)));
-    }
-    for octets in [256, 1_024, 4_096, 16_384, 65_535] {
-        row("record-by-octets", octets, octets, record(offer(octets - 176)));
-    }
-    for messages in [1, 4, 16, 64, 256, 1_023] {
-        row("listing-by-messages", messages, messages, listing(empty_exchanges(0, messages as u32)));
-    }
-    for elements in [1, 10, 100, 1_000, 5_400] {
-        row("listing-by-elements", elements, elements, listing(extensions(elements)));
-    }
+    [64, 1_024, 65_535].into_iter().for_each(|octets| row("reading-by-octets", octets, reading(&message(2, 0, &vec![7; octets - 64]))));
+    [1, 16, 256, 1_023].into_iter().for_each(|messages| row("reading-by-messages", messages, reading(&empty_exchanges(0, messages as u32))));
+    [0, 1, 10, 100, 1_000, 5_400].into_iter().for_each(|elements| row("reading-by-elements", elements, reading(&extensions(elements))));
+    [256, 1_024, 4_096, 16_384, 65_535].into_iter().for_each(|octets| row("record-by-octets", octets, record(&offer(octets))));
+    [1, 16, 256, 1_023].into_iter().for_each(|messages| row("listing-by-messages", messages, listing(&empty_exchanges(0, messages as u32))));
+    [0, 10, 100, 1_000, 5_400].into_iter().for_each(|elements| row("listing-by-elements", elements, listing(&extensions(elements))));
 }
 
 fn main() {
