@@ -18,7 +18,7 @@ use Rattle.envelope.specs.Reading.{envelopeOf}
 use Rattle.envelope.specs.Claims.{OneReading}
 use Rattle.envelope.proofs.RoundTrip.{encoded-read, read-encoded}
 use Rattle.envelope_write.specs.Writing.{stored, unstored, storing}
-use Rattle.envelope_write.specs.Claims.{WrittenReads, ReadWritten, RefusedKeeps}
+use Rattle.envelope_write.specs.Claims.{EnvelopeReads, ReadWritten, RefusedKeeps}
 
 no-stored : {A : Type 0} (k n : ℕ) (d d' : List ℕ) → unstored k d ≡ stored n d' → A
 no-stored k n d d' e = let z : _≡_ {A = ℕ} 0 1 = cc in absurd (omega arith)
@@ -39,9 +39,9 @@ test d e = go (which (fine e)) (which (few e)) (which (leb (length (encoded e)) 
   go (inl a) (inr b) c f = refused 23 (rw (a, b))
   go (inr a) b c f = refused 20 (rw a)
 
-pub written-reads : WrittenReads
+pub envelope-reads : EnvelopeReads
 unfolding put
-written-reads d e n d' h = go (test d e) where
+envelope-reads d e n d' h = go (test d e) where
   go : Test d e → envelopeOf (take n d') ≡ ok e
   go (done a b c is) =
       let s : stored (length (encoded e)) (put d 0 (encoded e)) ≡ stored n d' = sym is ∙ h in

@@ -1,7 +1,7 @@
 -- What is proved of writing and reading together.
 --
 -- Glossary
---   WrittenReads   what was written reads back as the same fields
+--   EnvelopeReads   what was written reads back as the same fields
 --   ReadWritten    what was read, written again into a buffer with room for it, gives the same octets
 --   RefusedKeeps   a refusal leaves the buffer as it was
 use Prim.Native.Nat.{ℕ, _≤_}
@@ -15,8 +15,8 @@ use Rattle.envelope.specs.Reading.{envelopeOf}
 use Rattle.envelope_write.specs.Writing.{stored, unstored, storing}
 
 -- "What is written reads back equal"
-abbrev pub WrittenReads : Type 0
-WrittenReads = (d : List ℕ) (e : Envelope) (n : ℕ) (d' : List ℕ) → storing d e ≡ stored n d' → envelopeOf (take n d') ≡ ok e
+abbrev pub EnvelopeReads : Type 0
+EnvelopeReads = (d : List ℕ) (e : Envelope) (n : ℕ) (d' : List ℕ) → storing d e ≡ stored n d' → envelopeOf (take n d') ≡ ok e
 
 -- "what is read, written again, gives the same octets"
 abbrev pub ReadWritten : Type 0
