@@ -19,5 +19,7 @@ pub mod Inside
 pub mod Spoken
 pub mod Sends
 pub mod Logs
+pub mod Early
+pub mod Flags
 pub mod Verifies
 pub mod Nines

@@ -25,8 +25,10 @@
 --   MarksOnce          in a run an end has at most one accepted call with marks
 --   writtenBy          the messages that a call writes: those it adds to its end's, where it is accepted and no reading
 --   writtenAt          those of the end x, of a call at the end y; writtenIn: of a list of calls
---   isVerify           a message that is a VERIFY, by its type
---   VerifyOnce         of the messages that an end writes in a run at most one is a VERIFY
+--   isVerify           a message that is a VERIFY, by its type; verifyFor id: one for the scheme id
+--   VerifyOnce         of the messages that an end writes in a run at most one is a VERIFY for a scheme
+--   recordAt x w       the record of the end x; chosenIn r: the scheme that the record r has as chosen
+--   FlagSays           once the choice is fixed, the record says whether the VERIFY for the chosen scheme is written
 --   Arrays r           the lengths of a record's arrays, as the struct gives them
 --   sentBy r k         the message that a writing call sends: the record's number and conversation, and the call's arguments; sent: one of a kind
 --   ReadsAsSent        a message stands at the transcript's end and reads as it was sent, whatever follows
@@ -40,6 +42,7 @@ use mathlib.Core.List.{List, [], _∷_, _++_, List·Memᴰ}
 use mathlib.Core.Option.{Option, none, some}
 use lib.ListN.{length, take}
 use lib.Dec.{eqb}
+use Rattle.octets.specs.Octets.{sameOctets}
 use Rattle.message.specs.Layout.{headOf}
 use Rattle.encode.specs.Encode.{Contents, ofNego, ofExchange}
 use Rattle.roundtrip.specs.ReadBack.{InRange, ReadsBack, Stands, Outgoing}
@@ -47,10 +50,11 @@ use Rattle.schemes.specs.Lists.{Id, keep, first, leftOver, rule2, replyOf, oneT
 use Rattle.schemes.specs.Sets.{left}
 use Rattle.conversation.specs.declared.Record.{Record}
 use Rattle.conversation.specs.declared.Answer.{Answer}
-use Rattle.conversation.specs.State.{CLOSED, withStage, closed, ownOf, schemeAt, limitRows, fresh}
+use Rattle.conversation.specs.State.{LATER, CLOSED, withStage, closed, ownOf, schemeAt, limitRows, fresh}
 use Rattle.conversation.specs.Turns.{NEGO, METADATA}
 use Rattle.conversation.specs.Outcomes.{Outcome, zeroId, answered, refused, closedBy}
 use Rattle.conversation.specs.Writing.{heading, schemeNow, Speech, kindIn, contentsIn, opening}
+use Rattle.conversation.specs.Admitting.{schemeIn}
 use Rattle.conversation.specs.Reading.{readingToken}
 use Rattle.conversation.specs.Choosing.{chose, choosing}
 use Rattle.conversation.specs.Runs.{Sized, Call, offer, reply, metadata, speak, read, choose, End, act, Opening, World, world, outcomeAt, next, ends, Entry, run, isAccepted, isLawful, Replied}
@@ -200,9 +204,26 @@ writtenIn x w (c ∷ cs) = writtenAt x w (c .0) (c .1) ++ writtenIn x (next w (c
 abbrev pub isVerify : List ℕ → Bool
 isVerify m = eqb (headOf m .kind) 6
 
--- "Each end sends at most one VERIFY in a conversation."
+abbrev pub verifyFor : Id → List ℕ → Bool
+verifyFor id m = isVerify m && sameOctets id (schemeIn m)
+
+-- "Each end sends at most one VERIFY in a conversation.", as C-15 has it: one for each scheme, so one for the chosen scheme
 abbrev pub VerifyOnce : Type 0
-VerifyOnce = (o : Opening) (cs : List (Bool × Call)) (x : Bool) → length (keep isVerify (writtenIn x (world o) cs)) ≤ 1
+VerifyOnce = (o : Opening) (cs : List (Bool × Call)) (x : Bool) (id : Id) → length (keep (verifyFor id) (writtenIn x (world o) cs)) ≤ 1
+
+abbrev pub recordAt : Bool → World → Record
+recordAt false w = w .i .record-of
+recordAt true w = w .a .record-of
+
+abbrev pub chosenIn : Record → Id
+chosenIn r = schemeAt r (r .chosen)
+
+-- C-15: "Such a VERIFY counts as the end's one only if its scheme is the one chosen": behind the choice `verified` is set exactly where the one that
+-- counts is written, early or later
+abbrev pub FlagSays : Type 0
+FlagSays =
+    (o : Opening) (cs : List (Bool × Call)) (x : Bool) → recordAt x (ends (world o) cs) .stage ≡ LATER
+    → length (keep (verifyFor (chosenIn (recordAt x (ends (world o) cs)))) (writtenIn x (world o) cs)) ≡ cond (recordAt x (ends (world o) cs) .verified) 1 0
 
 pub record Arrays (r : Record) : Type 0 where
   pub list : length (r .list) ≡ 256
