@@ -33,7 +33,7 @@ use Rattle.conversation.specs.Reading.{conversationOf, judge, judged, co
 use Rattle.conversation.specs.Choosing.{choosing}
 use Rattle.conversation.specs.Runs.{Call, offer, reply, metadata, speak, read, choose, Opening, world, Entry, run, MarksKept, NotLost, act}
 use Rattle.conversation.specs.Logs.{messagesIn}
-use Rattle.conversation.specs.Worked.{scheme, opened, negotiation, Says, saysOf, names, longerLists, LongerRun, LongerChoice, WholeConversation, WholeLogs, AtOnce, StaysRejected}
+use Rattle.conversation.specs.Worked.{scheme, opened, negotiation, Says, saysOf, names, longerLists, LongerRun, LongerChoice, WholeConversation, WholeLogs, AtOnce, EarlyVerify, StaysRejected}
 use Rattle.conversation.proofs.Demand.{demand3, run-calls}
 
 pub whole-conversation : WholeConversation
@@ -121,6 +121,12 @@ choices = refl
 pub at-once : AtOnce
 unfolding opened le signed32 sameOctets sameId keepsRule shown shapeOf headOf elementsAt contentOf vectorsOf commonRows allKeepRule noneCritical contentRows bodyRows frontRows idsAt schemesIn orderRows nextRows chainOf put encoded mem place distinct setOf left has mentions ones openPlaces keptBelow turns.writing turns.reading turns.kindOf turns.typeOf turns.afterOpening turns.afterFurther turns.after offering replying writingMetadata speaking schemeNow messagesAt schemeFits heardFor passed admit conversationOf judge judged commonAfter keptAfter finish readingToken choosing act
 at-once = refl
+
+-- early VERIFYs, that count and that do not
+
+pub early-verify : EarlyVerify
+unfolding opened longerLists le signed32 sameOctets sameId keepsRule shown shapeOf headOf elementsAt contentOf vectorsOf commonRows allKeepRule noneCritical contentRows bodyRows frontRows idsAt schemesIn orderRows nextRows chainOf put encoded mem place distinct setOf left has mentions ones openPlaces keptBelow turns.writing turns.reading turns.kindOf turns.typeOf turns.afterOpening turns.afterFurther turns.after offering replying writingMetadata speaking schemeNow messagesAt schemeFits heardFor passed admit conversationOf judge judged commonAfter keptAfter finish readingToken choosing act
+early-verify = (refl, refl)
 
 -- a critical extension, and then a good token
 
