@@ -48,7 +48,7 @@ distinct-at (x ∷ l) zero (suc k) d a b e = no-true (let m : mem x l ≡ true =
 distinct-at (x ∷ l) (suc j) zero d a b e = no-true (let m : mem x l ≡ true = mem-at x l j (omega arith) (subst (λ (y : Id). sameOctets x y ≡ true) (sym e) (same-refl x)) in rw m at d)
 distinct-at (x ∷ l) (suc j) (suc k) d a b e = ap suc (distinct-at l j k (and-r (not (mem x l)) (distinct l) d) (omega arith) (omega arith) e)
 
-place-at : (l : List Id) (id : Id) → mem id l ≡ true → getD l (place l id) [] ≡ id
+pub place-at : (l : List Id) (id : Id) → mem id l ≡ true → getD l (place l id) [] ≡ id
 unfolding mem place
 place-at [] id m = no-true m
 place-at (x ∷ l) id m = elim (which (sameOctets id x)) [
@@ -58,7 +58,7 @@ place-at (x ∷ l) id m = elim (which (sameOctets id x)) [
 
 module _ (r : Record) (limits : AllTrue (limitRows r)) where
   -- two places of one scheme are one
-  same-place : (j k : ℕ) → j < r .count → k < r .count → schemeAt r j ≡ schemeAt r k → j ≡ k
+  pub same-place : (j k : ℕ) → j < r .count → k < r .count → schemeAt r j ≡ schemeAt r k → j ≡ k
   same-place j k a b e =
       let (l1, (l2, (l3, rest))) = limits in
       distinct-at (ownOf r) j k l3 (subst (λ (n : ℕ). j < n) (sym (own-length r)) a) (subst (λ (n : ℕ). k < n) (sym (own-length r)) b) e

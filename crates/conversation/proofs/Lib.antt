@@ -22,4 +22,5 @@ pub mod Logs
 pub mod Early
 pub mod Flags
 pub mod Verifies
+pub mod Heard
 pub mod Nines

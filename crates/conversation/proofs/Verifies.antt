@@ -28,7 +28,7 @@ use Rattle.conversation.specs.Admitting.{schemeIn}
 use Rattle.conversation.specs.Choosing.{chose, choosing}
 use Rattle.conversation.specs.Runs.{Call, offer, reply, metadata, speak, read, choose, End, act, Opening, World, world, outcomeAt, next, ends, isAccepted}
 use Rattle.conversation.specs.Logs.{Logs, nextLogs}
-use Rattle.conversation.specs.Claims.{writtenBy, writtenAt, writtenIn, isVerify, verifyFor, VerifyOnce, recordAt, chosenIn, FlagSays}
+use Rattle.conversation.specs.Claims.{addedBy, addedAt, writtenIn, isReading, isVerify, verifyFor, VerifyOnce, recordAt, chosenIn, FlagSays}
 use Rattle.conversation.proofs.Rows.{decide-out, true-behind}
 use Rattle.conversation.proofs.Chosen.{choiceTable, choice-passed}
 use Rattle.conversation.proofs.Inside.{now-below, now-chosen, chosen-below}
@@ -86,6 +86,9 @@ verify-message id r s type value talk whole =
 
 -- 2. what a call writes is a VERIFY for a scheme exactly where the call is one
 
+abbrev isWriting : Call → Bool
+isWriting k = not (isReading k)
+
 one-of : (p : List ℕ → Bool) (m : List ℕ) (b : Bool) → p m ≡ b → length (keep p (m ∷ [])) ≡ cond b 1 0
 one-of p m true e = rw e
 one-of p m false e = rw e
@@ -119,7 +122,7 @@ module _ (id : Id) (e : End) (peer : List ℕ) (log : List (List ℕ)) (ok : Sou
       let (l1, (l2, (l3, (l4, (l5, (l6, (l7, rest))))))) = ok .limits in
       ap (λ (k : ℕ). length (schemeAt r k)) (now-chosen r m) ∙ ok .ids _ (chosen-below r m (rw role at l7) (p .left))
 
-  accepted-one : (k : Call) → isAccepted (act e peer k .answer) ≡ true → length (keep (verifyFor id) (writtenBy e peer k)) ≡ cond (verifies id r k) 1 0
+  accepted-one : (k : Call) → isAccepted (act e peer k .answer) ≡ true → length (keep (verifyFor id) (addedBy isWriting e peer k)) ≡ cond (verifies id r k) 1 0
   unfolding act
   accepted-one (offer random) a = rw a (one-of (verifyFor id) _ false (other-message id r NEGO _ refl))
   accepted-one (reply m random) a = rw a (one-of (verifyFor id) _ false (other-message id r NEGO _ refl))
@@ -127,13 +130,20 @@ module _ (id : Id) (e : End) (peer : List ℕ) (log : List (List ℕ)) (ok : Sou
   accepted-one (speak (request value)) a = rw a (one-of (verifyFor id) _ false (other-message id r (kindIn (request value)) _ refl))
   accepted-one (speak (checksum type value)) a = rw a (one-of (verifyFor id) _ _ (verify-message id r _ type value (ok .talk) (speak-whole (checksum type value) a)))
   accepted-one (speak (alarm code)) a = rw a (one-of (verifyFor id) _ false (other-message id r (kindIn (alarm code)) _ refl))
-  accepted-one read a = rw a refl
+  accepted-one read a = refl
   accepted-one (choose m (request value)) a = rw a (one-of (verifyFor id) _ false (other-message id (chose r m) (kindIn (request value)) _ refl))
   accepted-one (choose m (checksum type value)) a = rw a (one-of (verifyFor id) _ _ (verify-message id (chose r m) _ type value (ok .talk) (choose-whole m (checksum type value) a)))
   accepted-one (choose m (alarm code)) a = rw a (one-of (verifyFor id) _ false (other-message id (chose r m) (kindIn (alarm code)) _ refl))
 
-  one-call : (k : Call) → length (keep (verifyFor id) (writtenBy e peer k)) ≡ cond (isAccepted (act e peer k .answer) && verifies id r k) 1 0
-  one-call k = elim (which (isAccepted (act e peer k .answer))) [ inl a ↦ rw a (rw a at (accepted-one k a)) | inr a ↦ rw a ]
+  one-call : (k : Call) → length (keep (verifyFor id) (addedBy isWriting e peer k)) ≡ cond (isAccepted (act e peer k .answer) && verifies id r k) 1 0
+  one-call k = elim (which (isAccepted (act e peer k .answer))) [ inl a ↦ rw a (rw a at (accepted-one k a)) | inr a ↦ rw a (rw a at (none k a)) ] where
+    none : (k : Call) → isAccepted (act e peer k .answer) ≡ false → length (keep (verifyFor id) (addedBy isWriting e peer k)) ≡ 0
+    none (offer random) a = rw a
+    none (reply m random) a = rw a
+    none (metadata scheme value) a = rw a
+    none (speak s) a = rw a
+    none read a = refl
+    none (choose m s) a = rw a
 
 -- 3. a run: the calls are counted as their messages
 
@@ -141,7 +151,7 @@ keep-append : {A : Type 0} (p : A → Bool) (xs ys : List A) → keep p (xs ++ y
 keep-append p [] ys = refl
 keep-append p (x ∷ xs) ys = elim (which (p x)) [ inl b ↦ rw (b, keep-append p xs ys) | inr b ↦ rw (b, keep-append p xs ys) ]
 
-one-at : (id : Id) (x : Bool) (w : World) (l : Logs) → Both w l → (y : Bool) (k : Call) → length (keep (verifyFor id) (writtenAt x w y k)) ≡ cond (here id w x y k) 1 0
+one-at : (id : Id) (x : Bool) (w : World) (l : Logs) → Both w l → (y : Bool) (k : Call) → length (keep (verifyFor id) (addedAt isWriting x w y k)) ≡ cond (here id w x y k) 1 0
 one-at id false w l b false k = one-call id (w .i) (w .a .turn) (l .i) (b .i) k
 one-at id false w l b true k = refl
 one-at id true w l b false k = refl
@@ -150,7 +160,7 @@ one-at id true w l b true k = one-call id (w .a) (w .i .turn) (l .a) (b .a) k
 counted : (id : Id) (x : Bool) (w : World) (l : Logs) → Both w l → (cs : List (Bool × Call)) → length (keep (verifyFor id) (writtenIn x w cs)) ≡ verifyCount w x id cs
 counted id x w l b [] = refl
 counted id x w l b (c ∷ cs) =
-    let here-is : List (List ℕ) = writtenAt x w (c .0) (c .1) in
+    let here-is : List (List ℕ) = addedAt isWriting x w (c .0) (c .1) in
     let there : List (List ℕ) = writtenIn x (next w (c .0) (c .1)) cs in
     let rest = counted id x (next w (c .0) (c .1)) (nextLogs w (c .0) (c .1) l) (both-next w l b (c .0) (c .1) .0) cs in
     ap length (keep-append (verifyFor id) here-is there) ∙ length-append (keep (verifyFor id) here-is) (keep (verifyFor id) there)

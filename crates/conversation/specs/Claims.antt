@@ -23,12 +23,13 @@
 --   atEnd x y          the entry y of a run is one of the end x; acceptedAt: and is accepted, of a sort of calls
 --   withMarks          the sort of calls with marks; isReading: readings
 --   MarksOnce          in a run an end has at most one accepted call with marks
---   writtenBy          the messages that a call writes: those it adds to its end's, where it is accepted and no reading
---   writtenAt          those of the end x, of a call at the end y; writtenIn: of a list of calls
+--   addedBy sort       the messages that an accepted call of a sort adds to its end's; addedAt: those of the end x, of a call at the end y; addedIn: of a list of calls
+--   writtenIn, readIn  the messages that the end x writes, and those that it reads, in a list of calls
 --   isVerify           a message that is a VERIFY, by its type; verifyFor id: one for the scheme id
 --   VerifyOnce         of the messages that an end writes in a run at most one is a VERIFY for a scheme
 --   recordAt x w       the record of the end x; chosenIn r: the scheme that the record r has as chosen
 --   FlagSays           once the choice is fixed, the record says whether the VERIFY for the chosen scheme is written
+--   HeardOnce          of the messages that an end reads in a run at most one is a VERIFY for a scheme; HeardSays: as FlagSays, of what is read
 --   Arrays r           the lengths of a record's arrays, as the struct gives them
 --   sentBy r k         the message that a writing call sends: the record's number and conversation, and the call's arguments; sent: one of a kind
 --   ReadsAsSent        a message stands at the transcript's end and reads as it was sent, whatever follows
@@ -188,18 +189,24 @@ isReading read = true
 isReading (choose m s) = false
 
 -- by what is added to the end's log, whichever call it is (`EveryRun`: the transcript holds just that)
-abbrev pub writtenBy : End → List ℕ → Call → List (List ℕ)
-writtenBy e peer k = cond (isAccepted (act e peer k .answer) && not (isReading k)) (added e peer k) []
+abbrev pub addedBy : (Call → Bool) → End → List ℕ → Call → List (List ℕ)
+addedBy sort e peer k = cond (sort k && isAccepted (act e peer k .answer)) (added e peer k) []
 
-abbrev pub writtenAt : Bool → World → Bool → Call → List (List ℕ)
-writtenAt false w false k = writtenBy (w .i) (w .a .turn) k
-writtenAt true w true k = writtenBy (w .a) (w .i .turn) k
-writtenAt false w true k = []
-writtenAt true w false k = []
+abbrev pub addedAt : (Call → Bool) → Bool → World → Bool → Call → List (List ℕ)
+addedAt sort false w false k = addedBy sort (w .i) (w .a .turn) k
+addedAt sort true w true k = addedBy sort (w .a) (w .i .turn) k
+addedAt sort false w true k = []
+addedAt sort true w false k = []
+
+abbrev pub addedIn : (Call → Bool) → Bool → World → List (Bool × Call) → List (List ℕ)
+addedIn sort x w [] = []
+addedIn sort x w (c ∷ cs) = addedAt sort x w (c .0) (c .1) ++ addedIn sort x (next w (c .0) (c .1)) cs
 
 abbrev pub writtenIn : Bool → World → List (Bool × Call) → List (List ℕ)
-writtenIn x w [] = []
-writtenIn x w (c ∷ cs) = writtenAt x w (c .0) (c .1) ++ writtenIn x (next w (c .0) (c .1)) cs
+writtenIn = addedIn (λ k. not (isReading k))
+
+abbrev pub readIn : Bool → World → List (Bool × Call) → List (List ℕ)
+readIn = addedIn isReading
 
 abbrev pub isVerify : List ℕ → Bool
 isVerify m = eqb (headOf m .kind) 6
@@ -224,6 +231,15 @@ abbrev pub FlagSays : Type 0
 FlagSays =
     (o : Opening) (cs : List (Bool × Call)) (x : Bool) → recordAt x (ends (world o) cs) .stage ≡ LATER
     → length (keep (verifyFor (chosenIn (recordAt x (ends (world o) cs)))) (writtenIn x (world o) cs)) ≡ cond (recordAt x (ends (world o) cs) .verified) 1 0
+
+-- the same of what an end reads: 14 for the peer's second
+abbrev pub HeardOnce : Type 0
+HeardOnce = (o : Opening) (cs : List (Bool × Call)) (x : Bool) (id : Id) → length (keep (verifyFor id) (readIn x (world o) cs)) ≤ 1
+
+abbrev pub HeardSays : Type 0
+HeardSays =
+    (o : Opening) (cs : List (Bool × Call)) (x : Bool) → recordAt x (ends (world o) cs) .stage ≡ LATER
+    → length (keep (verifyFor (chosenIn (recordAt x (ends (world o) cs)))) (readIn x (world o) cs)) ≡ cond (recordAt x (ends (world o) cs) .heard) 1 0
 
 pub record Arrays (r : Record) : Type 0 where
   pub list : length (r .list) ≡ 256
