@@ -84,10 +84,10 @@ expect 'P1 to P10' "$(wc -l <"$work/rows")" 10
 head -n 7 "$work/N" >"$work/text"
 expect 'a block, given as it stands' "$(./negoex list --hex - <"$work/text" 2>/dev/null | tail -n 1)" 'end messages=1 octets=112'
 
-chosen() { printf '%s\n' "$PWD/crates/scripts/data/$1" | target/bin/converse | grep -e '^choice' -e '^refused' | tail -n 1; }
-expect 'P11' "$(chosen p11)" 'choice 0D53335C-F9EA-4D0D-B2EC-4AE3786EC308 left=2'
-expect 'P12, the acceptor marks' "$(chosen p12-acceptor-marks)" 'choice 0CD065B1-2E17-4593-8F60-12FE01807FC1 left=1'
-expect 'P12, the initiator marks' "$(chosen p12-initiator-marks)" 'choice 0CD065B1-2E17-4593-8F60-12FE01807FC1 left=1'
+chosen() { printf '%s\n' "$PWD/crates/scripts/data/$1" | target/bin/converse | grep -o -e 'choice=.*' -e '^refused.*' | tail -n 1; }
+expect 'P11' "$(chosen p11)" 'choice=0D53335C-F9EA-4D0D-B2EC-4AE3786EC308 left=2'
+expect 'P12, the acceptor marks' "$(chosen p12-acceptor-marks)" 'choice=0CD065B1-2E17-4593-8F60-12FE01807FC1 left=1'
+expect 'P12, the initiator marks' "$(chosen p12-initiator-marks)" 'choice=0CD065B1-2E17-4593-8F60-12FE01807FC1 left=1'
 expect 'P13' "$(printf '%s\n' "$PWD/crates/scripts/data/p13" | target/bin/converse | grep -c '^refused 17 at=0$')" 1
 
 printf 'tests/programs/rules.sh: %d cases, %d failed\n' "$cases" "$failures"

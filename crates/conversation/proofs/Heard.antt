@@ -132,3 +132,193 @@ module _ (id : Id) where
 
   verify-one : (r : Record) (t : List ℕ) (c d : Scan) (m : List ℕ) (e : admit r t c m ≡ on d) → eqb (kindOf (not (r .acceptor)) (headOf m .kind)) VERIFY ≡ true → one m ≡ cond (sameOctets id (schemeIn m)) 1 0
   verify-one r t c d m e v = let yes : isVerify m ≡ true = verify-is r t c d m e ∙ v in rw yes
+
+  -- 3. a later token
+
+  module _ (r : Record) (t : List ℕ) (f : eqb (reads r) FURTHER ≡ true) where
+    -- the VERIFYs of the chosen scheme that are read
+    pub record Later (c : Scan) (n : ℕ) : Type 0 where
+      pub low : c .chosen < r .count
+      pub most : n ≤ 1
+      pub says : id ≡ schemeAt r (c .chosen) → n ≡ cond (c .heard) 1 0
+
+    record Names (c d : Scan) (m : List ℕ) : Type 0 where
+      low : d .chosen < r .count
+      scheme : schemeAt r (d .chosen) ≡ schemeIn m
+      fits : furtherFits r (c .chosen) (schemeIn m) ≡ true
+
+    -- a message makes its scheme the chosen one
+    names : (c d : Scan) (m : List ℕ) → admit r t c m ≡ on d → Names c d m
+    unfolding schemeFits
+    names c d m e =
+        let k = further-kind r (reads r) (c .position) (spent r t c d m e) (kind r t c d m e) f (may r t c d m e) in
+        let g : furtherFits r (c .chosen) (schemeIn m) ≡ true = rw (k .0, k .1, f) at (fitting r t c d m e) in
+        let own : mem (schemeIn m) (ownOf r) ≡ true = further-mem r (c .chosen) (schemeIn m) g in
+        let at : place (ownOf r) (schemeIn m) ≡ d .chosen = sym (rw f) ∙ chosen-then r t c d m e in
+        record { low = subst (λ (n : ℕ). n < r .count) at (place-own r (schemeIn m) own); scheme = ap (schemeAt r) (sym at) ∙ place-at (ownOf r) (schemeIn m) own; fits = g }
+
+    -- behind a message, where the flag said before it how many of its scheme there were
+    then-later : (c d : Scan) (m : List ℕ) (n : ℕ) (e : admit r t c m ≡ on d) → n ≤ 1 → (id ≡ schemeIn m → n ≡ cond (heardFor r c (schemeIn m)) 1 0) → Later d (n + one m)
+    then-later c d m n e most says = go (which (eqb (kind r t c d m e) VERIFY)) where
+      x : Names c d m
+      x = names c d m e
+
+      go : (eqb (kind r t c d m e) VERIFY ≡ true) ⊎ (eqb (kind r t c d m e) VERIFY ≡ false) → Later d (n + one m)
+      go (inr v) =
+          let zero : one m ≡ 0 = other-one r t c d m e v in
+          let same : heardFor r c (schemeIn m) ≡ d .heard = sym (or-false (heardFor r c (schemeIn m))) ∙ ap (λ (b : Bool). heardFor r c (schemeIn m) || b) (sym v) ∙ heard-then r t c d m e in
+          let is : n ≡ n + one m = omega arith in
+          record {
+            low = x .low;
+            most = omega arith;
+            says = λ z. sym is ∙ says (z ∙ x .scheme) ∙ ap (λ (b : Bool). cond b 1 0) same;
+          } where
+            or-false : (b : Bool) → b || false ≡ b
+            or-false true = refl
+            or-false false = refl
+      go (inl v) =
+          let fresh : heardFor r c (schemeIn m) ≡ false = unspent r t c d m e v in
+          let heard : true ≡ d .heard = sym (rw (fresh, v)) ∙ heard-then r t c d m e in
+          let counts = verify-one r t c d m e v in
+          elim (which (sameOctets id (schemeIn m))) [
+            | inl q ↦
+                let none : n ≡ 0 = says (same-eq _ _ q) ∙ rw fresh in
+                let one-is : one m ≡ 1 = counts ∙ rw q in
+                record { low = x .low; most = omega arith; says = λ z. (let w : n + one m ≡ 1 = omega arith in w) ∙ ap (λ (b : Bool). cond b 1 0) heard }
+            | inr q ↦
+                let none : one m ≡ 0 = counts ∙ rw q in
+                record { low = x .low; most = omega arith; says = λ z. no-true (sym q ∙ subst (λ (i : Id). sameOctets id i ≡ true) (z ∙ x .scheme) (same-refl id)) }
+          ]
+
+    module _ (limits : AllTrue (limitRows r)) where
+      not-none : (k : ℕ) → k < r .count → eqb k NONE ≡ false
+      not-none k h =
+          let (l1, (l2, rest)) = limits in
+          let few : r .count ≤ 16 = leb-true _ _ l2 in
+          let some : k ≡ NONE → ⊥ = λ z. omega arith in
+          ne-eqb _ _ some
+
+      later-step : (c d : Scan) (m : List ℕ) (n : ℕ) → Later c n → admit r t c m ≡ on d → Later d (n + one m)
+      unfolding heardFor
+      later-step c d m n h e =
+          let none : eqb (c .chosen) NONE ≡ false = not-none (c .chosen) (h .low) in
+          let same : heardFor r c (schemeIn m) ≡ c .heard = ap (λ (b : Bool). cond b (c .heard && (isAt r (r .asked) (schemeIn m) && mem (schemeIn m) (replied r))) (c .heard)) (ap (λ (b : Bool). eqb (r .stage) 1 && b) none ∙ and-false (eqb (r .stage) 1)) in
+          let g : isAt r (c .chosen) (schemeIn m) ≡ true = rw none at (names c d m e .fits) in
+          let is : schemeIn m ≡ schemeAt r (c .chosen) = same-eq _ _ (and-r (ltb (c .chosen) (r .count)) (sameOctets (schemeIn m) (schemeAt r (c .chosen))) g) in
+          then-later c d m n e (h .most) (λ z. h .says (z ∙ is) ∙ ap (λ (b : Bool). cond b 1 0) (sym same)) where
+            and-false : (b : Bool) → b && false ≡ false
+            and-false true = refl
+            and-false false = refl
+
+      -- the acceptor's first later token: the first message fixes the choice
+      module _ (st : r .stage ≡ 1) (n₀ : ℕ) (most : n₀ ≤ 1) (early : mem id (ownOf r) ≡ true → n₀ ≡ cond (r .heard && isAt r (r .asked) id) 1 0) where
+        abbrev pub Chooses : Scan → ℕ → Type 0
+        Chooses c n = ((c .chosen ≡ NONE) × ((c .heard ≡ r .heard) × (n ≡ n₀))) ⊎ Later c n
+
+        chooses-step : (c d : Scan) (m : List ℕ) (n : ℕ) → Chooses c n → admit r t c m ≡ on d → Chooses d (n + one m)
+        chooses-step c d m n (inr h) e = inr (later-step c d m n h e)
+        chooses-step c d m n (inl (none, (same, is))) e = inr (then-later c d m n e (omega arith) says) where
+          in-reply : mem (schemeIn m) (replied r) ≡ true
+          in-reply = let g : r .acceptor && mem (schemeIn m) (replied r) ≡ true = rw none at (names c d m e .fits) in and-r (r .acceptor) (mem (schemeIn m) (replied r)) g
+
+          flag : heardFor r c (schemeIn m) ≡ r .heard && isAt r (r .asked) (schemeIn m)
+          flag = unfold heardFor in rw (st, none, same, in-reply) (ap (λ (b : Bool). r .heard && b) (and-true (isAt r (r .asked) (schemeIn m)))) where
+            and-true : (b : Bool) → b && true ≡ b
+            and-true true = refl
+            and-true false = refl
+
+          says : id ≡ schemeIn m → n ≡ cond (heardFor r c (schemeIn m)) 1 0
+          says z =
+              let own : mem id (ownOf r) ≡ true = subst (λ (i : Id). mem i (ownOf r) ≡ true) (sym z) (further-mem r (c .chosen) (schemeIn m) (names c d m e .fits)) in
+              is ∙ early own ∙ ap (λ (i : Id). cond (r .heard && isAt r (r .asked) i) 1 0) z ∙ ap (λ (b : Bool). cond b 1 0) (sym flag)
+
+  -- 4. the first token and the reply: a VERIFY stands at place 2, and nothing behind it
+
+  module _ (token : ℕ) (o : leb token 1 ≡ true) where
+    opens-low : (p : ℕ) (h : Bool) (k : ℕ) → eqb k VERIFY ≡ false → after token p h k ≤ 2
+    unfolding after afterOpening
+    opens-low p h k v = rw (v, o) (go (eqb k NEGO) (eqb k METADATA) (eqb k EXCHANGE) (eqb p 0) (eqb p 1)) where
+      go : (x y z a b : Bool) → cond x (cond a 1 0) (cond y (cond b 1 0) (cond z (cond b 2 0) 0)) ≤ 2
+      go true y z true b = omega arith
+      go true y z false b = omega arith
+      go false true z a true = omega arith
+      go false true z a false = omega arith
+      go false false true a true = omega arith
+      go false false true a false = omega arith
+      go false false false a b = omega arith
+
+    -- the exchange alone brings the turn to place 2
+    opens-asks : (p : ℕ) (h : Bool) (k : ℕ) → eqb k VERIFY ≡ false → after token p h k ≡ 2 → eqb k EXCHANGE ≡ true
+    unfolding after afterOpening
+    opens-asks p h k v e = go (eqb k NEGO) (eqb k METADATA) (eqb k EXCHANGE) (eqb p 0) (eqb p 1) (rw (v, o) at e) where
+      go : (x y z a b : Bool) → _≡_ {A = ℕ} (cond x (cond a 1 0) (cond y (cond b 1 0) (cond z (cond b 2 0) 0))) 2 → z ≡ true
+      go true y z true b q = absurd (omega arith)
+      go true y z false b q = absurd (omega arith)
+      go false true z a true q = absurd (omega arith)
+      go false true z a false q = absurd (omega arith)
+      go false false true a b q = refl
+      go false false false a b q = absurd (omega arith)
+
+    opens-verify : (p : ℕ) (h : Bool) (k : ℕ) → eqb k VERIFY ≡ true → not (eqb (after token p h k) 0) ≡ true → (p ≡ 2) × (after token p h k ≡ 3)
+    unfolding after afterOpening
+    opens-verify p true k v m = no-true (rw v at m)
+    opens-verify p false k v m =
+        let z : k ≡ 4 = eqb-true _ _ v in
+        elim (which (eqb p 2)) [ inl e ↦ (eqb-true _ _ e, rw (z, o, e)) | inr e ↦ no-true (rw (z, o, e) at m) ]
+
+    opens-none : (p : ℕ) (h : Bool) (k : ℕ) → p ≡ 3 → not (eqb (after token p h k) 0) ≡ true → ⊥
+    unfolding after afterOpening
+    opens-none p h k e m = go (eqb k NEGO) (eqb k METADATA) (eqb k EXCHANGE) (eqb k VERIFY) h (rw (e, o) at m) where
+      go : (x y z u w : Bool) → not (eqb (cond (u && w) 0 (cond x 0 (cond y 0 (cond z 0 (cond u 0 0))))) 0) ≡ true → ⊥
+      go x y z true true q = no-true q
+      go true y z true false q = no-true q
+      go true y z false w q = no-true q
+      go false true z true false q = no-true q
+      go false true z false w q = no-true q
+      go false false true true false q = no-true q
+      go false false true false w q = no-true q
+      go false false false true false q = no-true q
+      go false false false false w q = no-true q
+
+  module _ (r : Record) (t : List ℕ) (o : leb (reads r) 1 ≡ true) (other : eqb (r .stage) 1 ≡ false) (Link : Scan → Type 0)
+      (link : (c d : Scan) (m : List ℕ) → Link c → (e : admit r t c m ≡ on d) → eqb (kind r t c d m e) VERIFY ≡ false → Link d)
+      (linked : (c d : Scan) (m : List ℕ) → Link c → (e : admit r t c m ≡ on d) → c .position ≡ 2 → eqb (kind r t c d m e) VERIFY ≡ true → mem id (ownOf r) ≡ true → sameOctets id (schemeIn m) ≡ isAt r (d .asked) id) where
+    record Waits (c : Scan) (n : ℕ) : Type 0 where
+      quiet : c .heard ≡ false
+      zero : n ≡ 0
+      chain : Link c
+
+    record Spoke (c : Scan) (n : ℕ) : Type 0 where
+      heard : c .heard ≡ true
+      at : c .position ≡ 3
+      most : n ≤ 1
+      says : mem id (ownOf r) ≡ true → n ≡ cond (isAt r (c .asked) id) 1 0
+
+    abbrev Opens : Scan → ℕ → Type 0
+    Opens c n = Waits c n ⊎ Spoke c n
+
+    opens-step : (c d : Scan) (m : List ℕ) (n : ℕ) → Opens c n → admit r t c m ≡ on d → Opens d (n + one m)
+    opens-step c d m n (inr s) e = absurd (opens-none (reads r) o (c .position) (spent r t c d m e) (kind r t c d m e) (s .at) (may r t c d m e))
+    opens-step c d m n (inl w) e = go (which (eqb (kind r t c d m e) VERIFY)) where
+      plain : heardFor r c (schemeIn m) ≡ false
+      plain = unfold heardFor in rw other (w .quiet)
+
+      go : (eqb (kind r t c d m e) VERIFY ≡ true) ⊎ (eqb (kind r t c d m e) VERIFY ≡ false) → Opens d (n + one m)
+      go (inr v) =
+          let none : one m ≡ 0 = other-one r t c d m e v in
+          let was : n ≡ 0 = w .zero in
+          inl (record { quiet = sym (heard-then r t c d m e) ∙ rw (plain, v); zero = omega arith; chain = link c d m (w .chain) e v })
+      go (inl v) =
+          let p = opens-verify (reads r) o (c .position) (spent r t c d m e) (kind r t c d m e) v (may r t c d m e) in
+          let was : n ≡ 0 = w .zero in
+          let counts : one m ≡ cond (sameOctets id (schemeIn m)) 1 0 = verify-one r t c d m e v in
+          let is : n + one m ≡ one m = omega arith in
+          inr (record {
+            heard = sym (heard-then r t c d m e) ∙ rw (plain, v);
+            at = sym (position-then r t c d m e) ∙ p .1;
+            most = subst (λ (k : ℕ). k ≤ 1) (sym (is ∙ counts)) (few (sameOctets id (schemeIn m)));
+            says = λ own. is ∙ counts ∙ ap (λ (b : Bool). cond b 1 0) (linked c d m (w .chain) e (p .0) v own);
+          }) where
+            few : (b : Bool) → cond b 1 0 ≤ 1
+            few true = omega arith
+            few false = omega arith

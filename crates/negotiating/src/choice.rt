@@ -65,11 +65,11 @@ pub fn chosen_record(r: Record, marks: u16) -> Record
 {
     let kept = r.kept;
     let choice = choose_kept(kept, r.common, marks);
+    let place = choice.place as usize;
     let mut next = r;
     next.stage = Record::LATER;
     next.position = 0;
     next.marks = marks;
-    let place = choice.place as usize;
     next.chosen = place;
     next.verified = counts_for(r.verified, place, r.asked);
     next.heard = counts_for(r.heard, place, r.asked);

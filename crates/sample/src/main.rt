@@ -80,7 +80,7 @@ fn reply(transcript: &mut [u8], token: &[u8]) {
     let replied = write_reply(heard.next, transcript, 0, [34u8; 32]);
     say_answer(b"acceptor replies: refusal", replied);
     say_choice(replied);
-    // The same token once more has another number than the one expected. A refused call leaves record and transcript as they were.
+    // The same token once more has another number than the one expected. That refusal leaves record and transcript as they were.
     let again = read(replied.next, transcript, token);
     say_answer(b"acceptor reads again: refusal", again);
 }
