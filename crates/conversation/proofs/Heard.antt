@@ -1,12 +1,12 @@
 -- What an end reads of its peer's VERIFYs: at most one for each scheme, and what the record's flag says of it.
 -- Assumes nothing.
-use Prim.Native.Nat.{ℕ, _+_, _≤_, _<_}
+use Prim.Native.Nat.{ℕ, suc, _+_, _≤_, _<_}
 use mathlib.Core.Path.{_≡_, refl, sym, ap, subst, _∙_}
 use mathlib.Core.Bool.{Bool, true, false, cond, not, _&&_, _||_}
 use mathlib.Core.Logic.{_⊎_, inl, inr}
 use mathlib.Core.List.{List, [], _∷_}
 use native.Mathlib.Omega.{arith}
-use lib.ListN.{length}
+use lib.ListN.{length, getD}
 use lib.Dec.{eqb, leb, ltb}
 use borrow.Author.Tests.{eqb-true, eqb-false, eq-eqb, ne-eqb, leb-true, ltb-true, lt-ltb}
 use Rattle.octets.specs.Octets.{sameOctets}
@@ -103,6 +103,22 @@ module _ (r : Record) (t : List ℕ) (c d : Scan) (m : List ℕ) (e : admit r t 
   unfolding after
   unspent v = elim (which spent) [ inl s ↦ no-true (rw (v, s) at may) | inr s ↦ s ]
 
+low-place : (l : List Id) (s : Id) → place l s < length l → getD l (place l s) [] ≡ s
+unfolding place
+low-place [] s h = absurd (omega arith)
+low-place (x ∷ l) s h = elim (which (sameOctets s x)) [
+  | inl e ↦ rw e (sym (same-eq s x e))
+  | inr e ↦ rw e (low-place l s (let w : suc (place l s) < length (x ∷ l) = rw e at h in omega arith))
+]
+
+starts-same : (l : List Id) (a b : Id) → startsWith l a ≡ true → startsWith l b ≡ true → a ≡ b
+starts-same [] a b p q = no-true p
+starts-same (x ∷ l) a b p q = same-eq a x p ∙ sym (same-eq b x q)
+
+and-false : (b : Bool) → b && false ≡ false
+and-false true = refl
+and-false false = refl
+
 -- 2. the VERIFYs of a chain, message by message
 
 module _ (id : Id) where
@@ -198,24 +214,21 @@ module _ (id : Id) where
           let some : k ≡ NONE → ⊥ = λ z. omega arith in
           ne-eqb _ _ some
 
-      later-step : (c d : Scan) (m : List ℕ) (n : ℕ) → Later c n → admit r t c m ≡ on d → Later d (n + one m)
+      pub later-step : (c d : Scan) (m : List ℕ) (n : ℕ) → Later c n → admit r t c m ≡ on d → Later d (n + one m)
       unfolding heardFor
       later-step c d m n h e =
           let none : eqb (c .chosen) NONE ≡ false = not-none (c .chosen) (h .low) in
           let same : heardFor r c (schemeIn m) ≡ c .heard = ap (λ (b : Bool). cond b (c .heard && (isAt r (r .asked) (schemeIn m) && mem (schemeIn m) (replied r))) (c .heard)) (ap (λ (b : Bool). eqb (r .stage) 1 && b) none ∙ and-false (eqb (r .stage) 1)) in
           let g : isAt r (c .chosen) (schemeIn m) ≡ true = rw none at (names c d m e .fits) in
           let is : schemeIn m ≡ schemeAt r (c .chosen) = same-eq _ _ (and-r (ltb (c .chosen) (r .count)) (sameOctets (schemeIn m) (schemeAt r (c .chosen))) g) in
-          then-later c d m n e (h .most) (λ z. h .says (z ∙ is) ∙ ap (λ (b : Bool). cond b 1 0) (sym same)) where
-            and-false : (b : Bool) → b && false ≡ false
-            and-false true = refl
-            and-false false = refl
+          then-later c d m n e (h .most) (λ z. h .says (z ∙ is) ∙ ap (λ (b : Bool). cond b 1 0) (sym same))
 
       -- the acceptor's first later token: the first message fixes the choice
       module _ (st : r .stage ≡ 1) (n₀ : ℕ) (most : n₀ ≤ 1) (early : mem id (ownOf r) ≡ true → n₀ ≡ cond (r .heard && isAt r (r .asked) id) 1 0) where
         abbrev pub Chooses : Scan → ℕ → Type 0
         Chooses c n = ((c .chosen ≡ NONE) × ((c .heard ≡ r .heard) × (n ≡ n₀))) ⊎ Later c n
 
-        chooses-step : (c d : Scan) (m : List ℕ) (n : ℕ) → Chooses c n → admit r t c m ≡ on d → Chooses d (n + one m)
+        pub chooses-step : (c d : Scan) (m : List ℕ) (n : ℕ) → Chooses c n → admit r t c m ≡ on d → Chooses d (n + one m)
         chooses-step c d m n (inr h) e = inr (later-step c d m n h e)
         chooses-step c d m n (inl (none, (same, is))) e = inr (then-later c d m n e (omega arith) says) where
           in-reply : mem (schemeIn m) (replied r) ≡ true
@@ -283,21 +296,21 @@ module _ (id : Id) where
   module _ (r : Record) (t : List ℕ) (o : leb (reads r) 1 ≡ true) (other : eqb (r .stage) 1 ≡ false) (Link : Scan → Type 0)
       (link : (c d : Scan) (m : List ℕ) → Link c → (e : admit r t c m ≡ on d) → eqb (kind r t c d m e) VERIFY ≡ false → Link d)
       (linked : (c d : Scan) (m : List ℕ) → Link c → (e : admit r t c m ≡ on d) → c .position ≡ 2 → eqb (kind r t c d m e) VERIFY ≡ true → mem id (ownOf r) ≡ true → sameOctets id (schemeIn m) ≡ isAt r (d .asked) id) where
-    record Waits (c : Scan) (n : ℕ) : Type 0 where
-      quiet : c .heard ≡ false
-      zero : n ≡ 0
-      chain : Link c
+    pub record Waits (c : Scan) (n : ℕ) : Type 0 where
+      pub quiet : c .heard ≡ false
+      pub zero : n ≡ 0
+      pub chain : Link c
 
-    record Spoke (c : Scan) (n : ℕ) : Type 0 where
-      heard : c .heard ≡ true
-      at : c .position ≡ 3
-      most : n ≤ 1
-      says : mem id (ownOf r) ≡ true → n ≡ cond (isAt r (c .asked) id) 1 0
+    pub record Spoke (c : Scan) (n : ℕ) : Type 0 where
+      pub heard : c .heard ≡ true
+      pub at : c .position ≡ 3
+      pub most : n ≤ 1
+      pub says : mem id (ownOf r) ≡ true → n ≡ cond (isAt r (c .asked) id) 1 0
 
-    abbrev Opens : Scan → ℕ → Type 0
+    abbrev pub Opens : Scan → ℕ → Type 0
     Opens c n = Waits c n ⊎ Spoke c n
 
-    opens-step : (c d : Scan) (m : List ℕ) (n : ℕ) → Opens c n → admit r t c m ≡ on d → Opens d (n + one m)
+    pub opens-step : (c d : Scan) (m : List ℕ) (n : ℕ) → Opens c n → admit r t c m ≡ on d → Opens d (n + one m)
     opens-step c d m n (inr s) e = absurd (opens-none (reads r) o (c .position) (spent r t c d m e) (kind r t c d m e) (s .at) (may r t c d m e))
     opens-step c d m n (inl w) e = go (which (eqb (kind r t c d m e) VERIFY)) where
       plain : heardFor r c (schemeIn m) ≡ false
@@ -322,3 +335,73 @@ module _ (id : Id) where
             few : (b : Bool) → cond b 1 0 ≤ 1
             few true = omega arith
             few false = omega arith
+
+  -- 5. what an early VERIFY is for: the scheme at the AP_REQUEST's place
+
+  at-place : (r : Record) (s : Id) → mem id (ownOf r) ≡ true → sameOctets id s ≡ isAt r (place (ownOf r) s) id
+  at-place r s own = elim (which (sameOctets id s)) [
+    | inl q ↦
+        let own′ : mem s (ownOf r) ≡ true = subst (λ (i : Id). mem i (ownOf r) ≡ true) (same-eq id s q) own in
+        let same : schemeAt r (place (ownOf r) s) ≡ s = place-at (ownOf r) s own′ in
+        let yes : isAt r (place (ownOf r) s) id ≡ true = rw (lt-ltb _ _ (place-own r s own′)) (subst (λ (i : Id). sameOctets id i ≡ true) (sym same) q) in
+        q ∙ sym yes
+    | inr q ↦ q ∙ sym (elim (which (ltb (place (ownOf r) s) (r .count))) [
+      | inl h ↦
+          let low : place (ownOf r) s < length (ownOf r) = subst (λ (n : ℕ). place (ownOf r) s < n) (sym (own-length r)) (ltb-true _ _ h) in
+          rw h (subst (λ (i : Id). sameOctets id i ≡ false) (sym (low-place (ownOf r) s low)) q)
+      | inr h ↦ rw h
+    ])
+  ]
+
+  module _ (r : Record) (t : List ℕ) (o : leb (reads r) 1 ≡ true) where
+    exchange-fits : (c d : Scan) (m : List ℕ) (e : admit r t c m ≡ on d) → 3 ≤ kind r t c d m e → exchangeFits r t (schemeIn m) ≡ true
+    unfolding schemeFits
+    exchange-fits c d m e low =
+        let one-not : kind r t c d m e ≡ 1 → ⊥ = λ z. omega arith in
+        let two-not : kind r t c d m e ≡ 2 → ⊥ = λ z. omega arith in
+        let early : reads r ≤ 1 = leb-true _ _ o in
+        let further-not : reads r ≡ 2 → ⊥ = λ z. omega arith in
+        rw (ne-eqb _ _ one-not, ne-eqb _ _ two-not, ne-eqb _ _ further-not) at (fitting r t c d m e)
+
+    module _ (first : reads r ≡ 0) where
+      abbrev pub FirstLink : Scan → Type 0
+      FirstLink c = c .position ≡ 2 → (s : Id) × ((startsWith (listedBy t) s ≡ true) × (c .asked ≡ place (ownOf r) s))
+
+      pub first-link : (c d : Scan) (m : List ℕ) → FirstLink c → (e : admit r t c m ≡ on d) → eqb (kind r t c d m e) VERIFY ≡ false → FirstLink d
+      first-link c d m w e v p =
+          let ex : eqb (kind r t c d m e) EXCHANGE ≡ true = opens-asks (reads r) o (c .position) (spent r t c d m e) (kind r t c d m e) v (position-then r t c d m e ∙ p) in
+          let three : kind r t c d m e ≡ 3 = eqb-true _ _ ex in
+          let fits = exchange-fits c d m e (omega arith) in
+          (schemeIn m, (and-l (startsWith (listedBy t) (schemeIn m)) (eqb (reads r) 0 || isAt r (r .asked) (schemeIn m)) fits, sym (asked-then r t c d m e) ∙ rw (ex, first)))
+
+      pub first-linked : (c d : Scan) (m : List ℕ) → FirstLink c → (e : admit r t c m ≡ on d) → c .position ≡ 2 → eqb (kind r t c d m e) VERIFY ≡ true → mem id (ownOf r) ≡ true → sameOctets id (schemeIn m) ≡ isAt r (d .asked) id
+      first-linked c d m w e p v own =
+          let x = w p in
+          let four : kind r t c d m e ≡ 4 = eqb-true _ _ v in
+          let fits = exchange-fits c d m e (omega arith) in
+          let starts : startsWith (listedBy t) (schemeIn m) ≡ true = and-l (startsWith (listedBy t) (schemeIn m)) (eqb (reads r) 0 || isAt r (r .asked) (schemeIn m)) fits in
+          let same : x .0 ≡ schemeIn m = starts-same (listedBy t) (x .0) (schemeIn m) (x .1 .0) starts in
+          let not-three : kind r t c d m e ≡ 3 → ⊥ = λ z. omega arith in
+          let kept : c .asked ≡ d .asked = sym (rw (ne-eqb _ _ not-three)) ∙ asked-then r t c d m e in
+          at-place r (schemeIn m) own ∙ ap (λ (k : ℕ). isAt r k id) (ap (place (ownOf r)) (sym same) ∙ sym (x .1 .1) ∙ kept)
+
+    module _ (answer : reads r ≡ 1) where
+      abbrev pub AnswerLink : Scan → Type 0
+      AnswerLink c = c .asked ≡ r .asked
+
+      kept-asked : (c d : Scan) (m : List ℕ) (e : admit r t c m ≡ on d) → c .asked ≡ d .asked
+      kept-asked c d m e =
+          let no : eqb (kind r t c d m e) EXCHANGE && eqb (reads r) 0 ≡ false = rw answer (and-false (eqb (kind r t c d m e) EXCHANGE)) in
+          sym (rw no) ∙ asked-then r t c d m e
+
+      pub answer-link : (c d : Scan) (m : List ℕ) → AnswerLink c → (e : admit r t c m ≡ on d) → eqb (kind r t c d m e) VERIFY ≡ false → AnswerLink d
+      answer-link c d m w e v = sym (kept-asked c d m e) ∙ w
+
+      pub answer-linked : (c d : Scan) (m : List ℕ) → AnswerLink c → (e : admit r t c m ≡ on d) → c .position ≡ 2 → eqb (kind r t c d m e) VERIFY ≡ true → mem id (ownOf r) ≡ true → sameOctets id (schemeIn m) ≡ isAt r (d .asked) id
+      answer-linked c d m w e p v own =
+          let four : kind r t c d m e ≡ 4 = eqb-true _ _ v in
+          let fits = and-r (startsWith (listedBy t) (schemeIn m)) (eqb (reads r) 0 || isAt r (r .asked) (schemeIn m)) (exchange-fits c d m e (omega arith)) in
+          let here : isAt r (r .asked) (schemeIn m) ≡ true = rw answer at fits in
+          let low = and-l (ltb (r .asked) (r .count)) (sameOctets (schemeIn m) (schemeAt r (r .asked))) here in
+          let is : schemeIn m ≡ schemeAt r (r .asked) = same-eq _ _ (and-r (ltb (r .asked) (r .count)) (sameOctets (schemeIn m) (schemeAt r (r .asked))) here) in
+          ap (sameOctets id) is ∙ sym (rw low) ∙ ap (λ (k : ℕ). isAt r k id) (sym w ∙ kept-asked c d m e)
