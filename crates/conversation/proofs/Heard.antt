@@ -8,7 +8,7 @@ use mathlib.Core.List.{List, [], _∷_}
 use native.Mathlib.Omega.{arith}
 use lib.ListN.{length, getD}
 use lib.Dec.{eqb, leb, ltb}
-use borrow.Author.Tests.{eqb-true, eqb-false, eq-eqb, ne-eqb, leb-true, ltb-true, lt-ltb}
+use borrow.Author.Tests.{eqb-true, ne-eqb, leb-true, ltb-true, lt-ltb}
 use Rattle.octets.specs.Octets.{sameOctets}
 use Rattle.octets.proofs.Bools.{which, no-true, and-l, and-r}
 use Rattle.octets.proofs.Same.{same-eq, same-refl}
@@ -22,12 +22,12 @@ use Rattle.conversation.specs.State.{NONE, ownOf, schemeAt, replied, lim
 use Rattle.conversation.specs.Turns.{FURTHER, NEGO, METADATA, EXCHANGE, VERIFY, kindOf, afterOpening, after, reads}
 use Rattle.conversation.specs.Writing.{startsWith}
 use Rattle.conversation.specs.Admitting.{schemeIn, listedBy, isAt, exchangeFits, furtherFits, schemeFits, heardFor, passed, Admitted, on, stop, admit}
-use Rattle.conversation.specs.Reading.{Judged, whole, halted, judge}
+use Rattle.conversation.specs.Reading.{whole, halted, judge}
 use Rattle.conversation.specs.Logs.{messagesIn}
 use Rattle.conversation.specs.Claims.{isVerify, verifyFor}
 use Rattle.conversation.proofs.Tokens.{not-stop}
-use Rattle.conversation.proofs.Inside.{mem-at, own-length, place-own, further-mem, further-kind}
-use Rattle.conversation.proofs.Early.{place-at, same-place}
+use Rattle.conversation.proofs.Inside.{own-length, place-own, further-mem, further-kind}
+use Rattle.conversation.proofs.Early.{place-at}
 
 -- 1. a message that is let through: what it has, and what is carried on
 

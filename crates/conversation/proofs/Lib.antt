@@ -23,4 +23,5 @@ pub mod Early
 pub mod Flags
 pub mod Verifies
 pub mod Heard
+pub mod Hearings
 pub mod Nines

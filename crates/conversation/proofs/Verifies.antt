@@ -2,7 +2,7 @@
 -- and what the record's flag says of it.
 -- Assumes nothing.
 use Prim.Native.Nat.{ℕ, suc, _+_, _≤_}
-use mathlib.Core.Path.{_≡_, refl, sym, ap, subst, _∙_}
+use mathlib.Core.Path.{_≡_, refl, sym, ap, _∙_}
 use mathlib.Core.Bool.{Bool, true, false, cond, not, _&&_}
 use mathlib.Core.Logic.{inl, inr}
 use mathlib.Core.List.{List, [], _∷_, _++_}
@@ -12,7 +12,7 @@ use lib.Dec.{eqb}
 use lib.IntN.{ℤ}
 use borrow.Author.Tests.{eqb-true, eqb-false, ne-eqb, not-true}
 use Rattle.octets.specs.Octets.{octets, sameOctets}
-use Rattle.octets.proofs.Bools.{which, no-true, and-l, and-r}
+use Rattle.octets.proofs.Bools.{which, no-true, and-l}
 use Rattle.message.specs.Layout.{headOf}
 use Rattle.message.specs.Check.{Row}
 use Rattle.message.proofs.Tables.{AllTrue, without, fails-other}
@@ -20,21 +20,21 @@ use Rattle.encode.specs.Encode.{Contents, ofVerify, sizeOf, headFields, bodyFie
 use Rattle.roundtrip.proofs.Fields.{number-at, octets-at}
 use Rattle.schemes.specs.Lists.{Id, keep}
 use Rattle.conversation.specs.declared.Record.{Record}
-use Rattle.conversation.specs.State.{LATER, schemeAt, limitRows}
-use Rattle.conversation.specs.Turns.{NEGO, METADATA, VERIFY, typeOf, mayWrite}
+use Rattle.conversation.specs.State.{LATER, schemeAt}
+use Rattle.conversation.specs.Turns.{NEGO, METADATA, VERIFY, typeOf}
 use Rattle.conversation.specs.Outcomes.{Outcome, decide, row, fits}
 use Rattle.conversation.specs.Writing.{heading, messageOf, stageRows, thenFits, schemeNow, schemeAllowed, namedRows, Speech, request, checksum, alarm, kindIn, spoken, speaking}
 use Rattle.conversation.specs.Admitting.{schemeIn}
 use Rattle.conversation.specs.Choosing.{chose, choosing}
-use Rattle.conversation.specs.Runs.{Call, offer, reply, metadata, speak, read, choose, End, act, Opening, World, world, outcomeAt, next, ends, isAccepted}
+use Rattle.conversation.specs.Runs.{Call, offer, reply, metadata, speak, read, choose, End, act, Opening, World, world, next, ends, isAccepted}
 use Rattle.conversation.specs.Logs.{Logs, nextLogs}
 use Rattle.conversation.specs.Claims.{addedBy, addedAt, writtenIn, isReading, isVerify, verifyFor, VerifyOnce, recordAt, chosenIn, FlagSays}
 use Rattle.conversation.proofs.Rows.{decide-out, true-behind}
 use Rattle.conversation.proofs.Chosen.{choiceTable, choice-passed}
 use Rattle.conversation.proofs.Inside.{now-below, now-chosen, chosen-below}
 use Rattle.conversation.proofs.Logs.{type-known, Sound, Both, both-next, both-opened}
-use Rattle.conversation.proofs.Early.{isChecksum, verifies, verifyCount, EarlyStage, Gone, here, once, written-gone, invs-start}
-use Rattle.conversation.proofs.Flags.{Has, has-behind, has-start}
+use Rattle.conversation.proofs.Early.{verifies, verifyCount, EarlyStage, Gone, here, once, written-gone, invs-start}
+use Rattle.conversation.proofs.Flags.{has-behind, has-start}
 
 -- 1. a written message's type is that of its kind, and a VERIFY's scheme stands at 40
 
@@ -147,7 +147,7 @@ module _ (id : Id) (e : End) (peer : List ℕ) (log : List (List ℕ)) (ok : Sou
 
 -- 3. a run: the calls are counted as their messages
 
-keep-append : {A : Type 0} (p : A → Bool) (xs ys : List A) → keep p (xs ++ ys) ≡ keep p xs ++ keep p ys
+pub keep-append : {A : Type 0} (p : A → Bool) (xs ys : List A) → keep p (xs ++ ys) ≡ keep p xs ++ keep p ys
 keep-append p [] ys = refl
 keep-append p (x ∷ xs) ys = elim (which (p x)) [ inl b ↦ rw (b, keep-append p xs ys) | inr b ↦ rw (b, keep-append p xs ys) ]
 

@@ -114,7 +114,8 @@ acceptedOf w [] = []
 acceptedOf w (c ∷ cs) =
     cond (isAccepted (outcomeAt w (c .0) (c .1) .answer)) (c ∷ acceptedOf (next w (c .0) (c .1)) cs) (acceptedOf (next w (c .0) (c .1)) cs)
 
--- "In a run the call and those accepted (not refused) before it decide 18."
+-- "In a run the call and those accepted (not refused) before it decide 18.", with the choice, which their marks and the two lists give: by C-15 an early
+-- VERIFY counts by it
 abbrev pub AcceptedEnds : Type 0
 AcceptedEnds = (o : Opening) (cs : List (Bool × Call)) → ends (world o) (acceptedOf (world o) cs) ≡ ends (world o) cs
 
