@@ -114,8 +114,8 @@ done <crates/scripts/stdin
 
 # In the captured conversations that are accepted to the end, our two ends write what they read of the other implementation, octet for octet but for
 # octet 86 of a NEGO: a pad, which is written as zero, and which the other implementation fills.
-for name in cksum-etype18 cksum-etype23 meta-odd-sizes one-3hop one-meta-3hop one-noopt-2hop opt-accept-fails p11-cb-abc p12-cb-abc-amark \
-    p12-cb-abc-imark rounds-9 sixteen spnego-also three-rev-meta three-same-meta xchg-fail-ini-first; do
+for name in cksum-etype18 cksum-etype23 meta-odd-sizes one-2hop one-3hop one-meta-3hop one-noopt-2hop opt-accept-fails p11-cb-abc p12-cb-abc-amark \
+    p12-cb-abc-imark rounds-9 sixteen spnego-also three-rev-meta three-same-meta verify-early-ini verify-early-notacc xchg-fail-ini-first; do
     grep '^[^#]' "$data/mit-$name" >"$work/calls"
     of "$data/mit-$name" | paste "$work/calls" - | awk -F '\t' '{
         split($1, call, " "); split($2, answer, " ")

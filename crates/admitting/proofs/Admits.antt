@@ -14,7 +14,7 @@ use Rattle.conversation.specs.declared.Record.{Record}
 use Rattle.conversation.specs.declared.Scan.{Scan}
 use Rattle.conversation.specs.State.{ownOf}
 use Rattle.conversation.specs.Turns.{kindOf, after, reads}
-use Rattle.conversation.specs.Admitting.{schemeIn, schemeFits, passed, on, stop, orStop, admitKind, admit}
+use Rattle.conversation.specs.Admitting.{schemeIn, schemeFits, heardFor, passed, on, stop, orStop, admitKind, admit}
 
 module _ (kind : ℕ) where
   pub named-more : (n : ℕ) → kind ≡ 2 → n + 1 ≡ cond (eqb kind 2) (n + 1) n
@@ -32,29 +32,26 @@ module _ (kind : ℕ) where
   pub asked-other : (token place asked : ℕ) → (kind ≡ 3 → ⊥) → asked ≡ cond (eqb kind 3 && eqb token 0) place asked
   asked-other token place asked e = rw (ne-eqb _ _ e)
 
-  pub heard-now : (heard : Bool) → heard ≡ false → eqb kind 4 ≡ (heard || eqb kind 4)
-  heard-now heard e = rw e
-
 pub chosen-now : (token place chosen : ℕ) → token ≡ 2 → place ≡ cond (eqb token 2) place chosen
 chosen-now token place chosen e = rw (eq-eqb _ _ e)
 
 pub chosen-before : (token place chosen : ℕ) → (token ≡ 2 → ⊥) → chosen ≡ cond (eqb token 2) place chosen
 chosen-before token place chosen e = rw (ne-eqb _ _ e)
 
-module _ (r : Record) (c : Scan) (kind position : ℕ) (id : List ℕ) (p : ℕ) (p-is : p ≡ place (ownOf r) id) (token : ℕ) (token-is : token ≡ reads r) where
-  pub carried : (a : ℕ) → a ≡ cond (eqb kind 2) (c .named + 1) (c .named) → (b : ℕ) → b ≡ cond (eqb kind 3 && eqb token 0) p (c .asked) → (d : ℕ) → d ≡ cond (eqb token 2) p (c .chosen) → (e : Bool) → e ≡ (c .heard || eqb kind 4) → _≡_ {A = Scan} (record { position = position; named = a; asked = b; chosen = d; heard = e }) (passed r c kind position id)
+module _ (r : Record) (c : Scan) (h : Bool) (kind position : ℕ) (id : List ℕ) (h-is : h ≡ heardFor r c id) (p : ℕ) (p-is : p ≡ place (ownOf r) id) (token : ℕ) (token-is : token ≡ reads r) where
+  pub carried : (a : ℕ) → a ≡ cond (eqb kind 2) (c .named + 1) (c .named) → (b : ℕ) → b ≡ cond (eqb kind 3 && eqb token 0) p (c .asked) → (d : ℕ) → d ≡ cond (eqb token 2) p (c .chosen) → (e : Bool) → e ≡ (h || eqb kind 4) → _≡_ {A = Scan} (record { position = position; named = a; asked = b; chosen = d; heard = e }) (passed r c kind position id)
   unfolding passed
-  carried a a-is b b-is d d-is e e-is = rw (← p-is, ← token-is) (rw (a-is, b-is, d-is, e-is))
+  carried a a-is b b-is d d-is e e-is = rw (← p-is, ← token-is, ← h-is) (rw (a-is, b-is, d-is, e-is))
 
-pub ruleset carryings = (named-more, named-same, asked-now, asked-before, asked-other, heard-now, chosen-now, chosen-before, carried)
+pub ruleset carryings = (named-more, named-same, asked-now, asked-before, asked-other, chosen-now, chosen-before, carried)
 
-module _ (r : Record) (t : List ℕ) (c : Scan) (m : List ℕ) (number : ℕ) (number-is : number ≡ le 4 m 8) (kind : ℕ) (kind-is : kind ≡ kindOf (not (r .acceptor)) number) (token : ℕ) (token-is : token ≡ reads r) (position : ℕ) (position-is : position ≡ after token (c .position) (c .heard) kind) where
+module _ (r : Record) (t : List ℕ) (c : Scan) (m : List ℕ) (number : ℕ) (number-is : number ≡ le 4 m 8) (kind : ℕ) (kind-is : kind ≡ kindOf (not (r .acceptor)) number) (token : ℕ) (token-is : token ≡ reads r) (h : Bool) (h-is : h ≡ heardFor r c (schemeIn m)) (position : ℕ) (position-is : position ≡ after token (c .position) h kind) where
   by-kind : admit r t c m ≡ admitKind r t c m kind
   unfolding admit headOf
   by-kind = ap (admitKind r t c m) (sym (kind-is ∙ ap (kindOf (not (r .acceptor))) number-is))
 
-  by-place : after (reads r) (c .position) (c .heard) kind ≡ position
-  by-place = ap (λ (k : ℕ). after k (c .position) (c .heard) kind) (sym token-is) ∙ sym position-is
+  by-place : after (reads r) (c .position) (heardFor r c (schemeIn m)) kind ≡ position
+  by-place = ap (λ (k : ℕ). after k (c .position) (heardFor r c (schemeIn m)) kind) (sym token-is) ∙ ap (λ (b : Bool). after token (c .position) b kind) (sym h-is) ∙ sym position-is
 
   pub admit-14 : position ≡ 0 → stop 14 ≡ admit r t c m
   admit-14 e = sym (by-kind ∙ rw (by-place, eq-eqb _ _ e))
@@ -83,5 +80,5 @@ admitted-named r t c m d e = by (kindOf (not (r .acceptor)) (headOf m .kind)) e 
 
   by : (kind : ℕ) → admitKind r t c m kind ≡ on d → d .named ≤ c .named + 1
   by kind q =
-      go (not (eqb (after (reads r) (c .position) (c .heard) kind) 0)) (schemeFits r t c kind (schemeIn m))
-      (passed r c kind (after (reads r) (c .position) (c .heard) kind) (schemeIn m)) (once (eqb kind 2) (c .named)) q
+      go (not (eqb (after (reads r) (c .position) (heardFor r c (schemeIn m)) kind) 0)) (schemeFits r t c kind (schemeIn m))
+      (passed r c kind (after (reads r) (c .position) (heardFor r c (schemeIn m)) kind) (schemeIn m)) (once (eqb kind 2) (c .named)) q

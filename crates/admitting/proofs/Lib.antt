@@ -1,3 +1,4 @@
 pub mod Lists
 pub mod Allowed
+pub mod Spent
 pub mod Admits

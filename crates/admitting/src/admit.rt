@@ -1,18 +1,19 @@
 // 14 and 15 of one message, and what is carried on behind it.
 ghost use mathlib.Core.Path.{_≡_};
-ghost use mathlib.Core.Bool.{cond, not, _&&_, _||_};
+ghost use mathlib.Core.Bool.{cond, not, _&&_};
 ghost use Prim.Native.Nat.{_+_, _≤_};
 ghost use lib.ListN.{length};
 ghost use lib.Dec.{eqb};
 ghost use Rattle.conversation.specs.Turns.{kindOf};
-ghost use Rattle.conversation.specs.Admitting.{passed, admit};
+ghost use Rattle.conversation.specs.Admitting.{heardFor, passed, admit};
 ghost use Rattle.calls.specs.Calls.{Inside};
 ghost use Rattle.admitting.specs.Admissions.{admitted};
 use super::Admission;
 use super::fits::scheme_fits;
+use super::heard::heard_behind;
+use super::heard::heard_for;
 use calls::EXCHANGE;
 use calls::METADATA;
-use calls::VERIFY;
 use calls::find_own;
 use conversation::Record;
 use conversation::Scan;
@@ -59,19 +60,9 @@ fn chosen_behind(chosen: usize, token: u8, place: usize) -> usize
     chosen
 }
 
-// Whether the peer's VERIFY has been read.
-fn heard_behind(heard: bool, kind: u8) -> bool
-    ensures { λ a. ⌜ a ≡ (heard || eqb kind 4) ⌝ }
-{
-    if heard {
-        return true;
-    }
-    kind == VERIFY
-}
-
-// What is carried on behind a message.
-fn carry(r: Record, c: Scan, kind: u8, position: u8, id: &[u8]) -> Scan
-    requires { ⌜ Inside r × (c .named ≤ 65535) ⌝ }
+// What is carried on behind a message, where `heard` says whether the peer's one VERIFY was spent for it.
+fn carry(r: Record, c: Scan, heard: bool, kind: u8, position: u8, id: &[u8]) -> Scan
+    requires { ⌜ Inside r × (c .named ≤ 65535) × (heard ≡ heardFor r c (now id)) ⌝ }
     ensures { λ a. ⌜ a ≡ passed r c kind position (now (id .entry)) ⌝ }
 {
     let place = find_own(r, id);
@@ -81,7 +72,7 @@ fn carry(r: Record, c: Scan, kind: u8, position: u8, id: &[u8]) -> Scan
         named: named_behind(c.named, kind),
         asked: asked_behind(c.asked, kind, token, place),
         chosen: chosen_behind(c.chosen, token, place),
-        heard: heard_behind(c.heard, kind),
+        heard: heard_behind(heard, kind),
     }
 }
 
@@ -102,12 +93,13 @@ pub fn admit_message(r: Record, t: &[u8], c: Scan, m: &[u8]) -> Admission
 {
     let kind = peer_kind(r.acceptor, le_u32(m, 8));
     let token = reading_token(r.acceptor, r.stage);
-    let position = place_behind(token, c.position, c.heard, kind);
+    let heard = heard_for(r, c, &m[field::SCHEME..SCHEME_END]);
+    let position = place_behind(token, c.position, heard, kind);
     if position == 0 {
         return Admission::Stop(14);
     }
     if scheme_fits(r, t, c, kind, &m[field::SCHEME..SCHEME_END]) {} else {
         return Admission::Stop(15);
     }
-    Admission::On(carry(r, c, kind, position, &m[field::SCHEME..SCHEME_END]))
+    Admission::On(carry(r, c, heard, kind, position, &m[field::SCHEME..SCHEME_END]))
 }

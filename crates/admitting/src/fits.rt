@@ -28,7 +28,7 @@ fn same_at(list: &[u8], k: usize, id: &[u8]) -> bool
 }
 
 // Whether the own scheme at place k is this one.
-fn is_at(r: Record, k: usize, id: &[u8]) -> bool
+pub(crate) fn is_at(r: Record, k: usize, id: &[u8]) -> bool
     requires { ⌜ Inside r ⌝ }
     ensures { λ a. ⌜ a ≡ isAt r k (now (id .entry)) ⌝ }
 {

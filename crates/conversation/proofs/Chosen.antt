@@ -31,19 +31,19 @@ module _ (r : Record) (d : List ℕ) (m : ℕ) (s : Speech) where
 
   pub choice-passed : AllTrue choiceTable → Chosen
   choice-passed g =
-      let (may, (speaks, (marks, (left, (fitting, end))))) = back-true (limitRows r) (thenFits (choiceRows r m (kindIn s)) (chose r m) d (spoken (chose r m) s)) g in
+      let (may, (marks, (left, (speaks, (fitting, end))))) = back-true (limitRows r) (thenFits (choiceRows r m (kindIn s)) (chose r m) d (spoken (chose r m) s)) g in
       record { limits = front-true (limitRows r) (thenFits (choiceRows r m (kindIn s)) (chose r m) d (spoken (chose r m) s)) g; may = may; speaks = speaks; marks = marks; left = left; fitting = fitting }
 
   -- 17 is given where the stage is right and none is left
   pub choice-17 : (n : ℕ) → FirstFails n choiceTable → n ≡ 17 → (mayChoose r ≡ true) × (someLeft (named (ownOf r) (openTo r m)) ≡ false)
   choice-17 n g z =
       let l = someLeft (named (ownOf r) (openTo r m)) in
-      let before : List Row = row 18 (maySpeak r m (kindIn s)) ∷ row 19 (below (r .count) m) ∷ [] in
-      let w = fails-one 17 (limitRows r ++ (row 18 (mayChoose r) ∷ before)) l (fits (chose r m) d (length (spoken (chose r m) s)) ∷ []) n refl refl g z in
+      let before : List Row = row 19 (below (r .count) m) ∷ [] in
+      let w = fails-one 17 (limitRows r ++ (row 18 (mayChoose r) ∷ before)) l (row 18 (maySpeak r m (kindIn s)) ∷ fits (chose r m) d (length (spoken (chose r m) s)) ∷ []) n refl refl g z in
       (true-behind (limitRows r) (row 18 (mayChoose r)) before (w .0), w .1)
 
   -- in another stage, and at the acceptor, it is 18
   pub choice-barred : mayChoose r ≡ false → (n : ℕ) → FirstFails n choiceTable → n ≡ 18
   choice-barred f n g =
-      let more : List Row = row 18 (maySpeak r m (kindIn s)) ∷ row 19 (below (r .count) m) ∷ row 17 (someLeft (named (ownOf r) (openTo r m))) ∷ fits (chose r m) d (length (spoken (chose r m) s)) ∷ [] in
+      let more : List Row = row 19 (below (r .count) m) ∷ row 17 (someLeft (named (ownOf r) (openTo r m))) ∷ row 18 (maySpeak r m (kindIn s)) ∷ fits (chose r m) d (length (spoken (chose r m) s)) ∷ [] in
       eqb-true _ _ (fails-each (λ k. eqb k 18) (limitRows r ++ (row 18 (mayChoose r) ∷ [])) n refl (fails-until (limitRows r) (row 18 (mayChoose r)) more n f g))

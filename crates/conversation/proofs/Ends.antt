@@ -13,6 +13,7 @@ use lib.Dec.{eqb, leb}
 use borrow.Author.Tests.{eq-eqb, eqb-true, eqb-false}
 use Rattle.octets.proofs.Bools.{which, no-true, and-l, and-r}
 use Rattle.octets.specs.Octets.{octets}
+use Rattle.message.specs.Layout.{headOf}
 use Rattle.message.specs.Show.{idsAt, idsOf}
 use Rattle.message.specs.Check.{Row, FirstFails}
 use Rattle.message.proofs.Tables.{AllTrue, without, fails-other}
@@ -392,9 +393,11 @@ module _ (o : Opening) (Q : ℕ → Type 0)
       no-nego : (n : ℕ) (c : Scan) → judged s (f .turn) ≡ whole n c → s .stage ≡ 1 → Heads 0 (o .initiator) (f .turn) → ⊥
       unfolding reading kindOf
       no-nego n c w st t =
-          let k = judged-first s (f .turn) n c w in
-          let h : not (eqb (after 2 0 (s .heard) NEGO) 0) ≡ true = rw (ok .role, st, heads-here 0 (o .initiator) (f .turn) t .0) at (k .allowed) in
-          no-true (nego-start 2 0 (s .heard) h .0)
+          let k = judged-first s (f .turn) n c w in go (k .spent) (k .allowed) where
+            go : (v : Bool) → not (eqb (after (reads s) 0 v (kindOf (not (s .acceptor)) (headOf (f .turn) .kind))) 0) ≡ true → ⊥
+            go v h =
+                let h′ : not (eqb (after 2 0 v NEGO) 0) ≡ true = rw (ok .role, st, heads-here 0 (o .initiator) (f .turn) t .0) at h in
+                no-true (nego-start 2 0 v h′ .0)
 
       -- a token, read
       acc-reads : (n : ℕ) (c : Scan) → mayRead s ≡ true → judged s (f .turn) ≡ whole n c → AccAt s (e .turn) → IniAt (f .record-of) (f .turn) → AccAt (taken s (f .turn) n c) [] × Together (f .record-of .stage) (reads s + 1)

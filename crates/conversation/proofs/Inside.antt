@@ -30,7 +30,7 @@ use Rattle.conversation.specs.State.{NONE, ownOf, schemeAt, replied, lim
 use Rattle.conversation.specs.Turns.{FIRST, ANSWER, FURTHER, NEGO, METADATA, writing, reading, kindOf, after, afterFurther, writes, reads}
 use Rattle.conversation.specs.Outcomes.{WrittenAs, wrote}
 use Rattle.conversation.specs.Writing.{someLeft, firstOr, metadataAllowed, startsWith, schemeNow, schemeAllowed}
-use Rattle.conversation.specs.Admitting.{listedBy, schemeIn, isAt, furtherFits, schemeFits, passed, on, admit}
+use Rattle.conversation.specs.Admitting.{listedBy, schemeIn, isAt, furtherFits, schemeFits, heardFor, passed, on, admit}
 use Rattle.conversation.specs.Reading.{commonAfter, keptAfter, taken}
 use Rattle.conversation.specs.Choosing.{openTo, firstPlace, chose}
 use Rattle.conversation.proofs.Tokens.{not-stop}
@@ -49,14 +49,14 @@ mem-left id (x ∷ l) c m h = go (bit c 0 && not (bit m 0)) (mem-left id l (c / 
   go false ih g = mem-tail id x l (ih g)
   go true ih g = elim (which (sameOctets id x)) [ inl e ↦ rw e | inr e ↦ rw e (ih (rw e at g)) ]
 
-mem-at : (id : Id) (l : List Id) (k : ℕ) → k < length l → sameOctets id (getD l k []) ≡ true → mem id l ≡ true
+pub mem-at : (id : Id) (l : List Id) (k : ℕ) → k < length l → sameOctets id (getD l k []) ≡ true → mem id l ≡ true
 unfolding mem
 mem-at id [] k h e = absurd (omega arith)
 mem-at id (x ∷ l) zero h e = rw e
 mem-at id (x ∷ l) (suc k) h e = mem-tail id x l (mem-at id l k (omega arith) e)
 
 module _ (r : Record) where
-  own-length : length (ownOf r) ≡ r .count
+  pub own-length : length (ownOf r) ≡ r .count
   own-length = length-ids (r .count) (r .list)
 
   pub place-own : (id : Id) → mem id (ownOf r) ≡ true → place (ownOf r) id < r .count
@@ -104,14 +104,14 @@ module _ (r : Record) where
   low-chosen : (k : ℕ) → k < r .count → ChosenBelow k
   low-chosen k h = or-right (eqb k NONE) (lt-ltb k (r .count) h)
 
-  further-mem : (chosen : ℕ) (id : Id) → furtherFits r chosen id ≡ true → mem id (ownOf r) ≡ true
+  pub further-mem : (chosen : ℕ) (id : Id) → furtherFits r chosen id ≡ true → mem id (ownOf r) ≡ true
   further-mem chosen id h = go (eqb chosen NONE) h where
     go : (b : Bool) → cond b (r .acceptor && mem id (replied r)) (isAt r chosen id) ≡ true → mem id (ownOf r) ≡ true
     go true e = replied-mem id (and-r (r .acceptor) (mem id (replied r)) e)
     go false e = at-mem id chosen e
 
   -- neither a NEGO nor metadata is a message of a later token
-  further-kind : (token position : ℕ) (v : Bool) (kind : ℕ) → eqb token FURTHER ≡ true → not (eqb (after token position v kind) 0) ≡ true → (eqb kind NEGO ≡ false) × (eqb kind METADATA ≡ false)
+  pub further-kind : (token position : ℕ) (v : Bool) (kind : ℕ) → eqb token FURTHER ≡ true → not (eqb (after token position v kind) 0) ≡ true → (eqb kind NEGO ≡ false) × (eqb kind METADATA ≡ false)
   unfolding after afterFurther
   further-kind token position v kind f h = (
     elim (which (eqb kind NEGO)) [ inl e ↦ no-true (rw (eqb-true token FURTHER f, eqb-true kind NEGO e) at h) | inr e ↦ e ],
@@ -122,13 +122,13 @@ module _ (r : Record) where
   unfolding admit passed schemeFits
   admit-chosen t c d m p e =
       let kind : ℕ = kindOf (not (r .acceptor)) (headOf m .kind) in
-      let a = not-stop (not (eqb (after (reads r) (c .position) (c .heard) kind) 0)) 14 _ d e in
+      let a = not-stop (not (eqb (after (reads r) (c .position) (heardFor r c (schemeIn m)) kind) 0)) 14 _ d e in
       let b = not-stop (schemeFits r t c kind (schemeIn m)) 15 _ d (a .1) in
-      let is : passed r c kind (after (reads r) (c .position) (c .heard) kind) (schemeIn m) ≡ d = cc in
+      let is : passed r c kind (after (reads r) (c .position) (heardFor r c (schemeIn m)) kind) (schemeIn m) ≡ d = cc in
       subst (λ (s : Scan). ChosenBelow (s .chosen)) is (elim (which (eqb (reads r) FURTHER)) [
         | inr f ↦ rw f p
         | inl f ↦
-            let k = further-kind (reads r) (c .position) (c .heard) kind f (a .0) in
+            let k = further-kind (reads r) (c .position) (heardFor r c (schemeIn m)) kind f (a .0) in
             let g : furtherFits r (c .chosen) (schemeIn m) ≡ true = rw (k .0, k .1, f) at (b .0) in
             rw f (low-chosen _ (place-own (schemeIn m) (further-mem (c .chosen) (schemeIn m) g)))
       ])

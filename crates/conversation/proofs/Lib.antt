@@ -19,5 +19,9 @@ pub mod Inside
 pub mod Spoken
 pub mod Sends
 pub mod Logs
+pub mod Early
+pub mod Flags
 pub mod Verifies
+pub mod Heard
+pub mod Hearings
 pub mod Nines

@@ -41,10 +41,10 @@ use Rattle.conversation.proofs.Messages.{FramedFrom, Framed, framed-mor
 
 -- 1. the invariant of an end
 
-record Sound (r : Record) (d : List ℕ) (log : List (List ℕ)) : Type 0 where
-  limits : AllTrue (limitRows r)
-  ids : (k : ℕ) → k < r .count → length (schemeAt r k) ≡ 16
-  talk : length (r .conversation) ≡ 16
+pub record Sound (r : Record) (d : List ℕ) (log : List (List ℕ)) : Type 0 where
+  pub limits : AllTrue (limitRows r)
+  pub ids : (k : ℕ) → k < r .count → length (schemeAt r k) ≡ 16
+  pub talk : length (r .conversation) ≡ 16
   framed : FramedFrom 0 log
   used : r .used ≡ length (join log)
   sequence : r .sequence ≡ length log
@@ -365,13 +365,13 @@ module _ (e f : End) (le lf : List (List ℕ)) (ok : Sound (e .record-of) (e .tr
 
 -- 5. a run
 
-record Both (w : World) (l : Logs) : Type 0 where
-  i : Sound (w .i .record-of) (w .i .transcript) (l .i)
-  a : Sound (w .a .record-of) (w .a .transcript) (l .a)
+pub record Both (w : World) (l : Logs) : Type 0 where
+  pub i : Sound (w .i .record-of) (w .i .transcript) (l .i)
+  pub a : Sound (w .a .record-of) (w .a .transcript) (l .a)
   i-steps : InStep (w .i .turn) (l .i) (l .a)
   a-steps : InStep (w .a .turn) (l .a) (l .i)
 
-both-next : (w : World) (l : Logs) → Both w l → (x : Bool) (k : Call) → Both (next w x k) (nextLogs w x k l) × Not12 (outcomeAt w x k .answer .refusal)
+pub both-next : (w : World) (l : Logs) → Both w l → (x : Bool) (k : Call) → Both (next w x k) (nextLogs w x k l) × Not12 (outcomeAt w x k .answer .refusal)
 both-next w l b false k =
     let g = goal (w .i) (w .a) (l .i) (l .a) (b .i) (b .a) (b .i-steps) (b .a-steps) k in
     (record { i = g .sound; a = b .a; i-steps = g .here-then; a-steps = g .there-then }, g .unclosed)
@@ -434,7 +434,7 @@ counted r d log s = record {
   transcript = s .transcript;
 }
 
-both-opened : (o : Opening) → Both (world o) (record { i = []; a = [] })
+pub both-opened : (o : Opening) → Both (world o) (record { i = []; a = [] })
 both-opened o = record {
   i = sound-fresh false (o .initiator) (o .conversation .0) (o .initiator-buffer) (each-whole (o .initiator) (o .initiator-whole)) (o .initiator-ok) (o .conversation .1);
   a = sound-fresh true (o .acceptor) zeroId (o .acceptor-buffer) (each-whole (o .acceptor) (o .acceptor-whole)) (o .acceptor-ok) refl;

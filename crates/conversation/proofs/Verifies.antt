@@ -1,36 +1,42 @@
--- "Each end sends at most one VERIFY in a conversation.": of all that it writes in a run, by the type in the octets.
+-- "Each end sends at most one VERIFY in a conversation.", as C-15 has it: of all that an end writes in a run, by the type and the scheme in the octets;
+-- and what the record's flag says of it.
 -- Assumes nothing.
-use Prim.Native.Nat.{ℕ, _+_, _≤_}
-use mathlib.Core.Path.{_≡_, refl, sym, ap, subst, _∙_}
-use mathlib.Core.Bool.{Bool, true, false, cond}
-use mathlib.Core.Logic.{_⊎_, inl, inr}
-use mathlib.Core.List.{List, [], _∷_, _++_, append-nil}
+use Prim.Native.Nat.{ℕ, suc, _+_, _≤_}
+use mathlib.Core.Path.{_≡_, refl, sym, ap, _∙_}
+use mathlib.Core.Bool.{Bool, true, false, cond, not, _&&_}
+use mathlib.Core.Logic.{inl, inr}
+use mathlib.Core.List.{List, [], _∷_, _++_}
 use native.Mathlib.Omega.{arith}
-use lib.ListN.{length}
-use lib.Dec.{eqb, leb}
+use lib.ListN.{length, length-append}
+use lib.Dec.{eqb}
 use lib.IntN.{ℤ}
-use borrow.Author.Tests.{ne-eqb}
-use Rattle.octets.proofs.Bools.{which, no-true}
+use borrow.Author.Tests.{eqb-true, eqb-false, ne-eqb, not-true}
+use Rattle.octets.specs.Octets.{octets, sameOctets}
+use Rattle.octets.proofs.Bools.{which, no-true, and-l}
 use Rattle.message.specs.Layout.{headOf}
 use Rattle.message.specs.Check.{Row}
 use Rattle.message.proofs.Tables.{AllTrue, without, fails-other}
-use Rattle.encode.specs.Encode.{Contents, sizeOf, headFields, bodyFields, encoded}
-use Rattle.roundtrip.proofs.Fields.{number-at}
-use Rattle.schemes.specs.Lists.{keep}
+use Rattle.encode.specs.Encode.{Contents, ofVerify, sizeOf, headFields, bodyFields, encoded}
+use Rattle.roundtrip.proofs.Fields.{number-at, octets-at}
+use Rattle.schemes.specs.Lists.{Id, keep}
 use Rattle.conversation.specs.declared.Record.{Record}
-use Rattle.conversation.specs.State.{limitRows}
-use Rattle.conversation.specs.Turns.{NEGO, METADATA, VERIFY, typeOf, after, mayWrite}
-use Rattle.conversation.specs.Outcomes.{Outcome, decide, row, room}
-use Rattle.conversation.specs.Writing.{heading, messageOf, stageRows, thenFits, offered, offerRows, offering, replyMessage, replyRows, replying, metadataMessage, metadataRows, writingMetadata, namedRows, Speech, request, checksum, alarm, kindIn, spoken, spokenAs, speaking}
-use Rattle.conversation.specs.Reading.{Judged, whole, halted, judged, finish, tokenRows, readingToken}
+use Rattle.conversation.specs.State.{LATER, schemeAt}
+use Rattle.conversation.specs.Turns.{NEGO, METADATA, VERIFY, typeOf}
+use Rattle.conversation.specs.Outcomes.{Outcome, decide, row, fits}
+use Rattle.conversation.specs.Writing.{heading, messageOf, stageRows, thenFits, schemeNow, schemeAllowed, namedRows, Speech, request, checksum, alarm, kindIn, spoken, speaking}
+use Rattle.conversation.specs.Admitting.{schemeIn}
 use Rattle.conversation.specs.Choosing.{chose, choosing}
-use Rattle.conversation.specs.Runs.{Call, offer, reply, metadata, speak, read, choose, End, act, World, world, next, isAccepted}
-use Rattle.conversation.specs.Claims.{writtenBy, writtenAt, writtenIn, isVerify, VerifyOnce}
+use Rattle.conversation.specs.Runs.{Call, offer, reply, metadata, speak, read, choose, End, act, Opening, World, world, next, ends, isAccepted}
+use Rattle.conversation.specs.Logs.{Logs, nextLogs}
+use Rattle.conversation.specs.Claims.{addedBy, addedAt, writtenIn, isReading, isVerify, verifyFor, VerifyOnce, recordAt, chosenIn, FlagSays}
 use Rattle.conversation.proofs.Rows.{decide-out, true-behind}
 use Rattle.conversation.proofs.Chosen.{choiceTable, choice-passed}
-use Rattle.conversation.proofs.Logs.{type-known}
+use Rattle.conversation.proofs.Inside.{now-below, now-chosen, chosen-below}
+use Rattle.conversation.proofs.Logs.{type-known, Sound, Both, both-next, both-opened}
+use Rattle.conversation.proofs.Early.{verifies, verifyCount, EarlyStage, Gone, here, once, written-gone, invs-start}
+use Rattle.conversation.proofs.Flags.{has-behind, has-start}
 
--- 1. a written message's type is that of its kind
+-- 1. a written message's type is that of its kind, and a VERIFY's scheme stands at 40
 
 type-written : (r : Record) (kind : ℕ) (c : Contents) → headOf (messageOf r kind c) .kind ≡ typeOf (r .acceptor) kind
 unfolding headOf encoded
@@ -54,133 +60,158 @@ other-type false kind e = rw e (go (eqb kind 1) (eqb kind 2) (eqb kind 3)) where
   go false false true = refl
   go false false false = refl
 
-other-message : (r : Record) (kind : ℕ) (c : Contents) → eqb kind VERIFY ≡ false → keep isVerify (messageOf r kind c ∷ []) ≡ []
-other-message r kind c e =
+verify-type : (a : Bool) → typeOf a VERIFY ≡ 6
+unfolding typeOf
+verify-type true = refl
+verify-type false = refl
+
+other-message : (id : Id) (r : Record) (kind : ℕ) (c : Contents) → eqb kind VERIFY ≡ false → verifyFor id (messageOf r kind c) ≡ false
+other-message id r kind c e =
     let no : isVerify (messageOf r kind c) ≡ false = ap (λ (k : ℕ). eqb k 6) (type-written r kind c) ∙ other-type (r .acceptor) kind e in
     rw no
 
-one-message : (m : List ℕ) → length (keep isVerify (m ∷ [])) ≤ 1
-one-message m = elim (which (isVerify m)) [ inl b ↦ rw b (omega arith) | inr b ↦ rw b (omega arith) ]
+scheme-written : (r : Record) (s : Id) (type : ℤ) (value : List ℕ) → length (r .conversation) ≡ 16 → length s ≡ 16
+    → schemeIn (messageOf r VERIFY (ofVerify (record { scheme = s; type = type; value = value }))) ≡ s
+unfolding encoded
+scheme-written r s type value talk whole =
+    let c : Contents = ofVerify (record { scheme = s; type = type; value = value }) in
+    octets-at 6 40 (headFields (heading r VERIFY) (sizeOf c) ++ bodyFields c) (simp (length-append, talk)) s _ refl 16 whole
 
--- 2. a call: the record's mark stays, and a VERIFY is written where there is none, and makes one
+verify-message : (id : Id) (r : Record) (s : Id) (type : ℤ) (value : List ℕ) → length (r .conversation) ≡ 16 → length s ≡ 16
+    → verifyFor id (messageOf r VERIFY (ofVerify (record { scheme = s; type = type; value = value }))) ≡ sameOctets id s
+verify-message id r s type value talk whole =
+    let c : Contents = ofVerify (record { scheme = s; type = type; value = value }) in
+    let yes : isVerify (messageOf r VERIFY c) ≡ true = ap (λ (k : ℕ). eqb k 6) (type-written r VERIFY c ∙ verify-type (r .acceptor)) in
+    rw yes (ap (sameOctets id) (scheme-written r s type value talk whole))
 
-module _ (e : End) (peer : List ℕ) where
+-- 2. what a call writes is a VERIFY for a scheme exactly where the call is one
+
+abbrev isWriting : Call → Bool
+isWriting k = not (isReading k)
+
+one-of : (p : List ℕ → Bool) (m : List ℕ) (b : Bool) → p m ≡ b → length (keep p (m ∷ [])) ≡ cond b 1 0
+one-of p m true e = rw e
+one-of p m false e = rw e
+
+module _ (id : Id) (e : End) (peer : List ℕ) (log : List (List ℕ)) (ok : Sound (e .record-of) (e .transcript) log) where
   abbrev r : Record
   r = e .record-of
 
   abbrev d : List ℕ
   d = e .transcript
 
-  -- a call that leaves the mark, where it is not refused, leaves it
-  marked-behind : (rows : List Row) (action : Outcome) → r .verified ≡ true → action .answer .next .verified ≡ true → decide rows r d action .answer .next .verified ≡ true
-  marked-behind rows action h a = decide-out (λ out. out .answer .next .verified ≡ true) rows r d action (λ n f. h) (λ g. a)
-
-  finish-verified : (j : Judged) → r .verified ≡ true → finish r d peer j .answer .next .verified ≡ true
-  unfolding finish
-  finish-verified (halted n p) h = elim (which (eqb n 12)) [ inl b ↦ rw b h | inr b ↦ rw b h ]
-  finish-verified (whole n c) h = elim (which (leb (r .used + length peer) (room d))) [ inl b ↦ rw b h | inr b ↦ rw b h ]
-
-  still-verified : (q : Record) (s : Speech) → q .verified ≡ true → spokenAs q s .verified ≡ true
-  still-verified q (request value) h = h
-  still-verified q (checksum type value) h = refl
-  still-verified q (alarm code) h = h
-
-  verified-stays : (k : Call) → r .verified ≡ true → act e peer k .answer .next .verified ≡ true
-  unfolding act offering replying writingMetadata speaking readingToken choosing
-  verified-stays (offer random) h = marked-behind (stageRows r NEGO ++ thenFits (offerRows r) r d (offered r (random .0))) _ h h
-  verified-stays (reply m random) h = marked-behind (stageRows r NEGO ++ thenFits (replyRows r m) r d (replyMessage r m (random .0))) _ h h
-  verified-stays (metadata id value) h = marked-behind (stageRows r METADATA ++ thenFits (metadataRows r (id .0) (length value)) r d (metadataMessage r (id .0) value)) _ h h
-  verified-stays (speak s) h = marked-behind (stageRows r (kindIn s) ++ thenFits (namedRows r) r d (spoken r s)) _ h (still-verified r s h)
-  verified-stays read h = marked-behind (limitRows r ++ tokenRows r (length peer)) _ h (finish-verified (judged r peer) h)
-  verified-stays (choose m s) h = marked-behind (choiceTable r d m s) _ h (still-verified (chose r m) s h)
-
-  verify-by : (rows : List Row) (action : Outcome) → without 0 rows ≡ true → (AllTrue rows → r .verified ≡ true → ⊥) → action .answer .next .verified ≡ true
-      → isAccepted (decide rows r d action .answer) ≡ true → (r .verified ≡ true → ⊥) × (decide rows r d action .answer .next .verified ≡ true)
-  verify-by rows action z once set =
-      decide-out (λ out. isAccepted (out .answer) ≡ true → (r .verified ≡ true → ⊥) × (out .answer .next .verified ≡ true)) rows r d action
+  -- the tests of an accepted call hold
+  passed-by : (rows : List Row) (action : Outcome) → without 0 rows ≡ true → isAccepted (decide rows r d action .answer) ≡ true → AllTrue rows
+  passed-by rows action z =
+      decide-out (λ out. isAccepted (out .answer) ≡ true → AllTrue rows) rows r d action
       (λ n f a. no-true (sym (ne-eqb n 0 (fails-other 0 rows n z f)) ∙ a))
-      (λ g a. (once g, set))
+      (λ g a. g)
 
-  speak-spends : (type : ℤ) (value : List ℕ) → isAccepted (speaking r d (checksum type value) .answer) ≡ true
-      → (r .verified ≡ true → ⊥) × (speaking r d (checksum type value) .answer .next .verified ≡ true)
-  unfolding speaking after
-  speak-spends type value =
-      let more : List Row = thenFits (namedRows r) r d (spoken r (checksum type value)) in
-      verify-by (stageRows r VERIFY ++ more) _ refl (λ g v. no-true (rw v at (true-behind (limitRows r) (row 18 (mayWrite r VERIFY)) more g))) refl
+  speak-whole : (s : Speech) → isAccepted (speaking r d s .answer) ≡ true → length (schemeAt r (schemeNow r)) ≡ 16
+  unfolding speaking
+  speak-whole s a =
+      let rest : List Row = thenFits (namedRows r) r d (spoken r s) in
+      let g = passed-by (stageRows r (kindIn s) ++ rest) _ refl a in
+      ok .ids (schemeNow r) (now-below r (true-behind (stageRows r (kindIn s)) (row 15 (schemeAllowed r)) (fits r d (length (spoken r s)) ∷ []) g))
 
-  choose-spends : (m : ℕ) (type : ℤ) (value : List ℕ) → isAccepted (choosing r d m (checksum type value) .answer) ≡ true
-      → (r .verified ≡ true → ⊥) × (choosing r d m (checksum type value) .answer .next .verified ≡ true)
-  unfolding choosing after
-  choose-spends m type value =
-      verify-by (choiceTable r d m (checksum type value)) _ refl (λ g v. no-true (rw v at (choice-passed r d m (checksum type value) g .speaks))) refl
+  choose-whole : (m : ℕ) (s : Speech) → isAccepted (choosing r d m s .answer) ≡ true → length (schemeAt (chose r m) (schemeNow (chose r m))) ≡ 16
+  unfolding choosing
+  choose-whole m s a =
+      let p = choice-passed r d m s (passed-by (choiceTable r d m s) _ refl a) in
+      let role : r .acceptor ≡ false = not-true _ (and-l (not (r .acceptor)) (eqb (r .stage) 2) (p .may)) in
+      let (l1, (l2, (l3, (l4, (l5, (l6, (l7, rest))))))) = ok .limits in
+      ap (λ (k : ℕ). length (schemeAt r k)) (now-chosen r m) ∙ ok .ids _ (chosen-below r m (rw role at l7) (p .left))
 
-  -- what a call writes has no VERIFY, or at most one, where the record has no mark before and has it then
-  abbrev Counts : List (List ℕ) → Outcome → Type 0
-  Counts ms o = (keep isVerify ms ≡ []) ⊎ ((length (keep isVerify ms) ≤ 1) × ((r .verified ≡ true → ⊥) × (o .answer .next .verified ≡ true)))
-
-  accepted-counts : (k : Call) → isAccepted (act e peer k .answer) ≡ true → Counts (writtenBy e peer k) (act e peer k)
+  accepted-one : (k : Call) → isAccepted (act e peer k .answer) ≡ true → length (keep (verifyFor id) (addedBy isWriting e peer k)) ≡ cond (verifies id r k) 1 0
   unfolding act
-  accepted-counts (offer random) a = rw a (inl (other-message r NEGO _ refl))
-  accepted-counts (reply m random) a = rw a (inl (other-message r NEGO _ refl))
-  accepted-counts (metadata id value) a = rw a (inl (other-message r METADATA _ refl))
-  accepted-counts (speak (request value)) a = rw a (inl (other-message r (kindIn (request value)) _ refl))
-  accepted-counts (speak (checksum type value)) a = rw a (inr (one-message _, speak-spends type value a))
-  accepted-counts (speak (alarm code)) a = rw a (inl (other-message r (kindIn (alarm code)) _ refl))
-  accepted-counts read a = rw a (inl refl)
-  accepted-counts (choose m (request value)) a = rw a (inl (other-message (chose r m) (kindIn (request value)) _ refl))
-  accepted-counts (choose m (checksum type value)) a = rw a (inr (one-message _, choose-spends m type value a))
-  accepted-counts (choose m (alarm code)) a = rw a (inl (other-message (chose r m) (kindIn (alarm code)) _ refl))
+  accepted-one (offer random) a = rw a (one-of (verifyFor id) _ false (other-message id r NEGO _ refl))
+  accepted-one (reply m random) a = rw a (one-of (verifyFor id) _ false (other-message id r NEGO _ refl))
+  accepted-one (metadata scheme value) a = rw a (one-of (verifyFor id) _ false (other-message id r METADATA _ refl))
+  accepted-one (speak (request value)) a = rw a (one-of (verifyFor id) _ false (other-message id r (kindIn (request value)) _ refl))
+  accepted-one (speak (checksum type value)) a = rw a (one-of (verifyFor id) _ _ (verify-message id r _ type value (ok .talk) (speak-whole (checksum type value) a)))
+  accepted-one (speak (alarm code)) a = rw a (one-of (verifyFor id) _ false (other-message id r (kindIn (alarm code)) _ refl))
+  accepted-one read a = refl
+  accepted-one (choose m (request value)) a = rw a (one-of (verifyFor id) _ false (other-message id (chose r m) (kindIn (request value)) _ refl))
+  accepted-one (choose m (checksum type value)) a = rw a (one-of (verifyFor id) _ _ (verify-message id (chose r m) _ type value (ok .talk) (choose-whole m (checksum type value) a)))
+  accepted-one (choose m (alarm code)) a = rw a (one-of (verifyFor id) _ false (other-message id (chose r m) (kindIn (alarm code)) _ refl))
 
-  counts : (k : Call) → Counts (writtenBy e peer k) (act e peer k)
-  counts k = elim (which (isAccepted (act e peer k .answer))) [ inl a ↦ accepted-counts k a | inr a ↦ rw a (inl refl) ]
+  one-call : (k : Call) → length (keep (verifyFor id) (addedBy isWriting e peer k)) ≡ cond (isAccepted (act e peer k .answer) && verifies id r k) 1 0
+  one-call k = elim (which (isAccepted (act e peer k .answer))) [ inl a ↦ rw a (rw a at (accepted-one k a)) | inr a ↦ rw a (rw a at (none k a)) ] where
+    none : (k : Call) → isAccepted (act e peer k .answer) ≡ false → length (keep (verifyFor id) (addedBy isWriting e peer k)) ≡ 0
+    none (offer random) a = rw a
+    none (reply m random) a = rw a
+    none (metadata scheme value) a = rw a
+    none (speak s) a = rw a
+    none read a = refl
+    none (choose m s) a = rw a
 
--- 3. a run
+-- 3. a run: the calls are counted as their messages
 
-abbrev markAt : Bool → World → Bool
-markAt false w = w .i .record-of .verified
-markAt true w = w .a .record-of .verified
-
-mark-kept : (x : Bool) (w : World) (y : Bool) (k : Call) → markAt x w ≡ true → markAt x (next w y k) ≡ true
-mark-kept false w false k h = verified-stays (w .i) (w .a .turn) k h
-mark-kept false w true k h = h
-mark-kept true w false k h = h
-mark-kept true w true k h = verified-stays (w .a) (w .i .turn) k h
-
-counts-at : (x : Bool) (w : World) (y : Bool) (k : Call)
-    → (keep isVerify (writtenAt x w y k) ≡ []) ⊎ ((length (keep isVerify (writtenAt x w y k)) ≤ 1) × ((markAt x w ≡ true → ⊥) × (markAt x (next w y k) ≡ true)))
-counts-at false w false k = counts (w .i) (w .a .turn) k
-counts-at false w true k = inl refl
-counts-at true w false k = inl refl
-counts-at true w true k = counts (w .a) (w .i .turn) k
-
-keep-append : {A : Type 0} (p : A → Bool) (xs ys : List A) → keep p (xs ++ ys) ≡ keep p xs ++ keep p ys
+pub keep-append : {A : Type 0} (p : A → Bool) (xs ys : List A) → keep p (xs ++ ys) ≡ keep p xs ++ keep p ys
 keep-append p [] ys = refl
 keep-append p (x ∷ xs) ys = elim (which (p x)) [ inl b ↦ rw (b, keep-append p xs ys) | inr b ↦ rw (b, keep-append p xs ys) ]
 
--- behind a VERIFY there is none
-none-behind : (x : Bool) (w : World) (cs : List (Bool × Call)) → markAt x w ≡ true → keep isVerify (writtenIn x w cs) ≡ []
-none-behind x w [] h = refl
-none-behind x w (c ∷ cs) h =
-    let rest = none-behind x (next w (c .0) (c .1)) cs (mark-kept x w (c .0) (c .1) h) in
-    elim (counts-at x w (c .0) (c .1)) [
-      | inl n ↦ keep-append isVerify (writtenAt x w (c .0) (c .1)) (writtenIn x (next w (c .0) (c .1)) cs) ∙ rw (n, rest)
-      | inr v ↦ absurd (v .1 .0 h)
-    ]
+one-at : (id : Id) (x : Bool) (w : World) (l : Logs) → Both w l → (y : Bool) (k : Call) → length (keep (verifyFor id) (addedAt isWriting x w y k)) ≡ cond (here id w x y k) 1 0
+one-at id false w l b false k = one-call id (w .i) (w .a .turn) (l .i) (b .i) k
+one-at id false w l b true k = refl
+one-at id true w l b false k = refl
+one-at id true w l b true k = one-call id (w .a) (w .i .turn) (l .a) (b .a) k
 
-at-most-one : (x : Bool) (w : World) (cs : List (Bool × Call)) → length (keep isVerify (writtenIn x w cs)) ≤ 1
-at-most-one x w [] = omega arith
-at-most-one x w (c ∷ cs) =
-    let here : List (List ℕ) = writtenAt x w (c .0) (c .1) in
+counted : (id : Id) (x : Bool) (w : World) (l : Logs) → Both w l → (cs : List (Bool × Call)) → length (keep (verifyFor id) (writtenIn x w cs)) ≡ verifyCount w x id cs
+counted id x w l b [] = refl
+counted id x w l b (c ∷ cs) =
+    let here-is : List (List ℕ) = addedAt isWriting x w (c .0) (c .1) in
     let there : List (List ℕ) = writtenIn x (next w (c .0) (c .1)) cs in
-    elim (counts-at x w (c .0) (c .1)) [
-      | inl n ↦
-          let is : keep isVerify (here ++ there) ≡ keep isVerify there = keep-append isVerify here there ∙ ap (λ (l : List (List ℕ)). l ++ keep isVerify there) n in
-          subst (λ (l : List (List ℕ)). length l ≤ 1) (sym is) (at-most-one x (next w (c .0) (c .1)) cs)
-      | inr v ↦
-          let none : keep isVerify there ≡ [] = none-behind x (next w (c .0) (c .1)) cs (v .1 .1) in
-          let is : keep isVerify (here ++ there) ≡ keep isVerify here = keep-append isVerify here there ∙ ap (λ (l : List (List ℕ)). keep isVerify here ++ l) none ∙ append-nil (keep isVerify here) in
-          subst (λ (l : List (List ℕ)). length l ≤ 1) (sym is) (v .0)
-    ]
+    let rest = counted id x (next w (c .0) (c .1)) (nextLogs w (c .0) (c .1) l) (both-next w l b (c .0) (c .1) .0) cs in
+    ap length (keep-append (verifyFor id) here-is there) ∙ length-append (keep (verifyFor id) here-is) (keep (verifyFor id) there)
+    ∙ sum (here id w x (c .0) (c .1)) (one-at id x w l b (c .0) (c .1)) rest where
+      sum : (v : Bool) {m n k : ℕ} → m ≡ cond v 1 0 → n ≡ k → m + n ≡ cond v (suc k) k
+      sum true e f = omega arith
+      sum false e f = omega arith
+
+-- 4. the two claims
+
+few : (o : Opening) (cs : List (Bool × Call)) (x : Bool) (id : Id) → length (keep (verifyFor id) (writtenIn x (world o) cs)) ≡ verifyCount (world o) x id cs
+few o cs x id = counted id x (world o) (record { i = []; a = [] }) (both-opened o) cs
 
 pub verify-once : VerifyOnce
-verify-once o cs x = at-most-one x (world o) cs
+verify-once o cs x id = let e = few o cs x id in let h = once id (world o) x cs (invs-start o) in omega arith
+
+-- the flag is set exactly where the call that writes the one for the chosen scheme is in the run
+flagged : (o : Opening) (cs : List (Bool × Call)) (x : Bool) → recordAt x (ends (world o) cs) .stage ≡ LATER
+    → verifyCount (world o) x (chosenIn (recordAt x (ends (world o) cs))) cs ≡ cond (recordAt x (ends (world o) cs) .verified) 1 0
+flagged o cs x st = go (r .verified) refl where
+  r : Record
+  r = recordAt x (ends (world o) cs)
+
+  id : Id
+  id = schemeAt r (r .chosen)
+
+  count : ℕ
+  count = verifyCount (world o) x id cs
+
+  low : count ≤ 1
+  low = once id (world o) x cs (invs-start o)
+
+  go : (b : Bool) → r .verified ≡ b → count ≡ cond b 1 0
+  go true v =
+      let some : 1 ≤ 0 + count = has-behind id (world o) x cs (invs-start o) 0 (has-start o id x) .had (λ z. omega arith) v (ap (schemeAt r) (sym (rw st))) in
+      omega (arith, low)
+  go false v = elim (which (eqb count 0)) [
+    | inl h ↦ eqb-true _ _ h
+    | inr h ↦
+        let z : count ≡ 0 → ⊥ = eqb-false _ _ h in
+        let some : 1 ≤ count = omega arith in
+        absurd (none (written-gone id (world o) x cs (invs-start o) some))
+  ] where
+    none : Gone id r → ⊥
+    none (inl e) = late (r .acceptor) (e .early) where
+      late : (a : Bool) → EarlyStage a (r .stage) → ⊥
+      late true q = omega arith
+      late false (inl q) = omega arith
+      late false (inr q) = omega arith
+    none (inr (inl s)) = elim (s .1) [ inl u ↦ no-true (sym v ∙ u) | inr f ↦ f refl ]
+    none (inr (inr s)) = omega arith
+
+pub flag-says : FlagSays
+flag-says o cs x st = few o cs x (chosenIn (recordAt x (ends (world o) cs))) ∙ flagged o cs x st

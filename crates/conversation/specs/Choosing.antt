@@ -8,7 +8,7 @@
 --   chose r m      the record behind the choice, in which the message is written
 --   mayChoose r    18: the stage is the one to choose in, and the end is the initiator
 --   maySpeak       18: the message may be written behind the choice
---   choosing       the call; its table: the limits, then choiceRows, 18, 19, 17, then 16
+--   choosing       the call; its table: the limits, then choiceRows, 18, 19, 17, 18, then 16
 use Prim.Native.Nat.{ℕ}
 use mathlib.Core.Bool.{Bool, not, _&&_}
 use mathlib.Core.List.{List, [], _∷_, _++_}
@@ -28,6 +28,7 @@ abbrev pub firstPlace : List ℕ → ℕ
 firstPlace [] = NONE
 firstPlace (k ∷ ks) = k
 
+-- C-15: "Such a VERIFY counts as the end's one only if its scheme is the one chosen": one of before the choice, of either end, is for the scheme at asked
 abbrev pub chose : Record → ℕ → Record
 chose r m = record {
   acceptor = r .acceptor;
@@ -42,8 +43,8 @@ chose r m = record {
   told = r .told;
   asked = r .asked;
   chosen = firstPlace (openTo r m);
-  verified = r .verified;
-  heard = r .heard;
+  verified = r .verified && eqb (firstPlace (openTo r m)) (r .asked);
+  heard = r .heard && eqb (firstPlace (openTo r m)) (r .asked);
   sequence = r .sequence;
   used = r .used;
 }
@@ -51,17 +52,17 @@ chose r m = record {
 abbrev pub mayChoose : Record → Bool
 mayChoose r = not (r .acceptor) && eqb (r .stage) CHOOSING
 
--- a VERIFY of an end that has written its own may not
+-- a VERIFY may not, if the early one counts with this choice
 abbrev pub maySpeak : Record → ℕ → ℕ → Bool
 maySpeak r m kind = mayWrite (chose r m) kind
 
--- C-12: "Refusals: 18, 19, 17, 16.", 16 by thenFits
+-- C-12: "Refusals: 18, 19, 17, 16.", 16 by thenFits; C-15: "a second VERIFY is 18, tested between 17 and 16"
 abbrev pub choiceRows : Record → ℕ → ℕ → List Row
 choiceRows r m kind =
     row 18 (mayChoose r)
-    ∷ row 18 (maySpeak r m kind)
     ∷ row 19 (below (r .count) m)
     ∷ row 17 (someLeft (named (ownOf r) (openTo r m)))
+    ∷ row 18 (maySpeak r m kind)
     ∷ []
 
 -- a refusal leaves the record r: nothing is chosen, and nothing is written

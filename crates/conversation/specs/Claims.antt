@@ -23,10 +23,13 @@
 --   atEnd x y          the entry y of a run is one of the end x; acceptedAt: and is accepted, of a sort of calls
 --   withMarks          the sort of calls with marks; isReading: readings
 --   MarksOnce          in a run an end has at most one accepted call with marks
---   writtenBy          the messages that a call writes: those it adds to its end's, where it is accepted and no reading
---   writtenAt          those of the end x, of a call at the end y; writtenIn: of a list of calls
---   isVerify           a message that is a VERIFY, by its type
---   VerifyOnce         of the messages that an end writes in a run at most one is a VERIFY
+--   addedBy sort       the messages that an accepted call of a sort adds to its end's; addedAt: those of the end x, of a call at the end y; addedIn: of a list of calls
+--   writtenIn, readIn  the messages that the end x writes, and those that it reads, in a list of calls
+--   isVerify           a message that is a VERIFY, by its type; verifyFor id: one for the scheme id
+--   VerifyOnce         of the messages that an end writes in a run at most one is a VERIFY for a scheme
+--   recordAt x w       the record of the end x; chosenIn r: the scheme that the record r has as chosen
+--   FlagSays           once the choice is fixed, the record says whether the VERIFY for the chosen scheme is written
+--   HeardOnce          of the messages that an end reads in a run at most one is a VERIFY for a scheme; HeardSays: as FlagSays, of what is read
 --   Arrays r           the lengths of a record's arrays, as the struct gives them
 --   sentBy r k         the message that a writing call sends: the record's number and conversation, and the call's arguments; sent: one of a kind
 --   ReadsAsSent        a message stands at the transcript's end and reads as it was sent, whatever follows
@@ -40,6 +43,7 @@ use mathlib.Core.List.{List, [], _∷_, _++_, List·Memᴰ}
 use mathlib.Core.Option.{Option, none, some}
 use lib.ListN.{length, take}
 use lib.Dec.{eqb}
+use Rattle.octets.specs.Octets.{sameOctets}
 use Rattle.message.specs.Layout.{headOf}
 use Rattle.encode.specs.Encode.{Contents, ofNego, ofExchange}
 use Rattle.roundtrip.specs.ReadBack.{InRange, ReadsBack, Stands, Outgoing}
@@ -47,10 +51,11 @@ use Rattle.schemes.specs.Lists.{Id, keep, first, leftOver, rule2, replyOf, oneT
 use Rattle.schemes.specs.Sets.{left}
 use Rattle.conversation.specs.declared.Record.{Record}
 use Rattle.conversation.specs.declared.Answer.{Answer}
-use Rattle.conversation.specs.State.{CLOSED, withStage, closed, ownOf, schemeAt, limitRows, fresh}
+use Rattle.conversation.specs.State.{LATER, CLOSED, withStage, closed, ownOf, schemeAt, limitRows, fresh}
 use Rattle.conversation.specs.Turns.{NEGO, METADATA}
 use Rattle.conversation.specs.Outcomes.{Outcome, zeroId, answered, refused, closedBy}
 use Rattle.conversation.specs.Writing.{heading, schemeNow, Speech, kindIn, contentsIn, opening}
+use Rattle.conversation.specs.Admitting.{schemeIn}
 use Rattle.conversation.specs.Reading.{readingToken}
 use Rattle.conversation.specs.Choosing.{chose, choosing}
 use Rattle.conversation.specs.Runs.{Sized, Call, offer, reply, metadata, speak, read, choose, End, act, Opening, World, world, outcomeAt, next, ends, Entry, run, isAccepted, isLawful, Replied}
@@ -109,7 +114,8 @@ acceptedOf w [] = []
 acceptedOf w (c ∷ cs) =
     cond (isAccepted (outcomeAt w (c .0) (c .1) .answer)) (c ∷ acceptedOf (next w (c .0) (c .1)) cs) (acceptedOf (next w (c .0) (c .1)) cs)
 
--- "In a run the call and those accepted (not refused) before it decide 18."
+-- "In a run the call and those accepted (not refused) before it decide 18.", with the choice, which their marks and the two lists give: by C-15 an early
+-- VERIFY counts by it
 abbrev pub AcceptedEnds : Type 0
 AcceptedEnds = (o : Opening) (cs : List (Bool × Call)) → ends (world o) (acceptedOf (world o) cs) ≡ ends (world o) cs
 
@@ -184,25 +190,57 @@ isReading read = true
 isReading (choose m s) = false
 
 -- by what is added to the end's log, whichever call it is (`EveryRun`: the transcript holds just that)
-abbrev pub writtenBy : End → List ℕ → Call → List (List ℕ)
-writtenBy e peer k = cond (isAccepted (act e peer k .answer) && not (isReading k)) (added e peer k) []
+abbrev pub addedBy : (Call → Bool) → End → List ℕ → Call → List (List ℕ)
+addedBy sort e peer k = cond (sort k && isAccepted (act e peer k .answer)) (added e peer k) []
 
-abbrev pub writtenAt : Bool → World → Bool → Call → List (List ℕ)
-writtenAt false w false k = writtenBy (w .i) (w .a .turn) k
-writtenAt true w true k = writtenBy (w .a) (w .i .turn) k
-writtenAt false w true k = []
-writtenAt true w false k = []
+abbrev pub addedAt : (Call → Bool) → Bool → World → Bool → Call → List (List ℕ)
+addedAt sort false w false k = addedBy sort (w .i) (w .a .turn) k
+addedAt sort true w true k = addedBy sort (w .a) (w .i .turn) k
+addedAt sort false w true k = []
+addedAt sort true w false k = []
+
+abbrev pub addedIn : (Call → Bool) → Bool → World → List (Bool × Call) → List (List ℕ)
+addedIn sort x w [] = []
+addedIn sort x w (c ∷ cs) = addedAt sort x w (c .0) (c .1) ++ addedIn sort x (next w (c .0) (c .1)) cs
 
 abbrev pub writtenIn : Bool → World → List (Bool × Call) → List (List ℕ)
-writtenIn x w [] = []
-writtenIn x w (c ∷ cs) = writtenAt x w (c .0) (c .1) ++ writtenIn x (next w (c .0) (c .1)) cs
+writtenIn = addedIn (λ k. not (isReading k))
+
+abbrev pub readIn : Bool → World → List (Bool × Call) → List (List ℕ)
+readIn = addedIn isReading
 
 abbrev pub isVerify : List ℕ → Bool
 isVerify m = eqb (headOf m .kind) 6
 
--- "Each end sends at most one VERIFY in a conversation."
+abbrev pub verifyFor : Id → List ℕ → Bool
+verifyFor id m = isVerify m && sameOctets id (schemeIn m)
+
+-- "Each end sends at most one VERIFY in a conversation.", as C-15 has it: one for each scheme, so one for the chosen scheme
 abbrev pub VerifyOnce : Type 0
-VerifyOnce = (o : Opening) (cs : List (Bool × Call)) (x : Bool) → length (keep isVerify (writtenIn x (world o) cs)) ≤ 1
+VerifyOnce = (o : Opening) (cs : List (Bool × Call)) (x : Bool) (id : Id) → length (keep (verifyFor id) (writtenIn x (world o) cs)) ≤ 1
+
+abbrev pub recordAt : Bool → World → Record
+recordAt false w = w .i .record-of
+recordAt true w = w .a .record-of
+
+abbrev pub chosenIn : Record → Id
+chosenIn r = schemeAt r (r .chosen)
+
+-- C-15: "Such a VERIFY counts as the end's one only if its scheme is the one chosen": behind the choice `verified` is set exactly where the one that
+-- counts is written, early or later
+abbrev pub FlagSays : Type 0
+FlagSays =
+    (o : Opening) (cs : List (Bool × Call)) (x : Bool) → recordAt x (ends (world o) cs) .stage ≡ LATER
+    → length (keep (verifyFor (chosenIn (recordAt x (ends (world o) cs)))) (writtenIn x (world o) cs)) ≡ cond (recordAt x (ends (world o) cs) .verified) 1 0
+
+-- the same of what an end reads: 14 for the peer's second
+abbrev pub HeardOnce : Type 0
+HeardOnce = (o : Opening) (cs : List (Bool × Call)) (x : Bool) (id : Id) → length (keep (verifyFor id) (readIn x (world o) cs)) ≤ 1
+
+abbrev pub HeardSays : Type 0
+HeardSays =
+    (o : Opening) (cs : List (Bool × Call)) (x : Bool) → recordAt x (ends (world o) cs) .stage ≡ LATER
+    → length (keep (verifyFor (chosenIn (recordAt x (ends (world o) cs)))) (readIn x (world o) cs)) ≡ cond (recordAt x (ends (world o) cs) .heard) 1 0
 
 pub record Arrays (r : Record) : Type 0 where
   pub list : length (r .list) ≡ 256

@@ -8,12 +8,13 @@
 --   judge           the chain of messages, judged message by message; thenJudge: the next one, where this one is let through
 --   chainFor        the chain of a token in a conversation; judged: the token judged
 --   commonAfter     the common set behind a token; keptAfter: the kept places
+--   countsBehind    the own one VERIFY is spent behind a token
 --   taken           the record behind an accepted token; takenAs: its answer
 --   accepted        the outcome of a whole token that has room
 --   finish          the first refusal, by which 12 closes the record; 16, behind all messages; then that outcome
 --   readingToken    the call: record, transcript and token in, outcome out; tokenRows: 18 and 1
 use Prim.Native.Nat.{ℕ, _+_}
-use mathlib.Core.Bool.{cond}
+use mathlib.Core.Bool.{Bool, cond, _&&_}
 use mathlib.Core.List.{List, [], _∷_, _++_}
 use lib.ListN.{length}
 use lib.Dec.{eqb, leb}
@@ -26,7 +27,7 @@ use Rattle.schemes.specs.Sets.{commonSet, keptPlaces, ones, padTo}
 use Rattle.conversation.specs.declared.Record.{Record}
 use Rattle.conversation.specs.declared.Answer.{Answer}
 use Rattle.conversation.specs.declared.Scan.{Scan}
-use Rattle.conversation.specs.State.{ownOf, limitRows}
+use Rattle.conversation.specs.State.{REPLY, ownOf, limitRows}
 use Rattle.conversation.specs.Turns.{FIRST, ANSWER, reads, mayRead}
 use Rattle.conversation.specs.Outcomes.{Outcome, zeroId, refused, closedBy, decide, row, room}
 use Rattle.conversation.specs.Admitting.{listedBy, Admitted, on, stop, admit}
@@ -67,6 +68,10 @@ commonAfter r t =
 unfoldable pub keptAfter : Record → List ℕ → List ℕ
 keptAfter r t = cond (eqb (reads r) ANSWER) (padTo 16 (keptPlaces (ownOf r) (listedBy t))) (r .kept)
 
+-- C-15: an early VERIFY of the acceptor counts, behind its first later token, if the chosen scheme is the AP_REQUEST's
+abbrev pub countsBehind : Record → Scan → Bool
+countsBehind r c = cond (eqb (r .stage) REPLY) (r .verified && eqb (c .chosen) (r .asked)) (r .verified)
+
 -- the stage behind the first token is REPLY, behind the reply CHOOSING, behind a later one LATER; where no token is read (`mayRead`), none is taken
 abbrev pub taken : Record → List ℕ → ℕ → Scan → Record
 taken r t n c = record {
@@ -82,7 +87,7 @@ taken r t n c = record {
   told = 0;
   asked = c .asked;
   chosen = c .chosen;
-  verified = r .verified;
+  verified = countsBehind r c;
   heard = c .heard;
   sequence = r .sequence + n;
   used = r .used + length t;

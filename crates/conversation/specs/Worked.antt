@@ -16,6 +16,8 @@
 --   conversation    calls of a whole conversation; allAccepted: every entry of a run is accepted
 --   WholeConversation   every call of it is accepted; WholeLogs: and each end has all of its messages
 --   attempts        choosing calls of each refusal, then one that is accepted; AtOnce: what they answer
+--   early           calls in which either end writes a VERIFY before the choice, and tries one behind it: with marks of either end, and the content of the choice
+--   EarlyVerify     C-15: what they answer, where the early ones count and where they do not
 --   readInTurn      the numbers that an end answers to tokens, read one behind the other
 --   StaysRejected   C-18, with the examples' tokens
 use Prim.Native.Nat.{ℕ}
@@ -32,7 +34,7 @@ use Rattle.put.specs.Put.{octetsOf, joined}
 use Rattle.token.specs.Token.{Reading, Accepted, Refused, tokenOf}
 use Rattle.schemes.specs.Lists.{Id, mem, distinct}
 use Rattle.conversation.specs.Outcomes.{zeroId}
-use Rattle.conversation.specs.Writing.{request, checksum, alarm}
+use Rattle.conversation.specs.Writing.{Speech, request, checksum, alarm}
 use Rattle.conversation.specs.Runs.{Sized, Call, offer, reply, metadata, speak, read, choose, End, act, moved, Opening, world, Entry, run, isAccepted, NotLost}
 use Rattle.conversation.specs.Logs.{logsOf}
 
@@ -251,6 +253,35 @@ AtOnce =
     map saysOf (run (world opened) attempts)
     ≡ done ∷ done ∷ names (scheme 2) 2 ∷ done ∷ refuses 18 ∷ refuses 16 ∷ refuses 19 ∷ refuses 17 ∷ refuses 18 ∷ refuses 18 ∷ names (scheme 3) 1 ∷ refuses 18
     ∷ refuses 18 ∷ done ∷ done ∷ []
+
+-- C-15: a VERIFY before and behind the AP_REQUEST, and behind the CHALLENGE; a choice with a VERIFY, and one with a content; then a VERIFY of either end
+abbrev pub early : ℕ → ℕ → Speech → List (Bool × Call)
+early acceptorMarks initiatorMarks content =
+    (false, offer random)
+    ∷ (false, speak (checksum (pos 16) []))
+    ∷ (false, speak (request []))
+    ∷ (false, speak (checksum (pos 16) []))
+    ∷ (true, read)
+    ∷ (true, reply acceptorMarks random)
+    ∷ (true, speak (request []))
+    ∷ (true, speak (checksum (pos 16) []))
+    ∷ (false, read)
+    ∷ (false, choose 0 (checksum (pos 16) []))
+    ∷ (false, choose initiatorMarks content)
+    ∷ (false, speak (checksum (pos 16) []))
+    ∷ (true, read)
+    ∷ (true, speak (request []))
+    ∷ (true, speak (checksum (pos 16) []))
+    ∷ (false, read)
+    ∷ []
+
+-- the AP_REQUEST's scheme is chosen: both are spent. Another one: either end sends one for it, and it is read
+abbrev pub EarlyVerify : Type 0
+EarlyVerify =
+    (map saysOf (run (world opened) (early 2 0 (request [])))
+    ≡ done ∷ refuses 18 ∷ done ∷ done ∷ done ∷ names (scheme 3) 1 ∷ done ∷ done ∷ done ∷ refuses 18 ∷ names (scheme 3) 1 ∷ refuses 18 ∷ done ∷ done ∷ refuses 18 ∷ done ∷ [])
+    × (map saysOf (run (world longerLists) (early 4 1 (checksum (pos 16) [])))
+    ≡ done ∷ refuses 18 ∷ done ∷ done ∷ done ∷ names (scheme 2) 2 ∷ done ∷ done ∷ done ∷ refuses 18 ∷ names (scheme 3) 1 ∷ refuses 18 ∷ done ∷ done ∷ done ∷ done ∷ [])
 
 abbrev pub readInTurn : End → List (List ℕ) → List ℕ
 readInTurn e [] = []

@@ -2,7 +2,7 @@
 -- Assumes nothing.
 use Prim.Native.Nat.{ℕ, _+_, _*_, _≤_, _<_}
 use mathlib.Core.Path.{_≡_, refl, sym, ap, _∙_}
-use mathlib.Core.Bool.{Bool, true, false, cond, not, _||_}
+use mathlib.Core.Bool.{Bool, true, false, cond, not, _&&_, _||_}
 use mathlib.Core.List.{List, [], _∷_, _++_}
 use native.Mathlib.Omega.{arith}
 use lib.ListN.{length}
@@ -21,7 +21,7 @@ use Rattle.conversation.specs.State.{ownOf, limitRows}
 use Rattle.conversation.specs.Turns.{writing, after, placeAfter}
 use Rattle.conversation.specs.Outcomes.{Outcome, answered, refused, decide, room, fits, appended}
 use Rattle.conversation.specs.Writing.{stageRows, namedRows, firstOr, naming, Speech, kindIn, spoken, spokenAs, speaking}
-use Rattle.conversation.specs.Choosing.{openTo, firstPlace, chose, mayChoose, maySpeak, choiceRows, choosing}
+use Rattle.conversation.specs.Choosing.{openTo, firstPlace, chose, mayChoose, choiceRows, choosing}
 use Rattle.conversation.proofs.Rows.{front-true, back-true}
 use Rattle.conversation.proofs.Decides.{decide-refused, first-stop}
 use Rattle.conversation.proofs.Inside.{limits-chose, chosen-allowed}
@@ -30,7 +30,21 @@ use Rattle.calls.proofs.Refusals.{limits-inside, limits-stop, limits-within, li
 use Rattle.calls.proofs.Lefts.{kept-inside, open-none, open-some, open-count, open-first}
 use Rattle.negotiating.specs.Ready.{ChoiceReady, namedChoice}
 
--- ---- 18, 19 and 17
+-- ---- an early VERIFY counts for the AP_REQUEST's scheme
+pub counts-early : (v : Bool) (place asked : ℕ) → v ≡ true → eqb place asked ≡ (v && eqb place asked)
+counts-early v place asked e = rw e
+
+pub counts-none : (v : Bool) (place asked : ℕ) → v ≡ false → false ≡ (v && eqb place asked)
+counts-none v place asked e = rw e
+
+pub ruleset countings = (counts-early, counts-none)
+
+first-place : (ks : List ℕ) (l : Left) → l ≡ leftOf ks → (l .left ≡ 0 → ⊥) → firstPlace ks ≡ l .place
+unfolding leftOf
+first-place [] l e h = absurd (h (ap (λ (x : Left). x .left) e))
+first-place (k ∷ ks) l e h = sym (ap (λ (x : Left). x .place) e)
+
+-- ---- 18, 19, 17 and 18
 module _ (r : Record) (m kind n : ℕ) (n-is : n ≡ firstFailing (limitRows r)) where
   module _ (z : n ≡ 0) where
     pub choice-few : r .count ≤ 16
@@ -46,30 +60,30 @@ module _ (r : Record) (m kind n : ℕ) (n-is : n ≡ firstFailing (limitRows r))
       pub choice-stage : (r .stage ≡ 2 → ⊥) → 18 ≡ callRefusal r (choiceRows r m kind)
       choice-stage h = behind 18 (rw (i, ne-eqb (r .stage) 2 h))
 
-      module _ (s : r .stage ≡ 2) (p : ℕ) (p-is : p ≡ after 2 0 (r .verified) kind) where
+      module _ (s : r .stage ≡ 2) (b : Bool) (b-is : b ≡ below (r .count) m) where
         may : mayChoose r ≡ true
         may = rw (i, eq-eqb (r .stage) 2 s)
 
-        place : placeAfter (chose r m) kind ≡ p
-        unfolding writing
-        place = ap (λ (a : Bool). after (writing a 3) 0 (r .verified) kind) i ∙ sym p-is
+        pub choice-marks : b ≡ false → 19 ≡ callRefusal r (choiceRows r m kind)
+        choice-marks e = behind 19 (rw (may, ← b-is, e))
 
-        pub choice-kind : p ≡ 0 → 18 ≡ callRefusal r (choiceRows r m kind)
-        choice-kind e = behind 18 (rw (may, place, eq-eqb p 0 e))
+        module _ (t : b ≡ true) (l : Left) (l-is : l ≡ leftOf (openPlaces (r .kept) (r .common) m)) where
+          pub choice-none : l .left ≡ 0 → 17 ≡ callRefusal r (choiceRows r m kind)
+          choice-none e = behind 17 (rw (may, ← b-is, t, ← open-none (r .list) (r .count) l (openTo r m) l-is e))
 
-        module _ (q : p ≡ 0 → ⊥) (b : Bool) (b-is : b ≡ below (r .count) m) where
-          speaks : maySpeak r m kind ≡ true
-          speaks = rw (place, ne-eqb p 0 q)
+          module _ (some : l .left ≡ 0 → ⊥) (v : Bool) (v-is : v ≡ (r .verified && eqb (l .place) (r .asked))) (p : ℕ) (p-is : p ≡ after 2 0 v kind) where
+            place : placeAfter (chose r m) kind ≡ p
+            unfolding writing
+            place =
+                ap (λ (a : Bool). after (writing a 3) 0 (r .verified && eqb (firstPlace (openTo r m)) (r .asked)) kind) i
+                ∙ ap (λ (k : ℕ). after 2 0 (r .verified && eqb k (r .asked)) kind) (first-place (openTo r m) l l-is some)
+                ∙ ap (λ (x : Bool). after 2 0 x kind) (sym v-is) ∙ sym p-is
 
-          pub choice-marks : b ≡ false → 19 ≡ callRefusal r (choiceRows r m kind)
-          choice-marks e = behind 19 (rw (may, speaks, ← b-is, e))
+            pub choice-kind : p ≡ 0 → 18 ≡ callRefusal r (choiceRows r m kind)
+            choice-kind e = behind 18 (rw (may, ← b-is, t, ← open-some (r .list) (r .count) l (openTo r m) l-is some, place, eq-eqb p 0 e))
 
-          module _ (t : b ≡ true) (l : Left) (l-is : l ≡ leftOf (openPlaces (r .kept) (r .common) m)) where
-            pub choice-none : l .left ≡ 0 → 17 ≡ callRefusal r (choiceRows r m kind)
-            choice-none e = behind 17 (rw (may, speaks, ← b-is, t, ← open-none (r .list) (r .count) l (openTo r m) l-is e))
-
-            pub choice-some : (l .left ≡ 0 → ⊥) → 0 ≡ callRefusal r (choiceRows r m kind)
-            choice-some e = behind 0 (rw (may, speaks, ← b-is, t, ← open-some (r .list) (r .count) l (openTo r m) l-is e))
+            pub choice-some : (p ≡ 0 → ⊥) → 0 ≡ callRefusal r (choiceRows r m kind)
+            choice-some e = behind 0 (rw (may, ← b-is, t, ← open-some (r .list) (r .count) l (openTo r m) l-is some, place, ne-eqb p 0 e))
 
 pub ruleset choice-refusals = (limits-stop, choice-role, choice-stage, choice-kind, choice-marks, choice-none, choice-some)
 
@@ -81,8 +95,9 @@ module _ (r : Record) (m : ℕ) (y : ChoiceReady r m) (l : Left) (l-is : l ≡ l
   pub choice-place : l .place < 16
   choice-place = omega (arith, found .0, y .inside .few)
 
-  pub choice-made : record { acceptor = r .acceptor; stage = 3; position = 0; list = r .list; count = r .count; conversation = r .conversation; marks = m; common = r .common; kept = r .kept; told = r .told; asked = r .asked; chosen = l .place; verified = r .verified; heard = r .heard; sequence = r .sequence; used = r .used } ≡ chose r m
-  choice-made = rw (found .1 .1)
+  pub choice-made : (v : Bool) → v ≡ (r .verified && eqb (l .place) (r .asked)) → (h : Bool) → h ≡ (r .heard && eqb (l .place) (r .asked))
+      → record { acceptor = r .acceptor; stage = 3; position = 0; list = r .list; count = r .count; conversation = r .conversation; marks = m; common = r .common; kept = r .kept; told = r .told; asked = r .asked; chosen = l .place; verified = v; heard = h; sequence = r .sequence; used = r .used } ≡ chose r m
+  choice-made v v-is h h-is = rw (v-is, h-is) (rw (found .1 .1))
 
   pub choice-named : (a : Answer) → a .refusal ≡ 0 → (id : List ℕ) → id ≡ octets 16 (r .list) (16 * l .place) → (b : Answer)
       → b ≡ record { refusal = 0; place = record { 0 = 0 }; messages = 0; choice = id; left = l .left; next = a .next } → b ≡ namedChoice r m a
@@ -113,13 +128,13 @@ module _ (r : Record) (m kind n : ℕ) (n-is : n ≡ callRefusal r (choiceRows r
 
   pub choose-ready : ChoiceReady r m
   choose-ready =
-      let (may, (speaks, (marks, (some, end)))) = back-true (limitRows r) (choiceRows r m kind) given in
+      let (may, (marks, (some, (speaks, end)))) = back-true (limitRows r) (choiceRows r m kind) given in
       record { inside = limits-inside r (choiceRows r m kind) given; kept = kept; some = some }
 
   -- the tests of the writer before 16 pass in the record behind the choice
   passed : AllTrue (stageRows (chose r m) kind ++ namedRows (chose r m))
   passed =
-      let (may, (speaks, (marks, (some, end)))) = back-true (limitRows r) (choiceRows r m kind) given in
+      let (may, (marks, (some, (speaks, end)))) = back-true (limitRows r) (choiceRows r m kind) given in
       let (l1, (l2, (l3, (l4, (l5, (l6, (l7, (l8, (l9, (l10, (l11, tail))))))))))) = limits-chose r (front-true (limitRows r) (choiceRows r m kind) given) m role marks in
       (l1, (l2, (l3, (l4, (l5, (l6, (l7, (l8, (l9, (l10, (l11, (speaks, (chosen-allowed r m kept some, tt)))))))))))))
 

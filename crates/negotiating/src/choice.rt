@@ -1,5 +1,7 @@
 // The initiator's choice, which is made with its first later message: what the three calls that choose share.
 ghost use mathlib.Core.Path.{_≡_};
+ghost use mathlib.Core.Bool.{_&&_};
+ghost use lib.Dec.{eqb};
 ghost use Rattle.conversation.specs.Choosing.{choiceRows, chose};
 ghost use Rattle.calls.specs.Calls.{callRefusal};
 ghost use Rattle.negotiating.specs.Ready.{ChoiceReady, namedChoice};
@@ -17,7 +19,17 @@ use vector::TokenPlace;
 // A later token, as `place_behind` numbers them.
 const FURTHER: u8 = 2;
 
-// 18, 19 and 17 for a choice with a message of a kind: the first that refuses, or 0.
+// Whether an early VERIFY counts behind a choice: it is for the AP_REQUEST's scheme.
+fn counts_for(early: bool, place: usize, asked: usize) -> bool
+    ensures { λ a. ⌜ a ≡ (early && eqb place asked) ⌝ }
+{
+    if early {
+        return place == asked;
+    }
+    false
+}
+
+// 18, 19, 17 and 18 for a choice with a message of a kind: the first that refuses, or 0.
 pub fn choice_refusal(r: Record, kind: u8, marks: u16) -> u32
     ensures { λ a. ⌜ a ≡ callRefusal r (choiceRows r marks kind) ⌝ }
 {
@@ -31,9 +43,6 @@ pub fn choice_refusal(r: Record, kind: u8, marks: u16) -> u32
     if r.stage != Record::CHOOSING {
         return 18;
     }
-    if place_behind(FURTHER, 0, r.verified, kind) == 0 {
-        return 18;
-    }
     if within(marks, r.count as u32) {} else {
         return 19;
     }
@@ -41,6 +50,10 @@ pub fn choice_refusal(r: Record, kind: u8, marks: u16) -> u32
     let left = choose_kept(kept, r.common, marks);
     if left.left == 0 {
         return 17;
+    }
+    let spent = counts_for(r.verified, left.place as usize, r.asked);
+    if place_behind(FURTHER, 0, spent, kind) == 0 {
+        return 18;
     }
     0
 }
@@ -58,6 +71,8 @@ pub fn chosen_record(r: Record, marks: u16) -> Record
     next.position = 0;
     next.marks = marks;
     next.chosen = place;
+    next.verified = counts_for(r.verified, place, r.asked);
+    next.heard = counts_for(r.heard, place, r.asked);
     next
 }
 

@@ -19,7 +19,7 @@ use Rattle.conversation.specs.declared.Scan.{Scan}
 use Rattle.conversation.specs.State.{ownOf}
 use Rattle.conversation.specs.Turns.{reading, reads}
 use Rattle.conversation.specs.Admitting.{listedBy}
-use Rattle.conversation.specs.Reading.{commonAfter, keptAfter, taken}
+use Rattle.conversation.specs.Reading.{commonAfter, keptAfter, countsBehind, taken}
 use Rattle.admitting.specs.Admissions.{listedIn}
 use Rattle.admitting.proofs.Lists.{listed-by}
 use Rattle.receiving.specs.Receiving.{Taking, withSets, movedBy}
@@ -37,6 +37,20 @@ reading-small false stage = either (eqb stage 0) 1 _ (omega arith) (either (eqb 
 
 pub token-small : (r : Record) (token : ℕ) → token ≡ reads r → token ≤ 3
 token-small r token e = omega (arith, reading-small (r .acceptor) (r .stage))
+
+-- the own VERIFY behind a token
+module _ (r : Record) (c : Scan) where
+  pub counts-stage : (r .stage ≡ 1 → ⊥) → r .verified ≡ countsBehind r c
+  counts-stage h = rw (ne-eqb _ _ h)
+
+  module _ (s : r .stage ≡ 1) where
+    pub counts-none : r .verified ≡ false → false ≡ countsBehind r c
+    counts-none e = rw (eq-eqb _ _ s, e)
+
+    pub counts-early : r .verified ≡ true → eqb (c .chosen) (r .asked) ≡ countsBehind r c
+    counts-early e = rw (eq-eqb _ _ s, e)
+
+pub ruleset countings = (counts-stage, counts-none, counts-early)
 
 module _ (r : Record) (t : List ℕ) (n : ℕ) (c : Scan) (token : ℕ) (token-is : token ≡ reads r) where
   taken-is : (x : ℕ) (k : List ℕ) → x ≡ commonAfter r t → k ≡ keptAfter r t → withSets (movedBy r t n c) x k ≡ taken r t n c

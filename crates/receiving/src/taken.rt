@@ -1,7 +1,7 @@
 // The record behind an accepted token.
 ghost use mathlib.Core.Path.{_≡_};
 ghost use lib.ListN.{length};
-ghost use Rattle.conversation.specs.Reading.{taken};
+ghost use Rattle.conversation.specs.Reading.{countsBehind, taken};
 ghost use Rattle.receiving.specs.Receiving.{Taking, movedBy};
 use super::judge::conversation_of;
 use admitting::named::listed;
@@ -12,6 +12,19 @@ use schemes::reply::kept_places;
 use schemes::set::common_set;
 use schemes::set::full_set;
 
+// Whether the own one VERIFY is spent behind a token: the acceptor's first later token fixes the choice, and with it whether an early one counts.
+fn counts_behind(r: Record, c: Scan) -> bool
+    ensures { λ a. ⌜ a ≡ countsBehind r c ⌝ }
+{
+    if r.stage != Record::REPLY {
+        return r.verified;
+    }
+    if r.verified {} else {
+        return false;
+    }
+    c.chosen == r.asked
+}
+
 // What every accepted token changes: stage, turn, conversation, and what was carried out of it.
 fn moved(r: Record, t: &[u8], n: u32, c: Scan) -> Record
     requires { ⌜ Taking r (length (now t)) n ⌝ }
@@ -19,6 +32,7 @@ fn moved(r: Record, t: &[u8], n: u32, c: Scan) -> Record
 {
     let token = reading_token(r.acceptor, r.stage);
     let conversation = conversation_of(r, t);
+    let verified = counts_behind(r, c);
     let mut next = r;
     next.stage = token + 1;
     next.position = 0;
@@ -26,6 +40,7 @@ fn moved(r: Record, t: &[u8], n: u32, c: Scan) -> Record
     next.told = 0;
     next.asked = c.asked;
     next.chosen = c.chosen;
+    next.verified = verified;
     next.heard = c.heard;
     next.sequence = r.sequence + n;
     next.used = r.used + t.len();

@@ -13,6 +13,18 @@ peer-kind-requires c κs = search needs
 reading-token-requires : tie.Need-reading-token-requires
 reading-token-requires c κs = search needs
 
+sub-heard-for : tie.Need-sub-heard-for
+sub-heard-for c = search needs
+
+part-heard-for-start : tie.Need-part-heard-for-start
+part-heard-for-start c = search needs
+
+part-heard-for-end : tie.Need-part-heard-for-end
+part-heard-for-end c = search needs
+
+heard-for-requires : tie.Need-heard-for-requires
+heard-for-requires c κs = search needs
+
 place-behind-requires : tie.Need-place-behind-requires
 place-behind-requires c κs = search needs
 
@@ -56,6 +68,10 @@ admit-message-spec =
     le-u32-requires
     peer-kind-requires
     reading-token-requires
+    sub-heard-for
+    part-heard-for-start
+    part-heard-for-end
+    heard-for-requires
     place-behind-requires
     returns
     sub-scheme-fits

@@ -18,23 +18,29 @@ returns-2 c = search choice-refusals
 returns-3 : tie.Need-returns-3
 returns-3 c = search choice-refusals
 
-place-behind-requires : tie.Need-place-behind-requires
-place-behind-requires c κs = search needs
-
-returns-4 : tie.Need-returns-4
-returns-4 c = search choice-refusals
-
 cast-within : tie.Need-cast-within
-cast-within c = let h : c .before .before .before .before .before .before .before .before .args .r .count ≤ 16 = choice-few (c .before .before .before .before .before .before .before .before .args .r) (c .before .before .before .before .before .before .before .before .args .marks) (c .before .before .before .before .before .before .before .before .args .kind) _ (c .before .before .before .before .before .before .before .outside .ensures) (c .before .before .before .before .before .before .if1 .left) in omega arith
+cast-within c = let h : c .before .before .before .before .before .before .args .r .count ≤ 16 = choice-few (c .before .before .before .before .before .before .args .r) (c .before .before .before .before .before .before .args .marks) (c .before .before .before .before .before .before .args .kind) _ (c .before .before .before .before .before .outside .ensures) (c .before .before .before .before .if1 .left) in omega arith
 
 within-requires : tie.Need-within-requires
 within-requires c κs = search needs
 
-returns-5 : tie.Need-returns-5
-returns-5 c = search choice-refusals
+returns-4 : tie.Need-returns-4
+returns-4 c = search choice-refusals
 
 choose-kept-requires : tie.Need-choose-kept-requires
 choose-kept-requires c κs = search needs
+
+returns-5 : tie.Need-returns-5
+returns-5 c = search choice-refusals
+
+cast-counts-for : tie.Need-cast-counts-for
+cast-counts-for c = search needs
+
+counts-for-requires : tie.Need-counts-for-requires
+counts-for-requires c κs = search needs
+
+place-behind-requires : tie.Need-place-behind-requires
+place-behind-requires c κs = search needs
 
 returns-6 : tie.Need-returns-6
 returns-6 c = search choice-refusals
@@ -50,11 +56,13 @@ choice-refusal-spec =
     returns
     returns-2
     returns-3
-    place-behind-requires
-    returns-4
     cast-within
     within-requires
-    returns-5
+    returns-4
     choose-kept-requires
+    returns-5
+    cast-counts-for
+    counts-for-requires
+    place-behind-requires
     returns-6
     returns-7)

@@ -11,8 +11,11 @@ reading-token-requires c κs = search needs
 conversation-of-requires : tie.Need-conversation-of-requires
 conversation-of-requires c κs = search needs
 
+counts-behind-requires : tie.Need-counts-behind-requires
+counts-behind-requires c κs = search needs
+
 add-next : tie.Need-add-next
-add-next c = omega (arith, token-small (c .before .before .before .args .r) _ (c .before .reading-token .ensures))
+add-next c = omega (arith, token-small (c .before .before .before .before .args .r) _ (c .before .before .reading-token .ensures))
 
 add-next-2 : tie.Need-add-next-2
 add-next-2 c = search needs
@@ -21,7 +24,7 @@ add-next-3 : tie.Need-add-next-3
 add-next-3 c = search needs
 
 returns : tie.Need-returns
-returns c = rw (c .before .before .before .reading-token .ensures, c .before .before .conversation-of .ensures)
+returns c = rw (c .before .before .before .before .reading-token .ensures, c .before .before .before .conversation-of .ensures, c .before .before .counts-behind .ensures)
 
 pub moved-spec : {M : Type 1} → statement M
 moved-spec =
@@ -29,6 +32,7 @@ moved-spec =
     (tie.spec
     reading-token-requires
     conversation-of-requires
+    counts-behind-requires
     add-next
     add-next-2
     add-next-3

@@ -1,14 +1,14 @@
 -- Assumes nothing.
-use Rattle.admitting.proofs.Admits.{carryings}
+use Rattle.admitting.proofs.Spent.{hearings}
 use borrow.Author.Needs.{needs}
-use Rattle.admitting.proofs.admit.heard_behind.Statement.{statement}
-use Rattle.admitting.proofs.admit.heard_behind.Tie as tie
+use Rattle.admitting.proofs.heard.heard_behind.Statement.{statement}
+use Rattle.admitting.proofs.heard.heard_behind.Tie as tie
 
 returns : tie.Need-returns
 returns c = search needs
 
 returns-2 : tie.Need-returns-2
-returns-2 c = search carryings
+returns-2 c = search hearings
 
 pub heard-behind-spec : {M : Type 1} → statement M
 heard-behind-spec = tie.close (tie.spec returns returns-2)
