@@ -1,4 +1,4 @@
--- The choosing call's table: what a call that passes it has, and what its refusals say. The one place that knows the order of its rows.
+-- The choosing call's table: what a call that passes it has, and what its refusals say. The one place of this crate that knows the order of its rows.
 -- Assumes nothing.
 use Prim.Native.Nat.{ℕ, _+_}
 use mathlib.Core.Path.{_≡_, refl}

@@ -34,7 +34,7 @@
 --   sentBy r k         the message that a writing call sends: the record's number and conversation, and the call's arguments; sent: one of a kind
 --   ReadsAsSent        a message stands at the transcript's end and reads as it was sent, whatever follows
 --   WrittenReads       demand 2's round trip: what an accepted writing call appended does, on every record
---   ChoiceSpoken       the message of an accepted choosing call names the choice that it answers
+--   ChoiceSpoken       the message of an accepted choosing call is the next one, and names the choice that the call answers
 use Prim.Native.Nat.{ℕ, _*_, _≤_}
 use mathlib.Core.Path.{_≡_}
 use mathlib.Core.Bool.{Bool, true, false, cond, not, _&&_, _||_}
@@ -54,7 +54,7 @@ use Rattle.conversation.specs.declared.Answer.{Answer}
 use Rattle.conversation.specs.State.{LATER, CLOSED, withStage, closed, ownOf, schemeAt, limitRows, fresh}
 use Rattle.conversation.specs.Turns.{NEGO, METADATA}
 use Rattle.conversation.specs.Outcomes.{Outcome, zeroId, answered, refused, closedBy}
-use Rattle.conversation.specs.Writing.{heading, schemeNow, Speech, kindIn, contentsIn, opening}
+use Rattle.conversation.specs.Writing.{heading, messageOf, schemeNow, Speech, kindIn, contentsIn, spoken, opening}
 use Rattle.conversation.specs.Admitting.{schemeIn}
 use Rattle.conversation.specs.Reading.{readingToken}
 use Rattle.conversation.specs.Choosing.{chose, choosing}
@@ -271,4 +271,4 @@ WrittenReads =
 abbrev pub ChoiceSpoken : Type 0
 ChoiceSpoken =
     (r : Record) (d : List ℕ) (m : ℕ) (s : Speech) → isAccepted (choosing r d m s .answer) ≡ true
-    → schemeAt r (schemeNow (chose r m)) ≡ choosing r d m s .answer .choice
+    → spoken (chose r m) s ≡ messageOf r (kindIn s) (contentsIn (choosing r d m s .answer .choice) s)

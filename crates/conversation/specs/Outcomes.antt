@@ -4,7 +4,7 @@
 --   Outcome          an answer, and the lent transcript afterwards
 --   zeroId           sixteen zeros: no choice
 --   answered n p r   the answer with the number n, the place p and the record r, and nothing else to say
---   refused r d n p  "Each returns its number and the token place of the message at fault .. Record and lent octets are unchanged."
+--   refused r d n p  "Each returns its number and the token place of the message at fault": n and p, with the record r and the transcript d
 --   closedBy n r     the record behind a reading that the number n refuses: closed by 12, else as it was
 --   decide           the first row that fails refuses; where all hold, the action; row makes a row
 --   room d           "Its room is the smaller of the buffer's length and 65,535."
