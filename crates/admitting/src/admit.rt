@@ -91,7 +91,7 @@ pub fn admit_message(r: Record, t: &[u8], c: Scan, m: &[u8]) -> Admission
     requires { ⌜ Inside r × (c .named ≤ 65535) × (56 ≤ length (now m)) ⌝ }
     ensures { λ a. ⌜ admitted a ≡ admit r (now (t .entry)) c (now (m .entry)) ⌝ }
 {
-    let kind = peer_kind(r.acceptor, le_u32(m, 8));
+    let kind = peer_kind(r.acceptor, le_u32(m, field::TYPE));
     let token = reading_token(r.acceptor, r.stage);
     let heard = heard_for(r, c, &m[field::SCHEME..SCHEME_END]);
     let position = place_behind(token, c.position, heard, kind);

@@ -7,6 +7,7 @@ ghost use Rattle.schemes.specs.Lists.{bit};
 ghost use Rattle.schemes.specs.Sets.{commonSet, ones, below};
 ghost use Rattle.schemes.specs.Answers.{withBit};
 use super::list::has_id;
+use message::field;
 
 // Bit k of a set.
 pub fn bit_of(set: u16, k: u32) -> bool
@@ -52,13 +53,13 @@ pub fn common_set(own: &[u8], n: usize, peer: &[u8]) -> u16
     requires { ⌜ (n * 16 ≤ length (now own)) × (n ≤ 16) ⌝ }
     ensures { λ r. ⌜ r ≡ commonSet (idsAt n (now (own .entry))) (idsOf (now (peer .entry))) ⌝ }
 {
-    let m = peer.len() / 16;
+    let m = peer.len() / field::ID;
     let mut set: u16 = 0;
     let mut k = n;
     while 0 < k {
         k -= 1;
-        let at = k * 16;
-        let end = at + 16;
+        let at = k * field::ID;
+        let end = at + field::ID;
         if has_id(peer, m, &own[at..end]) {
             set = set * 2 + 1;
         } else {
