@@ -7,7 +7,7 @@ use mathlib.Core.List.{List, [], _∷_, _++_}
 use native.Mathlib.Numerals.{add-one}
 use lib.ListN.{length, drop, getD, drop-of-length-le}
 use lib.Seq.{drop-cons}
-use lib.Dec.{ltb}
+use lib.Dec.{eqb}
 use borrow.Author.Tests.{eq-eqb, ne-eqb}
 use Rattle.text.specs.Text.{quoted, hexOf, idText, Text, written}
 use Rattle.text.proofs.Pieces.{then}
@@ -65,12 +65,20 @@ module _ (c : Command) (a : Answer) (message : List ℕ) (t u : Text) where
 
 pub ruleset reports = (report-refused, report-opened, report-read, report-choice, report-wrote)
 
--- a reply, or one of the verbs behind OPEN
+-- a reply, or one of the calls that choose
 module _ (verb : ℕ) where
   pub names-reply : verb ≡ 2 → true ≡ namesChoice verb
   names-reply h = rw (eq-eqb _ _ h)
 
-  pub names-other : (verb ≡ 2 → ⊥) → ltb 10 verb ≡ namesChoice verb
-  names-other h = rw (ne-eqb _ _ h)
+  module _ (no-reply : verb ≡ 2 → ⊥) where
+    pub names-exchange : verb ≡ 11 → true ≡ namesChoice verb
+    names-exchange h = rw (ne-eqb _ _ no-reply, eq-eqb _ _ h)
 
-pub ruleset names = (names-reply, names-other)
+    module _ (no-exchange : verb ≡ 11 → ⊥) where
+      pub names-verify : verb ≡ 12 → true ≡ namesChoice verb
+      names-verify h = rw (ne-eqb _ _ no-reply, ne-eqb _ _ no-exchange, eq-eqb _ _ h)
+
+      pub names-other : (verb ≡ 12 → ⊥) → eqb verb 13 ≡ namesChoice verb
+      names-other h = rw (ne-eqb _ _ no-reply, ne-eqb _ _ no-exchange, ne-eqb _ _ h)
+
+pub ruleset names = (names-reply, names-exchange, names-verify, names-other)

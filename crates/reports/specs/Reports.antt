@@ -12,11 +12,11 @@ use Prim.Native.Nat.{ℕ}
 use mathlib.Core.Bool.{Bool, cond, _||_}
 use mathlib.Core.List.{List, [], _∷_, _++_}
 use lib.ListN.{length}
-use lib.Dec.{eqb, ltb}
+use lib.Dec.{eqb}
 use Rattle.text.specs.Text.{quoted, decimal, decimal64, hexOf, idText}
 use Rattle.conversation.specs.declared.Answer.{Answer}
 use Rattle.script.specs.declared.Command.{Command}
-use Rattle.script.specs.Grammar.{REPLY, READ, OPEN}
+use Rattle.script.specs.Grammar.{REPLY, READ, OPEN, CHOOSE-EXCHANGE, CHOOSE-VERIFY, CHOOSE-ALERT}
 
 -- "upper-case digits"
 unfoldable pub digitsOf : List ℕ → List (List ℕ)
@@ -33,7 +33,7 @@ choiceText id left = quoted " choice=" ∷ (idText id ++ (quoted " left=" ∷ de
 
 -- "behind an accepted reply, and a choice"
 abbrev pub namesChoice : ℕ → Bool
-namesChoice verb = eqb verb REPLY || ltb OPEN verb
+namesChoice verb = eqb verb REPLY || (eqb verb CHOOSE-EXCHANGE || (eqb verb CHOOSE-VERIFY || eqb verb CHOOSE-ALERT))
 
 abbrev pub numbersLine : List ℕ → ℕ → List ℕ → ℕ → List (List ℕ)
 numbersLine words n further k = words ∷ decimal n ∷ further ∷ decimal64 k ∷ quoted "\n" ∷ []

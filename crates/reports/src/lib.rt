@@ -51,14 +51,20 @@ fn wrote(d: &mut [u8], message: &[u8]) -> usize
     digits(d, b, message)
 }
 
-// Whether a verb is that of a call that answers a choice: a reply, and those that choose, which stand last.
+// Whether a verb is that of a call that answers a choice: a reply, and those that choose.
 fn names_choice(verb: usize) -> bool
     ensures { λ r. ⌜ r ≡ namesChoice verb ⌝ }
 {
     if verb == Command::REPLY {
         return true;
     }
-    Command::OPEN < verb
+    if verb == Command::CHOOSE_EXCHANGE {
+        return true;
+    }
+    if verb == Command::CHOOSE_VERIFY {
+        return true;
+    }
+    verb == Command::CHOOSE_ALERT
 }
 
 // The line of a command: what its call answered, and the message that it wrote.
