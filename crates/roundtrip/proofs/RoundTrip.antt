@@ -12,7 +12,7 @@ use lib.Dec.{leb, eqb}
 use borrow.Author.Tests.{leb-true, eqb-true}
 use Rattle.octets.proofs.Bools.{which, both}
 use Rattle.message.specs.Layout.{headerOf, padsOf, Head, headOf, size, front, contentOf, vectorsOf}
-use Rattle.message.specs.Check.{allKeepRule, FirstFails}
+use Rattle.message.specs.Check.{allKeepRule, firstFailing, FirstFails}
 use Rattle.message.proofs.Tables.{refuses-first}
 use Rattle.message.specs.Show.{idsAt, idsOf, schemesIn}
 use Rattle.token.specs.Token.{passes, nextRows, tokenOf}
@@ -168,17 +168,24 @@ begins : (q : ℕ) (v : List ℕ) (ms : List Outgoing) (m : Outgoing) (r : List 
 begins q v [] m r e f = let b = begins-with (q + 0) v m [] r f in record { number = omega (arith, b .number); conversation = b .conversation }
 begins q v (x ∷ xs) m r e f = rw (append-assoc (encoded (x .heading) (x .contents)) (join (octetsOfAll xs)) (encoded (m .heading) (m .contents) ++ r)) (begins-with q v x xs _ e)
 
--- A written message with a critical extension stops its token there with 12, whatever follows it.
+-- a written message with a critical extension fails by 12
+pub critical-stops : (h : Heading) (c : Contents) → Sent h c → InRange c → ordinaryIn c ≡ false → (r : List ℕ)
+    → (passes (encoded h c ++ r) (h .sequence) (h .conversation) ≡ false) × (firstFailing (nextRows (encoded h c ++ r) (h .sequence) (h .conversation)) ≡ 12)
+critical-stops h c s range o r = let l = laid h c s range in stops-encoded h c s r (l .content) (l .rules) o
+
+pub some-octets : (h : Heading) (c : Contents) → Sent h c → (r : List ℕ) → 0 < length (encoded h c ++ r)
+some-octets h c s r =
+    let k = fitting h c (s .can) .header in
+    omega (arith, size-encoded h c s, length-append (encoded h c) r, header-least (shapeFor c))
+
+-- It stops its token there with 12, whatever follows it.
 pub critical-refused : CriticalRefused
 critical-refused q v ms m r e f o c w =
     let h = m .heading in
-    let l = laid h (m .contents) (f .0 .0) (f .0 .1) in
     let t = encoded h (m .contents) ++ r in
     let s = join (octetsOfAll ms) ++ t in
     let b = begins q v ms m r e f in
-    let k = fitting h (m .contents) (f .0 .0 .can) .header in
-    let n : 0 < length t = omega (arith, size-encoded h (m .contents) (f .0 .0), length-append (encoded h (m .contents)) r, header-least (shapeFor (m .contents))) in
-    let stop = stops-encoded h (m .contents) (f .0 .0) r (l .content) (l .rules) c in
+    let stop = critical-stops h (m .contents) (f .0 .0) (f .0 .1) c r in
     let first : FirstFails 12 (nextRows t (h .sequence) (h .conversation)) = subst (λ (j : ℕ). FirstFails j (nextRows t (h .sequence) (h .conversation))) (stop .1) (refuses-first (nextRows t (h .sequence) (h .conversation)) (stop .0)) in
     let j : h .sequence ≡ headOf s .sequence + length (octetsOfAll ms) = omega (arith, f .1 .0, b .number, count-all ms) in
     let d : h .conversation ≡ headOf s .conversation = f .1 .1 .0 ∙ sym (b .conversation) in
@@ -189,7 +196,7 @@ critical-refused q v ms m r e f o c w =
         t,
         record {
           short = w;
-          some = n;
+          some = some-octets h (m .contents) (f .0 .0) r;
           joins = refl;
           numbered = subst (λ (i : ℕ). Numbered i (headOf s .conversation) (octetsOfAll ms)) (sym (b .number)) (subst (λ (i : List ℕ). Numbered q i (octetsOfAll ms)) (sym (b .conversation)) (all-numbered q v ms e o));
           place = refl;
