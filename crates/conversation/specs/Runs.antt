@@ -28,7 +28,7 @@ use lib.Dec.{eqb}
 use Rattle.schemes.specs.Lists.{Id, oneTo16, wholeIds, joinIds, rule2}
 use Rattle.schemes.specs.Longer.{Longer, SameMarks, NoLater}
 use Rattle.elements.specs.Elements.{itemsOf}
-use Rattle.roundtrip.specs.ReadBack.{TypesFit}
+use Rattle.roundtrip.specs.ReadBack.{typesFit}
 use Rattle.conversation.specs.declared.Record.{Record}
 use Rattle.conversation.specs.declared.Answer.{Answer}
 use Rattle.conversation.specs.State.{fresh}
@@ -42,7 +42,7 @@ Sized n = (l : List ℕ) × (length l ≡ n)
 
 pub record NegoGiven (g : NegoContent) : Type 0 where
   pub random : length (g .random) ≡ 32
-  pub types : TypesFit (itemsOf (g .extensions) (g .values))
+  pub types : typesFit (itemsOf (g .extensions) (g .values)) ≡ true
 
 abbrev pub NegoCall : Type 0
 NegoCall = (g : NegoContent) × NegoGiven g

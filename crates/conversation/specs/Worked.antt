@@ -27,7 +27,6 @@ use Prim.Native.Nat.{ℕ}
 use mathlib.Core.Path.{_≡_, refl}
 use mathlib.Core.Bool.{Bool, true, false, _&&_}
 use mathlib.Core.List.{List, [], _∷_, _++_, map, List·Memᴰ}
-use native.Mathlib.Omega.{arith}
 use lib.ListN.{length, replicate}
 use lib.IntN.{ℤ, pos, negsuc}
 use Rattle.octets.specs.Octets.{signed32, sameOctets}
@@ -37,8 +36,7 @@ use Rattle.message.specs.Show.{schemesIn}
 use Rattle.put.specs.Put.{octetsOf, joined}
 use Rattle.token.specs.Token.{Reading, Accepted, Refused, tokenOf}
 use Rattle.elements.specs.declared.Elements.{Elements}
-use Rattle.elements.specs.Elements.{itemsFrom, itemsOf, noElements, pulseValue, pulseElements}
-use Rattle.roundtrip.specs.ReadBack.{TypesFit}
+use Rattle.elements.specs.Elements.{itemsOf, noElements, pulseValue, pulseElements}
 use Rattle.schemes.specs.Lists.{Id, mem, distinct}
 use Rattle.conversation.specs.Outcomes.{zeroId}
 use Rattle.conversation.specs.Writing.{NegoContent, Speech, request, checksum, alarm}
@@ -91,7 +89,7 @@ negoWith test extensions values = record { random = replicate 32 7; test = test;
 
 unfoldable pub plain : NegoCall
 unfolding itemsOf
-plain = (negoWith false noElements [], record { random = refl; types = tt })
+plain = (negoWith false noElements [], record { random = refl; types = refl })
 
 abbrev pub pulse : ℤ → Speech
 pulse code = alarm (record { code = code; alerts = pulseElements; values = pulseValue })
@@ -308,17 +306,15 @@ nine = record { count = 9; types = replicate 8 1; sizes = replicate 8 0 }
 
 unfoldable pub ordinary : NegoCall
 unfolding itemsOf
-ordinary = (negoWith false (two 2147483647) octets, record { random = refl; types = (omega arith, (omega arith, tt)) })
+ordinary = (negoWith false (two 2147483647) octets, record { random = refl; types = refl })
 
 unfoldable pub critical : Bool → NegoCall
 unfolding itemsOf
-critical test = (negoWith test (two 4294967294) octets, record { random = refl; types = (omega arith, (omega arith, tt)) })
+critical test = (negoWith test (two 4294967294) octets, record { random = refl; types = refl })
 
 unfoldable pub tooMany : NegoCall
 unfolding itemsOf
-tooMany = (negoWith false nine [], record { random = refl; types = nineFit }) where
-  nineFit : TypesFit (itemsFrom 9 0 0 (nine .types) (nine .sizes) [])
-  nineFit = (omega arith, (omega arith, (omega arith, (omega arith, (omega arith, (omega arith, (omega arith, (omega arith, (omega arith, tt)))))))))
+tooMany = (negoWith false nine [], record { random = refl; types = refl })
 
 -- C-22, 25 and 26 of either NEGO: behind 18 and 19, and before 17; extensions that the peer reads; a critical one in a test call, which closes its reader;
 -- 25 of an ALERT and of the choosing call, before 15 and 17

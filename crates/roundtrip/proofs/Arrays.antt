@@ -7,8 +7,9 @@ use mathlib.Core.List.{List, [], _∷_, _++_, append-nil}
 use native.Mathlib.Omega.{arith}
 use lib.ListN.{length, take, drop, length-append}
 use lib.Seq.{take-at, drop-at, drop-drop}
-use lib.Dec.{leb, eqb}
-use borrow.Author.Tests.{le-leb, ne-eqb}
+use lib.Dec.{leb, eqb, ltb}
+use borrow.Author.Tests.{le-leb, ne-eqb, ltb-true}
+use Rattle.octets.proofs.Bools.{both}
 use Rattle.octets.specs.Octets.{le, octets, signed32, negative}
 use Rattle.vector.specs.declared.Vector.{Vector}
 use Rattle.vector.specs.Vector.{extent, keepsRule, part, shown}
@@ -19,8 +20,17 @@ use Rattle.message.specs.Show.{nestedOf}
 use Rattle.put.specs.Put.{octetsOf, joined}
 use Rattle.elements.specs.Elements.{Item, offsetOf, elementFields, arrayOf, itemValues, itemOctets, itemsSize, ordinary}
 use Rattle.elements.proofs.Views.{length-array-of}
-use Rattle.roundtrip.specs.ReadBack.{TypesFit, placedVector, elementsRead, nestedFrom}
+use Rattle.roundtrip.specs.ReadBack.{typesFit, placedVector, elementsRead, nestedFrom}
 use Rattle.roundtrip.proofs.Fields.{le-drop, le-octets}
+
+-- types of 32 bits
+abbrev pub TypesFit : List Item → Type 0
+TypesFit [] = Unit {0}
+TypesFit (x ∷ xs) = (x .type < 4294967296) × TypesFit xs
+
+pub types-fit : (xs : List Item) → typesFit xs ≡ true → TypesFit xs
+types-fit [] e = tt
+types-fit (x ∷ xs) e = let b = both (ltb (x .type) 4294967296) (typesFit xs) e in (ltb-true _ _ (b .0), types-fit xs (b .1))
 
 -- a vector that stands at a place, or is empty
 module _ (size header : ℕ) (p : ℕ) (behind : header ≤ p) where

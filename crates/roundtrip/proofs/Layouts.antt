@@ -18,10 +18,10 @@ use Rattle.message.specs.Show.{idsOf, schemesIn}
 use Rattle.put.specs.Put.{unsigned32}
 use Rattle.elements.specs.Elements.{offsetOf, itemOctets, itemsFit}
 use Rattle.elements.proofs.Views.{fit-small}
-use Rattle.roundtrip.proofs.Arrays.{Reads, array-reads, offset-small}
+use Rattle.roundtrip.proofs.Arrays.{TypesFit, Reads, array-reads, offset-small}
 use Rattle.encode.specs.declared.Heading.{Heading}
 use Rattle.encode.specs.Encode.{Offer, Payload, Checksum, Alarm, Contents, ofNego, ofExchange, ofVerify, ofAlert, sizeOf, headFields, bodyFields, encoded}
-use Rattle.roundtrip.specs.ReadBack.{TypesFit, placedVector, contentRead, Shows, padsZero}
+use Rattle.roundtrip.specs.ReadBack.{placedVector, contentRead, Shows, padsZero}
 use Rattle.encode.proofs.Sizes.{length-encoded}
 use Rattle.roundtrip.proofs.Fields.{zeros-le, number-at, octets-at, drop-joined, shown-field, behindHeader, payload-rule, payload-shown, signed-shown, unsigned-small}
 

@@ -24,6 +24,7 @@ use Rattle.elements.specs.Elements.{itemsFit}
 use Rattle.encode.specs.declared.Heading.{Heading}
 use Rattle.encode.specs.Encode.{Whole, Offer, Contents, ofNego, ofExchange, ofVerify, ofAlert, sizeOf, hasKind, fitsFields, encodable, encoded, written, unwritten, storing}
 use Rattle.roundtrip.specs.ReadBack.{InRange, Sent, shapeFor, contentRead, ordinaryIn, Shows, ReadsBack, Stands, Outgoing, octetsOfAll, InSequence, AllOrdinary, ReadEncode, NegoBegins, WrittenAccepted, CriticalRefused, StoredStands, padsZero, PadsWritten}
+use Rattle.roundtrip.proofs.Arrays.{types-fit}
 use Rattle.roundtrip.proofs.Heads.{fitting, stops-encoded, size-encoded, head-encoded, front-encoded, verdict-encoded, passes-encoded}
 use Rattle.roundtrip.proofs.Layouts.{nego-listed, nego-content, nego-pads, nego-rules, nego-shows, exchange-content, exchange-pads, exchange-rules, exchange-shows, verify-content, verify-pads, verify-rules, verify-shows, alert-content, alert-pads, alert-rules, alert-shows}
 
@@ -52,10 +53,10 @@ unfolding encodable
 laid h (ofNego o) s range =
     let f = nego-fits h o s in
     record {
-      content = nego-content h (s .id) o (s .whole) (f .ids) (f .count) (f .fit) range;
+      content = nego-content h (s .id) o (s .whole) (f .ids) (f .count) (f .fit) (types-fit (o .extensions) range);
       pads = nego-pads h (s .id) o (s .whole) (f .ids) (f .count) (f .fit);
-      rules = nego-rules h (s .id) o (s .whole) (f .ids) (f .count) (f .fit) range;
-      shows = nego-shows h (s .id) o (s .whole) (f .ids) (f .count) (f .fit) range;
+      rules = nego-rules h (s .id) o (s .whole) (f .ids) (f .count) (f .fit) (types-fit (o .extensions) range);
+      shows = nego-shows h (s .id) o (s .whole) (f .ids) (f .count) (f .fit) (types-fit (o .extensions) range);
     }
 laid h (ofExchange p) s range =
     let n = leb-true (length (p .value)) 4294967231 (both (hasKind (ofExchange p) (h .kind .0)) (fitsFields (ofExchange p)) (s .can) .1) in
@@ -76,10 +77,10 @@ laid h (ofVerify k) s range =
 laid h (ofAlert p) s range =
     let f = both (hasKind (ofAlert p) (h .kind .0)) (fitsFields (ofAlert p)) (s .can) .1 in
     record {
-      content = alert-content h (s .id) p (s .whole) (range .0) f (range .1);
-      pads = alert-pads h (s .id) p (s .whole) (range .0) f (range .1);
-      rules = alert-rules h (s .id) p (s .whole) (range .0) f (range .1);
-      shows = alert-shows h (s .id) p (s .whole) (range .0) f (range .1);
+      content = alert-content h (s .id) p (s .whole) (range .0) f (types-fit (p .alerts) (range .1));
+      pads = alert-pads h (s .id) p (s .whole) (range .0) f (types-fit (p .alerts) (range .1));
+      rules = alert-rules h (s .id) p (s .whole) (range .0) f (types-fit (p .alerts) (range .1));
+      shows = alert-shows h (s .id) p (s .whole) (range .0) f (types-fit (p .alerts) (range .1));
     }
 
 -- "writers still send zeros"

@@ -1,7 +1,7 @@
 -- What the reader is to find in a written message: demand 2's round trip, as one record.
 --
 -- Glossary
---   TypesFit xs          the types of items are numbers of 32 bits
+--   typesFit xs          the types of items are numbers of 32 bits
 --   InRange c            these, and a signed number of the contents, are of 32 bits
 --   Sent h c             a message that can be written: encodable, with a sequence number of 32 bits and whole ids
 --   shapeFor c           the layout of the contents
@@ -27,7 +27,7 @@ use mathlib.Core.Path.{_≡_}
 use mathlib.Core.Bool.{Bool, true, false, cond, _&&_}
 use mathlib.Core.List.{List, [], _∷_, _++_}
 use lib.ListN.{length, take, drop, getD}
-use lib.Dec.{eqb}
+use lib.Dec.{eqb, ltb}
 use lib.IntN.{ℤ}
 use lib.Signed.{mag}
 use Rattle.octets.specs.Octets.{le, signed32}
@@ -43,15 +43,15 @@ use Rattle.token.specs.Token.{Accepted, Refused, tokenOf}
 use Rattle.token.specs.Split.{join, placedFrom}
 use Rattle.encode.specs.Encode.{Contents, Offer, Whole, ofNego, ofExchange, ofVerify, ofAlert, sizeOf, encoded, encodable, written, storing}
 
-abbrev pub TypesFit : List Item → Type 0
-TypesFit [] = Unit {0}
-TypesFit (x ∷ xs) = (x .type < 4294967296) × TypesFit xs
+abbrev pub typesFit : List Item → Bool
+typesFit [] = true
+typesFit (x ∷ xs) = ltb (x .type) 4294967296 && typesFit xs
 
 abbrev pub InRange : Contents → Type 0
-InRange (ofNego o) = TypesFit (o .extensions)
+InRange (ofNego o) = typesFit (o .extensions) ≡ true
 InRange (ofExchange p) = Unit {0}
 InRange (ofVerify k) = mag (k .type) < 2147483648
-InRange (ofAlert p) = (mag (p .code) < 2147483648) × TypesFit (p .alerts)
+InRange (ofAlert p) = (mag (p .code) < 2147483648) × (typesFit (p .alerts) ≡ true)
 
 pub record Sent (h : Heading) (c : Contents) : Type 0 where
   pub can : encodable h c ≡ true
