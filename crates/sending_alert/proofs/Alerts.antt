@@ -1,6 +1,6 @@
 -- ALERT, by its refusal, in the words of the code: f says whether the alerts keep their limits, and k how many octets they are written as.
 -- Assumes nothing.
-use Prim.Native.Nat.{ℕ, _+_, _≤_, _<_}
+use Prim.Native.Nat.{ℕ, _+_, _≤_}
 use mathlib.Core.Path.{_≡_, refl, sym, ap, _∙_}
 use mathlib.Core.Bool.{Bool, true}
 use mathlib.Core.List.{List}
@@ -9,7 +9,7 @@ use lib.ListN.{length}
 use lib.IntN.{ℤ}
 use Rattle.elements.specs.declared.Elements.{Elements}
 use Rattle.elements.specs.Elements.{itemsOf, elementsFit, handedSize}
-use Rattle.elements.proofs.Views.{handed, handed-size, handed-small}
+use Rattle.elements.proofs.Views.{handed, handed-size}
 use Rattle.encode.specs.Encode.{Contents, alertOf, sizeOf}
 use Rattle.conversation.specs.declared.Record.{Record}
 use Rattle.conversation.specs.declared.Answer.{Answer}
@@ -27,9 +27,6 @@ use Rattle.sending.proofs.Named.{named-keeps, named-refused, named-written}
 
 -- ---- the message at the transcript's end
 module _ (r : Record) (d id : List ℕ) (code : ℤ) (e : Elements) (v : List ℕ) (y : (elementsFit e v ≡ true) × Ready r d 5 (alertOf id code (itemsOf e v))) (k : ℕ) (k-is : k ≡ handedSize e v) where
-  pub alert-small : 72 + k < 18446744073709551616
-  alert-small = omega (arith, k-is, handed-small e v)
-
   pub alert-size : 72 + k ≡ sizeOf (alertOf id code (itemsOf e v))
   alert-size = ap (λ (i : ℕ). 72 + i) (k-is ∙ sym (handed-size e v (y .0)))
 

@@ -1,5 +1,6 @@
 -- Assumes nothing.
 use mathlib.Core.Path.{_≡_}
+use native.Mathlib.Omega.{arith}
 use lib.ListN.{length}
 use borrow.Author.Needs.{needs}
 use mir.Syntax.{w32}
@@ -7,7 +8,8 @@ use mir.Val.{SFits}
 use mir.Facts.{toZ-ofZ}
 use Rattle.calls.proofs.Sizes.{sized}
 use Rattle.calls.proofs.Writes.{handed-appends}
-use Rattle.sending_alert.proofs.Alerts.{alert-small, alert-size, alert-counted}
+use Rattle.elements.proofs.Views.{handed-small}
+use Rattle.sending_alert.proofs.Alerts.{alert-size, alert-counted}
 use Rattle.sending_alert.proofs.append_alert.Statement.{statement}
 use Rattle.sending_alert.proofs.append_alert.Tie as tie
 
@@ -21,10 +23,14 @@ write-requires : tie.Need-write-requires
 write-requires c κs = search needs
 
 add-after-message : tie.Need-add-after-message
-add-after-message c = record { fits = alert-small _ _ _ _ _ _ (c .before .before .before .before .before .before .before .before .pre) _ (c .before .before .before .before .size-of .ensures) }
+add-after-message c =
+    let s = c .before .before .before .before .before .before .before .before in
+    record { fits = omega (arith, c .before .before .before .before .size-of .ensures, handed-small (s .args .alerts) (s .args .values .now)) }
 
 after-message-requires : tie.Need-after-message-requires
-after-message-requires c κs = alert-counted _ _ _ _ _ _ (c .before .before .before .before .before .before .before .before .pre) _ (c .before .before .before .before .size-of .ensures)
+after-message-requires c κs =
+    let k = alert-counted _ _ _ _ _ _ (c .before .before .before .before .before .before .before .before .pre) _ (c .before .before .before .before .size-of .ensures) in
+    (k .0, omega (arith, k .1))
 
 same-length : tie.Need-same-length
 same-length c = search needs
