@@ -24,7 +24,14 @@ the scheme is not allowed here
 no room in the transcript
 no common scheme is left after the marks of this end
 the call is not of this stage (after a refusal 12 none is), or the record is outside its limits
-an own list that is empty, above 16 or repeats a scheme; marks beyond the list; or empty metadata'
+an own list that is empty, above 16 or repeats a scheme; marks beyond the list; or empty metadata
+(not of a conversation)
+(not of a conversation)
+(not of a conversation)
+(not of a conversation)
+(not of a conversation)
+more than 8 extensions or alerts, or a value of more than 4,096 octets
+a critical extension outside a test call'
 export meanings
 meaning='BEGIN { split(ENVIRON["meanings"], meaning, "\n"); CONVFMT = OFMT = "%.0f" }
 '
@@ -153,7 +160,7 @@ of_script() {
         END {
             if (bad > 8) print "and " bad - 8 " bad lines more"
             if (ends) print "of the bad lines, " ends " end in a carriage return: tr -d \047\\r\047 takes it out"
-            for (n = 1; n <= 19; n++) if (times[n])
+            for (n = 1; n <= 26; n++) if (times[n])
                 print (times[n] > 1 ? "lines " : "line ") lines[n] (times[n] > 8 ? " and " times[n] - 8 " more" : "") ": refused " n ": " meaning[n]
         }'
 }

@@ -98,6 +98,20 @@ expect 'a list of 7,000 ids' "$(of "$work/long" | tr '\n' '/')" 'refused 19 at=0
 awk 'BEGIN { printf "open a 1"; for (k = 0; k < 7000; k++) printf " %08X-0000-0000-0000-000000000000", k; print "0" }' >"$work/long"
 expect 'a list of 7,000 ids and a digit too many' "$(of "$work/long" | tr '\n' '/')" 'bad line/used i=0 a=0/'
 
+# offered WHAT WANTED: an offer with the extensions in the file `extensions`
+offered() {
+    { grep '^open i' "$data/room-65535"; printf 'i offer %064d%s\n' 0 "$(cat "$work/extensions")"; } >"$work/long"
+    expect "$1" "$(of "$work/long" | tr '\n' '/')" "opened/$2/used i=0 a=0/"
+}
+printf ' 00000001:%0260000d' 0 >"$work/extensions"
+offered 'an extension of 130,000 octets' 'refused 25 at=0'
+printf ' 00000001:%0260001d' 0 >"$work/extensions"
+offered 'an extension with an odd number of digits' 'bad line'
+awk 'BEGIN { for (k = 0; k < 20000; k++) printf " %08X:-", k }' >"$work/extensions"
+offered '20,000 extensions' 'refused 25 at=0'
+awk 'BEGIN { for (k = 0; k < 19999; k++) printf " %08X:-", k; printf " 0000001:-" }' >"$work/extensions"
+offered '20,000 extensions, the last with seven digits' 'bad line'
+
 # Ten thousand lines.
 awk 'BEGIN { for (k = 0; k < 10000; k++) print "a read" }' >"$work/many"
 expect '10,000 calls at an end that is not open' "$(of "$work/many" | sort | uniq -c | tr -s ' ' | tr '\n' '/')" ' 10000 bad line/ 1 used i=0 a=0/'

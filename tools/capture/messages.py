@@ -54,6 +54,13 @@ def scheme(message):
     return letter(id_text(message[40:56]))
 
 
+def alerts(message):
+    """The alerts of an ALERT, each with its type and its value."""
+    offset, count = struct.unpack_from('<IH', message, 60)
+    elements = [struct.unpack_from('<III', message, at) for at in range(offset, offset + 12 * count, 12)]
+    return [(one, message[at:at + size]) for one, at, size in elements]
+
+
 def kind_word(message):
     return KINDS[kind(message)]
 

@@ -7,7 +7,7 @@ import re
 from collections import defaultdict, namedtuple
 
 from asking import NoAnswer, asked, save
-from messages import SCHEMES, id_text, is_nego, kind, letter, listed, number, split
+from messages import SCHEMES, alerts, id_text, is_nego, kind, letter, listed, number, split
 
 ROOM = 65535
 REPLY_RANDOM = bytes(32)
@@ -142,7 +142,7 @@ def write_call(end, message):
         return f'{end} exchange {digits(message[64:])}'
     if which == 6:
         return f'{end} verify {number(message, 64):08X} {digits(message[80:])}'
-    return f'{end} alert {number(message, 56):08X}'
+    return ' '.join([f'{end} alert {number(message, 56):08X}'] + [f'{one:08X}:{digits(value)}' for one, value in alerts(message)])
 
 
 def digits(octets):

@@ -14,7 +14,7 @@ use Rattle.put.specs.Put.{put}
 use Rattle.encode.specs.declared.Heading.{Heading}
 use Rattle.encode.specs.declared.Stored.{Stored}
 use Rattle.encode.specs.declared.Stored.the-variants as variant
-use Rattle.encode.specs.Encode.{Whole, Contents, ofNego, ofExchange, ofVerify, ofAlert, sizeOf, hasKind, fitsFields, encodable, written, told, storing}
+use Rattle.encode.specs.Encode.{Whole, Contents, ofNego, ofExchange, ofVerify, ofAlert, sizeOf, hasKind, fitsFields, encodable, written, told, storing, storingHanded}
 use Rattle.encode.proofs.Sizes.{length-encoded}
 use Rattle.conversation.specs.declared.Record.{Record}
 use Rattle.conversation.specs.declared.Answer.{Answer}
@@ -99,3 +99,11 @@ appends r arrays d kind c whole ready h h-is s d' v t v-is next n-is =
       counted = n-is ∙ rw l;
       holds = stored s d' (put d (r .used) (messageOf r kind c)) (r .used + length (messageOf r kind c)) (t ∙ ap (λ (g : Heading). storing d (r .used) g v) h-is ∙ ap (storing d (r .used) (heading r kind)) v-is ∙ simp (ready .can, f));
     }
+
+-- what is handed over apart and keeps its limits is stored as a list; its size is that of the code
+pub handed-appends : (r : Record) → Arrays r → (d : List ℕ) (kind : ℕ) (c : Contents) → Whole c → Ready r d kind c → (b : Bool) → b ≡ true → (h : Heading) → h ≡ heading r kind
+    → (s : Stored) (d' : List ℕ) (v : Contents) → told s d' ≡ storingHanded b d (r .used) h v → v ≡ c → (size : ℕ) → size ≡ sizeOf c → (next : Record) → next ≡ wrote r (placeAfter r kind) size (unchanged r)
+    → Appended r d kind c d' next
+unfolding storingHanded
+handed-appends r arrays d kind c whole ready b keeps h h-is s d' v t v-is size size-is next n-is =
+    appends r arrays d kind c whole ready h h-is s d' v (t ∙ rw keeps) v-is next (n-is ∙ ap (λ (k : ℕ). wrote r (placeAfter r kind) k (unchanged r)) size-is)

@@ -1,16 +1,19 @@
 -- Each call by its verb, in the words of the code: x is the outcome.
 -- Assumes nothing.
-use Prim.Native.Nat.{ℕ, _%_}
+use Prim.Native.Nat.{ℕ, _-_, _≤_, _<_, _%_}
 use mathlib.Core.Path.{_≡_, _∙_}
 use mathlib.Core.List.{List, append-nil}
+use native.Mathlib.Omega.{arith}
 use lib.IntN.{ℤ}
-use lib.ListN.{length, replicate}
-use borrow.Author.Tests.{eq-eqb, ne-eqb}
+use lib.ListN.{length, drop, replicate, length-drop}
+use lib.Seq.{length-take-le, take-all}
+use borrow.Author.Tests.{eq-eqb, ne-eqb, le-leb, lt-leb}
 use Rattle.octets.specs.Octets.{signed32}
 use Rattle.put.specs.Put.{put, Written}
 use Rattle.conversation.specs.declared.Record.{Record}
 use Rattle.conversation.specs.declared.Answer.{Answer}
 use Rattle.conversation.specs.Outcomes.{Outcome, answered}
+use Rattle.fields.specs.Fields.{part}
 use Rattle.conversation.specs.Writing.{opening, offering, replying, writingMetadata, request, checksum, alarm, speaking}
 use Rattle.conversation.specs.Reading.{readingToken}
 use Rattle.conversation.specs.Choosing.{choosing}
@@ -18,25 +21,32 @@ use Rattle.script.specs.declared.Command.{Command}
 use Rattle.commands.specs.Commands.{randomIn, kept, negoOf, writerOf, chooserOf, callOf}
 
 module _ (o : List ℕ) where
-  pub random-none : (length o ≡ 32 → ⊥) → replicate 32 0 ≡ randomIn o
+  pub random-none : length o < 32 → replicate 32 0 ≡ randomIn o
   unfolding randomIn
-  random-none h = rw (ne-eqb _ _ h)
+  random-none h = rw (lt-leb _ _ h)
 
-  pub random-put : length o ≡ 32 → (d : List ℕ) (next : ℕ) → Written (replicate 32 0) 0 (length o) o d next → d ≡ randomIn o
-  unfolding randomIn put
-  random-put h d next w = w .holds ∙ rw (eq-eqb _ _ h) (rw h (append-nil o))
+  module _ (enough : 32 ≤ length o) (v : List ℕ) (v-is : v ≡ part o 0 32) where
+    pub random-size : length v ≡ 32
+    random-size = rw v-is (length-take-le 32 o enough)
 
-pub ruleset randoms = (random-none, random-put)
+    pub random-put : (d : List ℕ) (next : ℕ) → Written (replicate 32 0) 0 (length v) v d next → d ≡ randomIn o
+    unfolding randomIn put
+    random-put d next w = w .holds ∙ rw (le-leb _ _ enough) (rw random-size (append-nil v ∙ v-is))
+
+  pub values-behind : (v : List ℕ) → v ≡ part o 32 (length o) → v ≡ drop 32 o
+  values-behind v e = let l : length (drop 32 o) ≤ length o - 32 = simp length-drop (omega arith) in e ∙ take-all (length o - 32) (drop 32 o) l
+
+pub ruleset randoms = (random-none, random-size, random-put, values-behind)
 
 module _ (c : Command) (r : Record) (d o : List ℕ) (x : Outcome) where
-  pub nego-offer : c .verb ≡ 1 → (v : List ℕ) → v ≡ randomIn o → x ≡ offering r d v → x ≡ negoOf c r d o
+  pub nego-offer : c .verb ≡ 1 → (v w : List ℕ) → v ≡ randomIn o → w ≡ drop 32 o → x ≡ offering r d (record { random = v; test = c .test; extensions = c .elements; values = w }) → x ≡ negoOf c r d o
   unfolding negoOf
-  nego-offer h v v-is e = e ∙ rw (eq-eqb _ _ h, v-is)
+  nego-offer h v w v-is w-is e = e ∙ rw (eq-eqb _ _ h, v-is, w-is)
 
   module _ (not-offer : c .verb ≡ 1 → ⊥) where
-    pub nego-reply : c .verb ≡ 2 → (m : ℕ) → m ≡ c .number % 65536 → (v : List ℕ) → v ≡ randomIn o → x ≡ replying r d m v → x ≡ negoOf c r d o
+    pub nego-reply : c .verb ≡ 2 → (m : ℕ) → m ≡ c .number % 65536 → (v w : List ℕ) → v ≡ randomIn o → w ≡ drop 32 o → x ≡ replying r d m (record { random = v; test = c .test; extensions = c .elements; values = w }) → x ≡ negoOf c r d o
     unfolding negoOf
-    nego-reply h m m-is v v-is e = e ∙ rw (ne-eqb _ _ not-offer, eq-eqb _ _ h, m-is, v-is)
+    nego-reply h m m-is v w v-is w-is e = e ∙ rw (ne-eqb _ _ not-offer, eq-eqb _ _ h, m-is, v-is, w-is)
 
     pub nego-none : (c .verb ≡ 2 → ⊥) → (a : Answer) → a ≡ answered 18 0 r → kept d a ≡ negoOf c r d o
     unfolding negoOf
@@ -57,7 +67,7 @@ module _ (c : Command) (r : Record) (d o : List ℕ) (x : Outcome) where
       write-verify h z z-is e = e ∙ rw (ne-eqb _ _ not-metadata, ne-eqb _ _ not-exchange, eq-eqb _ _ h, z-is)
 
       module _ (not-verify : c .verb ≡ 5 → ⊥) where
-        pub write-alert : c .verb ≡ 6 → (z : ℤ) → z ≡ signed32 (c .number) → x ≡ speaking r d (alarm z) → x ≡ writerOf c r d o
+        pub write-alert : c .verb ≡ 6 → (z : ℤ) → z ≡ signed32 (c .number) → x ≡ speaking r d (alarm (record { code = z; alerts = c .elements; values = o })) → x ≡ writerOf c r d o
         unfolding writerOf
         write-alert h z z-is e = e ∙ rw (ne-eqb _ _ not-metadata, ne-eqb _ _ not-exchange, ne-eqb _ _ not-verify, eq-eqb _ _ h, z-is)
 
@@ -76,7 +86,7 @@ module _ (c : Command) (r : Record) (d o : List ℕ) (x : Outcome) where
       choose-verify h z z-is e = e ∙ rw (ne-eqb _ _ not-exchange, eq-eqb _ _ h, m-is, z-is)
 
       module _ (not-verify : c .verb ≡ 12 → ⊥) where
-        pub choose-alert : c .verb ≡ 13 → (z : ℤ) → z ≡ signed32 (c .number) → x ≡ choosing r d m (alarm z) → x ≡ chooserOf c r d o
+        pub choose-alert : c .verb ≡ 13 → (z : ℤ) → z ≡ signed32 (c .number) → x ≡ choosing r d m (alarm (record { code = z; alerts = c .elements; values = o })) → x ≡ chooserOf c r d o
         unfolding chooserOf
         choose-alert h z z-is e = e ∙ rw (ne-eqb _ _ not-exchange, ne-eqb _ _ not-verify, eq-eqb _ _ h, m-is, z-is)
 

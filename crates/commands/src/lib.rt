@@ -1,11 +1,13 @@
 // The calls of the library that a script's commands stand for.
 ghost use mathlib.Core.Path.{_≡_};
 ghost use Prim.Native.Nat.{_%_};
+ghost use lib.ListN.{drop};
 ghost use Rattle.conversation.specs.Outcomes.{Outcome};
 ghost use Rattle.commands.specs.Commands.{randomIn, negoOf, writerOf, chooserOf, callOf};
 use calls::answer;
 use conversation::Answer;
 use conversation::Record;
+use fields::part;
 use negotiating::opening::open;
 use octets::to_i32;
 use put::put_octets;
@@ -29,27 +31,37 @@ fn bits(marks: u32) -> u16
     (marks % 65536) as u16
 }
 
-// RANDOM, which is 32 octets; zeros for any other number.
+// RANDOM, which is the first 32 octets; zeros where there are fewer.
 fn random(octets: &[u8]) -> [u8; 32]
     ensures { λ r. ⌜ r ≡ randomIn (now (octets .entry)) ⌝ }
 {
     let mut value = [0u8; 32];
-    if octets.len() != 32 {
+    if octets.len() < 32 {
         return value;
     }
-    put_octets(&mut value, 0, octets);
+    put_octets(&mut value, 0, part(octets, 0, 32));
     value
+}
+
+// The octets behind RANDOM: the values of the extensions.
+fn values(octets: &[u8]) -> &[u8]
+    ensures { λ r. ⌜ now r ≡ drop 32 (now (octets .entry)) ⌝ }
+{
+    part(octets, 32, octets.len())
 }
 
 // The writers of a NEGO. What is no call is not of this stage: 18.
 fn write_nego(c: Command, r: Record, transcript: &mut [u8], octets: &[u8]) -> Answer
     ensures { λ a. ⌜ _≡_ {A = Outcome} (record { answer = a; transcript = now (transcript .exit) }) (negoOf c r (now (transcript .entry)) (now (octets .entry))) ⌝ }
 {
+    let extensions = c.elements;
+    let v = values(octets);
     if c.verb == Command::OFFER {
-        return write_offer(r, transcript, random(octets));
+        return write_offer(r, transcript, random(octets), c.test, extensions, v);
     }
     if c.verb == Command::REPLY {
-        return write_reply(r, transcript, bits(c.number), random(octets));
+        let marks = bits(c.number);
+        return write_reply(r, transcript, marks, random(octets), c.test, extensions, v);
     }
     answer(18, TokenPlace(0), r)
 }
@@ -69,7 +81,8 @@ fn write(c: Command, r: Record, transcript: &mut [u8], octets: &[u8]) -> Answer
         return write_verify(r, transcript, to_i32(c.number), octets);
     }
     if c.verb == Command::ALERT {
-        return write_alert(r, transcript, to_i32(c.number));
+        let alerts = c.elements;
+        return write_alert(r, transcript, to_i32(c.number), alerts, octets);
     }
     write_nego(c, r, transcript, octets)
 }
@@ -86,7 +99,8 @@ fn choose(c: Command, r: Record, transcript: &mut [u8], octets: &[u8]) -> Answer
         return choose_verify(r, transcript, marks, to_i32(c.number), octets);
     }
     if c.verb == Command::CHOOSE_ALERT {
-        return choose_alert(r, transcript, marks, to_i32(c.number));
+        let alerts = c.elements;
+        return choose_alert(r, transcript, marks, to_i32(c.number), alerts, octets);
     }
     write(c, r, transcript, octets)
 }

@@ -52,4 +52,4 @@ same-calls w (c ∷ cs) h =
     ]
 
 pub accepted-ends : AcceptedEnds
-accepted-ends o cs = ap (ends (world o)) (sym (same-calls (world o) cs (twelve-never-run o cs))) ∙ deciding-ends (world o) cs
+accepted-ends o cs t = ap (ends (world o)) (sym (same-calls (world o) cs (twelve-never-run o cs t))) ∙ deciding-ends (world o) cs

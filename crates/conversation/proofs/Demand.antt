@@ -26,8 +26,10 @@ use Rattle.conversation.specs.declared.Answer.{Answer}
 use Rattle.conversation.specs.State.{ownOf, limitRows}
 use Rattle.conversation.specs.Turns.{NEGO, typeOf}
 use Rattle.conversation.specs.Outcomes.{zeroId}
-use Rattle.conversation.specs.Writing.{heading, messageOf, offered, replyMessage, Speech}
-use Rattle.conversation.specs.Runs.{Sized, Call, offer, reply, metadata, speak, read, choose, Opening, World, world, next, Entry, run, isAccepted, isLawful, Replied, MarksKept, Choice, Demand3}
+use Rattle.elements.specs.Elements.{itemsOf}
+use Rattle.elements.proofs.Views.{handed}
+use Rattle.conversation.specs.Writing.{negoIn, extensionRows, heading, messageOf, offered, replyMessage, Speech}
+use Rattle.conversation.specs.Runs.{Sized, NegoCall, Call, offer, reply, metadata, speak, read, choose, Opening, World, world, next, Entry, run, isAccepted, isLawful, Replied, MarksKept, Choice, Demand3}
 use Rattle.conversation.specs.Claims.{RuleTwoAnswer, ByRule2, NoneRefused, ReplyAnswer, ReplyByMarks, acceptedAt, withMarks}
 use Rattle.conversation.proofs.Tokens.{Heads}
 use Rattle.conversation.proofs.Once.{marks-once, same-kept}
@@ -39,28 +41,28 @@ all-sized : (l : List Id) → ((s : Id) → List·Memᴰ s l → length s ≡ 16
 all-sized [] h = tt
 all-sized (x ∷ l) h = (h x (List·Memᴰ·head refl), all-sized l (λ s m. h s (List·Memᴰ·tail m)))
 
-module _ (r : Record) (random : Sized 32) (l : List Id) (sized : (s : Id) → List·Memᴰ s l → length s ≡ 16) (few : length l ≤ 16)
-    (talk : length (r .conversation) ≡ 16) (limits : AllTrue (limitRows r)) where
-  written : (schemes : List ℕ) → schemes ≡ joinIds l → Sent (heading r NEGO) (ofNego (record { random = random .0; schemes = schemes }))
+module _ (r : Record) (nego : NegoCall) (l : List Id) (sized : (s : Id) → List·Memᴰ s l → length s ≡ 16) (few : length l ≤ 16)
+    (talk : length (r .conversation) ≡ 16) (limits : AllTrue (limitRows r)) (extensions : AllTrue (extensionRows (nego .0))) where
+  written : (schemes : List ℕ) → schemes ≡ joinIds l → Sent (heading r NEGO) (negoIn (nego .0) schemes)
   unfolding encodable typeOf
   written schemes e =
       let n : length schemes ≡ 16 * length l = ap length e ∙ length-joined l sized in
       let (l1, (l2, (l3, (l4, (l5, (l6, (l7, (l8, (l9, (l10, rest)))))))))) = limits in
       let sq : r .sequence ≤ 1023 = leb-true _ _ l10 in
       record {
-        can = kind (r .acceptor) (and-i (eqb (length schemes % 16) 0) (leb (length schemes) 1048560) (eq-eqb _ _ (let z : length schemes % 16 ≡ 0 = omega arith in z)) (le-leb _ _ (let z : length schemes ≤ 1048560 = omega arith in z)));
+        can = kind (r .acceptor) (and-i (eqb (length schemes % 16) 0) _ (eq-eqb _ _ (let z : length schemes % 16 ≡ 0 = omega arith in z))
+            (and-i (leb (length schemes) 1048560) _ (le-leb _ _ (let z : length schemes ≤ 1048560 = omega arith in z)) (handed (nego .0 .extensions) (nego .0 .values) (extensions .0) .fit)));
         number = omega arith;
         id = talk;
-        whole = random .1;
-        range = tt;
+        whole = nego .1 .random;
       } where
         kind : (a : Bool) {b : Bool} → b ≡ true → leb (typeOf a NEGO) 1 && b ≡ true
         kind true e = e
         kind false e = e
 
-  pub heads-written : (schemes : List ℕ) → schemes ≡ joinIds l → Heads (typeOf (r .acceptor) NEGO) l (messageOf r NEGO (ofNego (record { random = random .0; schemes = schemes })))
+  pub heads-written : (schemes : List ℕ) → schemes ≡ joinIds l → Heads (typeOf (r .acceptor) NEGO) l (messageOf r NEGO (negoIn (nego .0) schemes))
   heads-written schemes e rest =
-      let b = nego-begins (heading r NEGO) (record { random = random .0; schemes = schemes }) (written schemes e) rest in
+      let b = nego-begins (heading r NEGO) (record { random = nego .0 .random; schemes = schemes; extensions = itemsOf (nego .0 .extensions) (nego .0 .values) }) (written schemes e) rest in
       (b .0, b .1 ∙ ap idsOf e ∙ ids-joined l (all-sized l sized))
 
 module _ (o : Opening) where
@@ -73,21 +75,21 @@ module _ (o : Opening) where
   few : (l : List Id) → oneTo16 l ≡ true → length l ≤ 16
   few l e = leb-true _ _ (and-r (leb 1 (length l)) (leb (length l) 16) (and-l (leb 1 (length l) && leb (length l) 16) (distinct l) e))
 
-  heads-offer : (r : Record) (random : Sized 32) → r .acceptor ≡ false → r .list ≡ padTo 256 (joinIds (o .initiator)) → r .count ≡ length (o .initiator) → r .conversation ≡ o .conversation .0 → AllTrue (limitRows r) → Heads 0 (o .initiator) (offered r (random .0))
+  heads-offer : (r : Record) (nego : NegoCall) → r .acceptor ≡ false → r .list ≡ padTo 256 (joinIds (o .initiator)) → r .count ≡ length (o .initiator) → r .conversation ≡ o .conversation .0 → AllTrue (limitRows r) → AllTrue (extensionRows (nego .0)) → Heads 0 (o .initiator) (offered r (nego .0))
   unfolding typeOf
-  heads-offer r random role bytes count talk limits =
+  heads-offer r nego role bytes count talk limits extensions =
       let n = length-joined (o .initiator) initiator-sized in
       let e : take (16 * r .count) (r .list) ≡ joinIds (o .initiator) = rw (bytes, count) (take-at (joinIds (o .initiator)) _ (16 * length (o .initiator)) n) in
-      subst (λ (a : Bool). Heads (typeOf a NEGO) (o .initiator) (offered r (random .0))) role
-      (heads-written r random (o .initiator) initiator-sized (few (o .initiator) (o .initiator-ok)) (ap length talk ∙ o .conversation .1) limits (take (16 * r .count) (r .list)) e)
+      subst (λ (a : Bool). Heads (typeOf a NEGO) (o .initiator) (offered r (nego .0))) role
+      (heads-written r nego (o .initiator) initiator-sized (few (o .initiator) (o .initiator-ok)) (ap length talk ∙ o .conversation .1) limits extensions (take (16 * r .count) (r .list)) e)
 
-  heads-reply : (r : Record) (m : ℕ) (random : Sized 32) → r .acceptor ≡ true → ownOf r ≡ o .acceptor → length (r .conversation) ≡ 16 → AllTrue (limitRows r) → Heads 1 (left (o .acceptor) (r .common) m) (replyMessage r m (random .0))
+  heads-reply : (r : Record) (m : ℕ) (nego : NegoCall) → r .acceptor ≡ true → ownOf r ≡ o .acceptor → length (r .conversation) ≡ 16 → AllTrue (limitRows r) → AllTrue (extensionRows (nego .0)) → Heads 1 (left (o .acceptor) (r .common) m) (replyMessage r m (nego .0))
   unfolding typeOf
-  heads-reply r m random role own talk limits =
+  heads-reply r m nego role own talk limits extensions =
       let k = left-sized (o .acceptor) (r .common) m acceptor-sized in
       let f = few (o .acceptor) (o .acceptor-ok) in
-      subst (λ (a : Bool). Heads (typeOf a NEGO) (left (o .acceptor) (r .common) m) (replyMessage r m (random .0))) role
-      (heads-written r random (left (o .acceptor) (r .common) m) (k .0) (omega (arith, k .1)) talk limits (joinIds (left (ownOf r) (r .common) m)) (rw own))
+      subst (λ (a : Bool). Heads (typeOf a NEGO) (left (o .acceptor) (r .common) m) (replyMessage r m (nego .0))) role
+      (heads-written r nego (left (o .acceptor) (r .common) m) (k .0) (omega (arith, k .1)) talk limits extensions (joinIds (left (ownOf r) (r .common) m)) (rw own))
 
 -- 2. every run
 
@@ -105,8 +107,8 @@ FairIn o cs x k a = Fair o (Replied o cs) (heads-offer o) (heads-reply o) x k a
 asks : (o : Opening) (cs : List (Bool × Call)) (x : Bool) (k : Call) (a : Answer)
     → List·Memᴰ (record { acceptor = x; call = k; said = a }) (run (world o) cs) → Ask o (Replied o cs) (heads-offer o) (heads-reply o) x k a
 asks o cs false k a m = tt
-asks o cs true (offer random) a m = tt
-asks o cs true (reply x random) a m = λ h. record { random = random; answered = a; accepted = h; entry = m }
+asks o cs true (offer nego) a m = tt
+asks o cs true (reply x nego) a m = λ h. record { content = nego; answered = a; accepted = h; entry = m }
 asks o cs true (metadata id value) a m = tt
 asks o cs true (speak s) a m = tt
 asks o cs true read a m = tt
@@ -134,8 +136,8 @@ by-rule2 o cs x m s h call = go (x .acceptor) (rw call at (fair-run o cs x h)) w
   go true f = record { refuses = λ e. absurd (omega arith); answers = λ e. no-true (rw f at e); lawful = λ e. no-true (rw f at e) }
 
 pub reply-by-marks : ReplyByMarks
-reply-by-marks o cs x m random h call = go (x .acceptor) (rw call at (fair-run o cs x h)) where
-  go : (b : Bool) → FairIn o cs b (reply m random) (x .said) → ReplyAnswer o m (x .said)
+reply-by-marks o cs x m nego h call = go (x .acceptor) (rw call at (fair-run o cs x h)) where
+  go : (b : Bool) → FairIn o cs b (reply m nego) (x .said) → ReplyAnswer o m (x .said)
   go true f = f
   go false f = record { refuses = λ e. absurd (omega arith); answers = λ e. no-true (rw f at e); none-left = λ z a b. absurd (a f) }
 
@@ -144,7 +146,7 @@ pub replied-once : (o : Opening) (cs : List (Bool × Call)) (m n : ℕ) → Repl
 replied-once o cs m n r s =
     let e = same-kept (acceptedAt true withMarks) (run (world o) cs) _ _ (marks-once o cs true) (r .entry) (s .entry) (rw (r .accepted)) (rw (s .accepted)) in
     marks-of (ap (λ (y : Entry). y .call) e) where
-      marks-of : {a b : ℕ} {x y : Sized 32} → reply a x ≡ reply b y → a ≡ b
+      marks-of : {a b : ℕ} {x y : NegoCall} → reply a x ≡ reply b y → a ≡ b
       marks-of e = cc
 
 -- where rule 2 leaves nothing, a lawful choosing call is refused with 17, and only there (`refuses`)
@@ -172,11 +174,11 @@ module _ (o : Opening) (cs : List (Bool × Call)) (o′ : Opening) (cs′ : List
   ini-marks : (m′ : ℕ) (s′ : Speech) → List·Memᴰ (false, choose m′ s′) cs′ → SameMarks (o .acceptor) (o .initiator) (o .initiator) m (o′ .initiator) m′
   ini-marks m′ s′ h = marks .initiator-marks m m′ s′ (record { answered = a; spoke = s; accepted = ok; entry = chosen }) h
 
-  acc-marks : (m′ : ℕ) (random : Sized 32) → List·Memᴰ (true, reply m′ random) cs′ → SameMarks (o .acceptor) (o .initiator) (o .acceptor) ma (o′ .acceptor) m′
-  acc-marks m′ random h = marks .acceptor-marks ma m′ random rep h
+  acc-marks : (m′ : ℕ) (nego : NegoCall) → List·Memᴰ (true, reply m′ nego) cs′ → SameMarks (o .acceptor) (o .initiator) (o .acceptor) ma (o′ .acceptor) m′
+  acc-marks m′ nego h = marks .acceptor-marks ma m′ nego rep h
 
   rep-marks : (m′ : ℕ) → Replied o′ cs′ m′ → SameMarks (o .acceptor) (o .initiator) (o .acceptor) ma (o′ .acceptor) m′
-  rep-marks m′ h = acc-marks m′ (h .random) (run-calls (world o′) cs′ _ (h .entry))
+  rep-marks m′ h = acc-marks m′ (h .content) (run-calls (world o′) cs′ _ (h .entry))
 
   dist : distinct (o′ .acceptor) ≡ true
   dist = ok-distinct (o′ .acceptor) (o′ .acceptor-ok)
@@ -187,15 +189,15 @@ module _ (o : Opening) (cs : List (Bool × Call)) (o′ : Opening) (cs′ : List
       no-mem-nil (a .choice) _ e (still-usable (o .acceptor) (o .initiator) (o′ .acceptor) (o′ .initiator) up dist ma m (a .choice) before ma′ m′ (rep-marks ma′ r) (ini-marks m′ s′ h))
 
   no-17 : (x : Bool) (k : Call) (b : Answer) → List·Memᴰ (x, k) cs′ → FairIn o′ cs′ x k b → b .refusal ≡ 17 → ⊥
-  no-17 false (offer random) b h f = f
-  no-17 false (reply y random) b h f = λ e. omega arith
+  no-17 false (offer nego) b h f = f
+  no-17 false (reply y nego) b h f = λ e. omega arith
   no-17 false (metadata id value) b h f = f
   no-17 false (speak s) b h f = f
   no-17 false read b h f = f
   no-17 false (choose m′ s′) b h f = λ e. let g = f .0 e in some-left m′ (g .0) s′ h (g .1 .0) (g .1 .1)
-  no-17 true (offer random) b h f = f
-  no-17 true (reply m′ random) b h f =
-      λ e. no-mem-nil (a .choice) _ (f .refuses e) (still-common (o .acceptor) (o .initiator) (o′ .acceptor) (o′ .initiator) up dist ma m (a .choice) before m′ (acc-marks m′ random h))
+  no-17 true (offer nego) b h f = f
+  no-17 true (reply m′ nego) b h f =
+      λ e. no-mem-nil (a .choice) _ (f .refuses e) (still-common (o .acceptor) (o .initiator) (o′ .acceptor) (o′ .initiator) up dist ma m (a .choice) before m′ (acc-marks m′ nego h))
   no-17 true (metadata id value) b h f = f
   no-17 true (speak s) b h f = f
   no-17 true read b h f = f

@@ -24,11 +24,11 @@ use Rattle.conversation.specs.declared.Scan.{Scan}
 use Rattle.conversation.specs.State.{NONE, ownOf, schemeAt, limitRows}
 use Rattle.conversation.specs.Turns.{FURTHER, NEGO, METADATA, EXCHANGE, VERIFY, ALERT, writing, reading, kindOf, afterOpening, after, writes, reads, placeAfter, mayWrite}
 use Rattle.conversation.specs.Outcomes.{Outcome, refused, closedBy, decide, row, room, fits, WrittenAs, unchanged, wrote}
-use Rattle.conversation.specs.Writing.{stageRows, thenFits, offered, offerRows, offering, replyMessage, replyRows, replying, metadataMessage, metadataRows, writingMetadata, schemeNow, schemeAllowed, namedRows, Speech, request, checksum, alarm, kindIn, spoken, askedBy, spokenAs, speaking}
+use Rattle.conversation.specs.Writing.{stageRows, thenFits, offered, offerRows, offering, replyMessage, replyRows, replying, metadataMessage, metadataRows, writingMetadata, schemeNow, schemeAllowed, namedRows, Speech, request, checksum, alarm, kindIn, speechFits, spoken, askedBy, spokenAs, speaking}
 use Rattle.conversation.specs.Admitting.{schemeIn, isAt, furtherFits, schemeFits, heardFor, passed, Admitted, on, stop, admit}
 use Rattle.conversation.specs.Reading.{conversationOf, startOf, Judged, whole, halted, judge, chainFor, judged, taken, finish, tokenRows, readingToken}
 use Rattle.conversation.specs.Choosing.{openTo, firstPlace, chose, choiceRows, choosing}
-use Rattle.conversation.specs.Runs.{Sized, Call, offer, reply, metadata, speak, read, choose, End, act, Opening, World, world, outcomeAt, next, ends, isAccepted}
+use Rattle.conversation.specs.Runs.{Sized, NegoCall, Call, offer, reply, metadata, speak, read, choose, End, act, Opening, World, world, outcomeAt, next, ends, isAccepted}
 use Rattle.conversation.specs.Claims.{recordAt}
 use Rattle.conversation.proofs.Rows.{decide-out, true-behind, front-true}
 use Rattle.conversation.proofs.Chosen.{choiceTable, choice-passed}
@@ -241,8 +241,8 @@ isChecksum (alarm code) = false
 
 -- the call k in the record r writes a VERIFY for the scheme id
 abbrev pub verifies : Id → Record → Call → Bool
-verifies id r (offer random) = false
-verifies id r (reply m random) = false
+verifies id r (offer nego) = false
+verifies id r (reply m nego) = false
 verifies id r (metadata scheme value) = false
 verifies id r (speak s) = isChecksum s && sameOctets id (schemeAt r (schemeNow r))
 verifies id r read = false
@@ -388,28 +388,28 @@ module _ (id : Id) where
     speaks : (s : Speech) → Step r (speak s) (speaking r d s .answer)
     unfolding speaking
     speaks s =
-        let rest : List Row = thenFits (namedRows r) r d (spoken r s) in
+        let rest : List Row = thenFits (namedRows r (speechFits s)) r d (spoken r s) in
         step-by (speak s) (stageRows r (kindIn s) ++ rest) _ refl
         (λ g. record {
           inv = record { low = ok .low; first = speech-first s };
           stays = wrote-stays (placeAfter r (kindIn s)) (length (spoken r s)) (spokenAs r s) (still-verified r s) (speech-asked s);
           spends = λ a v. speech-spends s (placeAfter r (kindIn s)) (length (spoken r s)) (true-behind (limitRows r) (row 18 (mayWrite r (kindIn s))) rest g)
-              (true-behind (stageRows r (kindIn s)) (row 15 (schemeAllowed r)) (fits r d (length (spoken r s)) ∷ []) g) v;
+              (true-behind (stageRows r (kindIn s) ++ (row 25 (speechFits s) ∷ [])) (row 15 (schemeAllowed r)) (fits r d (length (spoken r s)) ∷ []) g) v;
         })
 
-    offers : (random : Sized 32) → Step r (offer random) (offering r d (random .0) .answer)
+    offers : (nego : NegoCall) → Step r (offer nego) (offering r d (nego .0) .answer)
     unfolding offering
-    offers random =
-        step-by (offer random) (stageRows r NEGO ++ thenFits (offerRows r) r d (offered r (random .0))) _ refl
-        (λ g. let q = quiet NEGO (length (offered r (random .0))) (unchanged r) nego-low refl refl in record { inv = q .0; stays = q .1; spends = λ a v. no-true v })
+    offers nego =
+        step-by (offer nego) (stageRows r NEGO ++ thenFits (offerRows r (nego .0)) r d (offered r (nego .0))) _ refl
+        (λ g. let q = quiet NEGO (length (offered r (nego .0))) (unchanged r) nego-low refl refl in record { inv = q .0; stays = q .1; spends = λ a v. no-true v })
 
-    replies : (m : ℕ) (random : Sized 32) → Step r (reply m random) (replying r d m (random .0) .answer)
+    replies : (m : ℕ) (nego : NegoCall) → Step r (reply m nego) (replying r d m (nego .0) .answer)
     unfolding replying
-    replies m random =
-        step-by (reply m random) (stageRows r NEGO ++ thenFits (replyRows r m) r d (replyMessage r m (random .0))) _ refl
+    replies m nego =
+        step-by (reply m nego) (stageRows r NEGO ++ thenFits (replyRows r m (nego .0)) r d (replyMessage r m (nego .0))) _ refl
         (λ g.
         let w : WrittenAs = record { marks = m; told = r .told; asked = r .asked; verified = r .verified } in
-        let q = quiet NEGO (length (replyMessage r m (random .0))) w nego-low refl refl in record { inv = q .0; stays = q .1; spends = λ a v. no-true v })
+        let q = quiet NEGO (length (replyMessage r m (nego .0))) w nego-low refl refl in record { inv = q .0; stays = q .1; spends = λ a v. no-true v })
 
     tells : (scheme : Sized 16) (value : List ℕ) → Step r (metadata scheme value) (writingMetadata r d (scheme .0) value .answer)
     unfolding writingMetadata
@@ -451,7 +451,7 @@ module _ (id : Id) where
         step-by (choose m s) (choiceTable r d m s) _ refl
         (λ g.
         let p = choice-passed r d m s g in
-        let limits : AllTrue (limitRows r) = front-true (limitRows r) (thenFits (choiceRows r m (kindIn s)) (chose r m) d (spoken (chose r m) s)) g in
+        let limits : AllTrue (limitRows r) = front-true (limitRows r) (thenFits (choiceRows r m (speechFits s) (kindIn s)) (chose r m) d (spoken (chose r m) s)) g in
         let role : r .acceptor ≡ false = not-true _ (and-l (not (r .acceptor)) (eqb (r .stage) 2) (p .may)) in
         let at : r .stage ≡ 2 = eqb-true _ _ (and-r (not (r .acceptor)) (eqb (r .stage) 2) (p .may)) in
         let (l1, (l2, (l3, (l4, (l5, (l6, (l7, rest))))))) = limits in
@@ -527,8 +527,8 @@ module _ (id : Id) where
 
   step : (e : End) (peer : List ℕ) (k : Call) → Inv (e .record-of) → Step (e .record-of) k (act e peer k .answer)
   unfolding act
-  step e peer (offer random) h = offers (e .record-of) (e .transcript) h random
-  step e peer (reply m random) h = replies (e .record-of) (e .transcript) h m random
+  step e peer (offer nego) h = offers (e .record-of) (e .transcript) h nego
+  step e peer (reply m nego) h = replies (e .record-of) (e .transcript) h m nego
   step e peer (metadata scheme value) h = tells (e .record-of) (e .transcript) h scheme value
   step e peer (speak s) h = speaks (e .record-of) (e .transcript) h s
   step e peer read h = reads-token (e .record-of) (e .transcript) h peer

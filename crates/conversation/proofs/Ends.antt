@@ -10,7 +10,7 @@ use native.Mathlib.Omega.{arith}
 use lib.ListN.{length, getD, length-take, length-drop, length-append}
 use lib.Seq.{take-at, drop-at}
 use lib.Dec.{eqb, leb}
-use borrow.Author.Tests.{eq-eqb, eqb-true, eqb-false}
+use borrow.Author.Tests.{eq-eqb, ne-eqb, eqb-true, eqb-false}
 use Rattle.octets.proofs.Bools.{which, no-true, and-l, and-r}
 use Rattle.octets.specs.Octets.{octets}
 use Rattle.message.specs.Layout.{headOf}
@@ -26,15 +26,15 @@ use Rattle.conversation.specs.declared.Scan.{Scan}
 use Rattle.conversation.specs.State.{closed, ownOf, limitRows, fresh}
 use Rattle.conversation.specs.Turns.{NEGO, writing, reading, kindOf, after, writes, reads, placeAfter, mayWrite, mayRead}
 use Rattle.conversation.specs.Outcomes.{Outcome, answered, refused, row, fits, WrittenAs, unchanged, wrote, appended}
-use Rattle.conversation.specs.Writing.{stageRows, thenFits, offered, offerRows, offering, someLeft, firstOr, replyMessage, naming, replying, Speech, opening}
+use Rattle.conversation.specs.Writing.{NegoContent, extensionRows, stageRows, thenFits, offered, offerRows, offering, someLeft, firstOr, replyMessage, naming, replying, Speech, opening}
 use Rattle.conversation.specs.Admitting.{listedBy}
 use Rattle.conversation.specs.Reading.{conversationOf, whole, judged, commonAfter, keptAfter, taken}
 use Rattle.conversation.specs.Choosing.{openTo, mayChoose, choosing}
-use Rattle.conversation.specs.Runs.{Sized, Call, offer, reply, metadata, speak, read, choose, End, act, moved, Opening, World, world, outcomeAt, next, Entry, run, isAccepted, isLawful}
+use Rattle.conversation.specs.Runs.{Sized, NegoCall, Call, offer, reply, metadata, speak, read, choose, End, act, moved, Opening, World, world, outcomeAt, next, Entry, run, isAccepted, isLawful}
 use Rattle.conversation.specs.Claims.{ReplyAnswer, OpeningFresh}
 use Rattle.conversation.proofs.Unchanged.{refused-unchanged}
 use Rattle.conversation.proofs.Closed.{only-reading-12, closed-refuses}
-use Rattle.conversation.proofs.Rows.{decide-out, fails-one, fails-parts, fails-each, fails-until, true-behind, front-true}
+use Rattle.conversation.proofs.Rows.{decide-out, fails-one, fails-parts, fails-each, fails-until, back-true, true-behind, front-true}
 use Rattle.conversation.proofs.Chosen.{choiceTable, choice-passed, choice-17, choice-barred}
 use Rattle.conversation.proofs.Tokens.{Heads, heads-more, heads-here, empty-judged, judged-first}
 use Rattle.conversation.proofs.Goals.{positive, none-written, no-after, NotFirst, nego-start, no17, no12, not-some, Goal, refusal, stopped, metadata-goal, speak-goal, read-goal}
@@ -47,6 +47,10 @@ pub record Together (i a : ℕ) : Type 0 where
   choosing′ : i ≡ 2 → a ≡ 1
   later : i ≡ 3 → 1 ≤ a
 
+-- an INITIATOR_NEGO's table that passes gives 25 and 26
+extensions-true : (r : Record) (d : List ℕ) (g : NegoContent) → AllTrue (stageRows r NEGO ++ thenFits (offerRows r g) r d (offered r g)) → AllTrue (extensionRows g)
+extensions-true r d g t = let (is-initiator, (x25, (x26, rest))) = back-true (stageRows r NEGO) (thenFits (offerRows r g) r d (offered r g)) t in (x25, (x26, tt))
+
 pub ok-distinct : (l : List Id) → oneTo16 l ≡ true → distinct l ≡ true
 ok-distinct l e = and-r (leb 1 (length l) && leb (length l) 16) (distinct l) e
 
@@ -55,8 +59,8 @@ some-first [] h = no-true h
 some-first (x ∷ l) h = refl
 
 module _ (o : Opening) (Q : ℕ → Type 0)
-    (heads-offer : (r : Record) (random : Sized 32) → r .acceptor ≡ false → r .list ≡ padTo 256 (joinIds (o .initiator)) → r .count ≡ length (o .initiator) → r .conversation ≡ o .conversation .0 → AllTrue (limitRows r) → Heads 0 (o .initiator) (offered r (random .0)))
-    (heads-reply : (r : Record) (m : ℕ) (random : Sized 32) → r .acceptor ≡ true → ownOf r ≡ o .acceptor → length (r .conversation) ≡ 16 → AllTrue (limitRows r) → Heads 1 (left (o .acceptor) (r .common) m) (replyMessage r m (random .0)))
+    (heads-offer : (r : Record) (nego : NegoCall) → r .acceptor ≡ false → r .list ≡ padTo 256 (joinIds (o .initiator)) → r .count ≡ length (o .initiator) → r .conversation ≡ o .conversation .0 → AllTrue (limitRows r) → AllTrue (extensionRows (nego .0)) → Heads 0 (o .initiator) (offered r (nego .0)))
+    (heads-reply : (r : Record) (m : ℕ) (nego : NegoCall) → r .acceptor ≡ true → ownOf r ≡ o .acceptor → length (r .conversation) ≡ 16 → AllTrue (limitRows r) → AllTrue (extensionRows (nego .0)) → Heads 1 (left (o .acceptor) (r .common) m) (replyMessage r m (nego .0)))
   where
     abbrev pub reply-of : ℕ → List Id
     reply-of m = replyOf (o .acceptor) (o .initiator) m
@@ -106,16 +110,16 @@ module _ (o : Opening) (Q : ℕ → Type 0)
     Barred a = a .refusal ≡ 18
 
     abbrev pub IniSays : Call → Answer → Type 0
-    IniSays (offer random) a = no17 a
-    IniSays (reply m random) a = Barred a
+    IniSays (offer nego) a = no17 a
+    IniSays (reply m nego) a = Barred a
     IniSays (metadata id value) a = no17 a
     IniSays (speak s) a = no17 a
     IniSays read a = no17 a
     IniSays (choose m s) a = ChooseSays m a
 
     abbrev pub AccSays : Call → Answer → Type 0
-    AccSays (offer random) a = no17 a
-    AccSays (reply m random) a = ReplyAnswer o m a
+    AccSays (offer nego) a = no17 a
+    AccSays (reply m nego) a = ReplyAnswer o m a
     AccSays (metadata id value) a = no17 a
     AccSays (speak s) a = no17 a
     AccSays read a = no17 a
@@ -127,8 +131,8 @@ module _ (o : Opening) (Q : ℕ → Type 0)
 
     -- the marks of an acceptor's NEGO that is written have Q
     abbrev pub AskAcc : Call → Answer → Type 0
-    AskAcc (offer random) a = Unit {0}
-    AskAcc (reply m random) a = isAccepted a ≡ true → Q m
+    AskAcc (offer nego) a = Unit {0}
+    AskAcc (reply m nego) a = isAccepted a ≡ true → Q m
     AskAcc (metadata id value) a = Unit {0}
     AskAcc (speak s) a = Unit {0}
     AskAcc read a = Unit {0}
@@ -166,36 +170,36 @@ module _ (o : Opening) (Q : ℕ → Type 0)
       ini-on : (kind : ℕ) (w : WrittenAs) (x d′ : List ℕ) → NotFirst kind → mayWrite r kind ≡ true → IniOk (record { record-of = wrote r (placeAfter r kind) (length x) w; transcript = d′; turn = e .turn ++ x })
       ini-on kind w x d′ nf h = record { role = ok .role; own = ok .own; bytes = ok .bytes; count = ok .count; talk = ok .talk; at = ini-more kind (length x) w x nf h (ok .at) }
 
-      ini-nego : (random : Sized 32) → mayWrite r NEGO ≡ true → AllTrue (limitRows r) → IniAt r (e .turn) → IniAt (wrote r (placeAfter r NEGO) (length (offered r (random .0))) (unchanged r)) (e .turn ++ offered r (random .0))
+      ini-nego : (nego : NegoCall) → mayWrite r NEGO ≡ true → AllTrue (limitRows r) → AllTrue (extensionRows (nego .0)) → IniAt r (e .turn) → IniAt (wrote r (placeAfter r NEGO) (length (offered r (nego .0))) (unchanged r)) (e .turn ++ offered r (nego .0))
       unfolding writing
-      ini-nego random h l (ini-fresh st p t) = ini-open st (positive (placeAfter r NEGO) h) (rw t (heads-offer r random (ok .role) (ok .bytes) (ok .count) (ok .talk) l))
-      ini-nego random h l (ini-open st p t) = absurd (let z = nego-start (writes r) (r .position) (r .verified) h in omega (arith, z .1))
-      ini-nego random h l (ini-choosing st t ma q ks c) =
+      ini-nego nego h l x (ini-fresh st p t) = ini-open st (positive (placeAfter r NEGO) h) (rw t (heads-offer r nego (ok .role) (ok .bytes) (ok .count) (ok .talk) l x))
+      ini-nego nego h l x (ini-open st p t) = absurd (let z = nego-start (writes r) (r .position) (r .verified) h in omega (arith, z .1))
+      ini-nego nego h l x (ini-choosing st t ma q ks c) =
           absurd (no-after _ (none-written (r .position) (r .verified) NEGO) (let h′ : not (eqb (after (writing false 2) (r .position) (r .verified) NEGO) 0) ≡ true = rw (ok .role, st) at h in h′))
-      ini-nego random h l (ini-later st) =
+      ini-nego nego h l x (ini-later st) =
           no-true (let z : leb (writing false 3) 1 ≡ true = rw (ok .role, st) at (nego-start (writes r) (r .position) (r .verified) h .0) in z)
 
-      ini-offer : (random : Sized 32) → IniGoal (offer random) no17 (offering r d (random .0))
+      ini-offer : (nego : NegoCall) → IniGoal (offer nego) no17 (offering r d (nego .0))
       unfolding offering
-      ini-offer random =
-          let more : List Row = thenFits (offerRows r) r d (offered r (random .0)) in
-          decide-out (IniGoal (offer random) no17) (stageRows r NEGO ++ more) r d (appended r d (placeAfter r NEGO) (offered r (random .0)) (unchanged r))
-          (stopped e IniOk beside ok tg (offer random) (stageRows r NEGO ++ more) refl refl)
+      ini-offer nego =
+          let more : List Row = thenFits (offerRows r (nego .0)) r d (offered r (nego .0)) in
+          decide-out (IniGoal (offer nego) no17) (stageRows r NEGO ++ more) r d (appended r d (placeAfter r NEGO) (offered r (nego .0)) (unchanged r))
+          (stopped e IniOk beside ok tg (offer nego) (stageRows r NEGO ++ more) refl refl)
           (λ g. record {
-            then-ok = record { role = ok .role; own = ok .own; bytes = ok .bytes; count = ok .count; talk = ok .talk; at = ini-nego random (true-behind (limitRows r) (row 18 (mayWrite r NEGO)) more g) (front-true (limitRows r) (row 18 (mayWrite r NEGO) ∷ more) g) (ok .at) };
+            then-ok = record { role = ok .role; own = ok .own; bytes = ok .bytes; count = ok .count; talk = ok .talk; at = ini-nego nego (true-behind (limitRows r) (row 18 (mayWrite r NEGO)) more g) (front-true (limitRows r) (row 18 (mayWrite r NEGO) ∷ more) g) (extensions-true r d (nego .0) g) (ok .at) };
             then-together = tg;
             fair = λ q. omega arith;
           })
 
-      ini-reply : (m : ℕ) (random : Sized 32) → IniGoal (reply m random) Barred (replying r d m (random .0))
+      ini-reply : (m : ℕ) (nego : NegoCall) → IniGoal (reply m nego) Barred (replying r d m (nego .0))
       unfolding replying
-      ini-reply m random =
-          let more : List Row = row 19 (below (r .count) m) ∷ row 17 (someLeft (left (ownOf r) (r .common) m)) ∷ fits r d (length (replyMessage r m (random .0))) ∷ [] in
-          decide-out (IniGoal (reply m random) Barred) (stageRows r NEGO ++ (row 18 (r .acceptor) ∷ more)) r d _
+      ini-reply m nego =
+          let more : List Row = row 19 (below (r .count) m) ∷ (extensionRows (nego .0) ++ (row 17 (someLeft (left (ownOf r) (r .common) m)) ∷ fits r d (length (replyMessage r m (nego .0))) ∷ [])) in
+          decide-out (IniGoal (reply m nego) Barred) (stageRows r NEGO ++ (row 18 (r .acceptor) ∷ more)) r d _
           (λ n g.
           let h = fails-until (stageRows r NEGO) (row 18 (r .acceptor)) more n (ok .role) g in
           let is : n ≡ 18 = eqb-true _ _ (fails-each (λ k. eqb k 18) (stageRows r NEGO ++ (row 18 (r .acceptor) ∷ [])) n refl h) in
-          refusal e IniOk beside ok tg (reply m random) Barred n 0 (λ z. omega arith) is)
+          refusal e IniOk beside ok tg (reply m nego) Barred n 0 (λ z. omega arith) is)
           (λ g. no-true (sym (ok .role) ∙ true-behind (stageRows r NEGO) (row 18 (r .acceptor)) more g))
 
       -- the reply, read
@@ -238,7 +242,7 @@ module _ (o : Opening) (Q : ℕ → Type 0)
           (ma, (q, rw (ok .own, c, ks) (left-of-reply (o .acceptor) (o .initiator) ma (ok-distinct (o .acceptor) (o .acceptor-ok)) m)))
 
       abbrev lawful : ℕ → Bool
-      lawful k = not (eqb k 15 || (eqb k 16 || (eqb k 18 || eqb k 19)))
+      lawful k = not (eqb k 15 || (eqb k 16 || (eqb k 18 || (eqb k 19 || (eqb k 25 || eqb k 26)))))
 
       only-17 : (n : ℕ) → eqb n 17 || not (lawful n) ≡ true → lawful n ≡ true → eqb n 17 ≡ true
       only-17 n e h = elim (which (eqb n 17)) [ inl a ↦ a | inr a ↦ no-true (rw (a, h) at e) ]
@@ -272,8 +276,8 @@ module _ (o : Opening) (Q : ℕ → Type 0)
 
       ini-step : (k : Call) → no12 (act e (f .turn) k .answer) → IniGoal k (IniSays k) (act e (f .turn) k)
       unfolding act
-      ini-step (offer random) z = ini-offer random
-      ini-step (reply m random) z = ini-reply m random
+      ini-step (offer nego) z = ini-offer nego
+      ini-step (reply m nego) z = ini-reply m nego
       ini-step (metadata id value) z = metadata-goal e IniOk beside ok tg ini-on id value
       ini-step (speak s) z = speak-goal e IniOk beside ok tg ini-on s
       ini-step read z = read-goal e IniOk beside ok tg (f .turn) ini-reads-on z
@@ -306,16 +310,19 @@ module _ (o : Opening) (Q : ℕ → Type 0)
       acc-on : (kind : ℕ) (w : WrittenAs) (x d′ : List ℕ) → NotFirst kind → mayWrite s kind ≡ true → AccOk (record { record-of = wrote s (placeAfter s kind) (length x) w; transcript = d′; turn = e .turn ++ x })
       acc-on kind w x d′ nf h = record { role = ok .role; own = ok .own; at = acc-more kind (length x) w x nf h (ok .at) }
 
-      acc-offer : (random : Sized 32) → AccGoal (offer random) no17 (offering s b (random .0))
+      acc-offer : (nego : NegoCall) → AccGoal (offer nego) no17 (offering s b (nego .0))
       unfolding offering
-      acc-offer random =
-          let more : List Row = fits s b (length (offered s (random .0))) ∷ [] in
+      acc-offer nego =
+          let more : List Row = extensionRows (nego .0) ++ (fits s b (length (offered s (nego .0))) ∷ []) in
           let no : not (s .acceptor) ≡ false = rw (ok .role) in
-          decide-out (AccGoal (offer random) no17) (stageRows s NEGO ++ (row 18 (not (s .acceptor)) ∷ more)) s b _
-          (λ n g. stopped e AccOk along ok tg (offer random) (stageRows s NEGO ++ (row 18 (not (s .acceptor)) ∷ [])) refl refl n (fails-until (stageRows s NEGO) (row 18 (not (s .acceptor))) more n no g))
+          decide-out (AccGoal (offer nego) no17) (stageRows s NEGO ++ (row 18 (not (s .acceptor)) ∷ more)) s b _
+          (λ n g. stopped e AccOk along ok tg (offer nego) (stageRows s NEGO ++ (row 18 (not (s .acceptor)) ∷ [])) refl refl n (fails-until (stageRows s NEGO) (row 18 (not (s .acceptor))) more n no g))
           (λ g. no-true (sym no ∙ true-behind (stageRows s NEGO) (row 18 (not (s .acceptor))) more g))
 
-      -- the acceptor's NEGO
+      -- the acceptor's NEGO: the rows before 17
+      abbrev replyBefore : ℕ → NegoCall → List Row
+      replyBefore m nego = stageRows s NEGO ++ (row 18 (s .acceptor) ∷ row 19 (below (s .count) m) ∷ extensionRows (nego .0))
+
       record Listing (m : ℕ) : Type 0 where
         stage : s .stage ≡ 1
         lists : left (ownOf s) (s .common) m ≡ reply-of m
@@ -339,15 +346,14 @@ module _ (o : Opening) (Q : ℕ → Type 0)
           no-true (let z : leb (writing true 3) 1 ≡ true = rw (ok .role, st) at (nego-start (writes s) (s .position) (s .verified) h .0) in z)
 
       -- refused by the table whose row 17 asks for a scheme left
-      reply-refused : (m n : ℕ) (last : List Row) → without 0 last ≡ true → without 17 last ≡ true
+      reply-refused : (m : ℕ) (nego : NegoCall) (n : ℕ) (last : List Row) → without 0 last ≡ true → without 17 last ≡ true
           → let l : List Id = left (ownOf s) (s .common) m in
-          FirstFails n (stageRows s NEGO ++ (row 18 (s .acceptor) ∷ row 19 (below (s .count) m) ∷ row 17 (someLeft l) ∷ last)) → ReplyAnswer o m (answered n 0 s)
-      reply-refused m n last z0 z17 g = record {
+          FirstFails n (replyBefore m nego ++ (row 17 (someLeft l) ∷ last)) → ReplyAnswer o m (answered n 0 s)
+      reply-refused m nego n last z0 z17 g = record {
         refuses = λ z. let w = fails-one 17 before (someLeft l) last n refl z17 g z in sym (lists (w .0)) ∙ not-some l (w .1);
         answers = λ z. absurd (fails-other 0 (before ++ (row 17 (someLeft l) ∷ last)) n z0 g (eqb-true _ _ z));
-        none-left = λ z x y. elim (fails-parts before (row 17 (someLeft l) ∷ last) n g) [
-          | inl f ↦ let w : eqb n 18 || eqb n 19 ≡ true = fails-each (λ k. eqb k 18 || eqb k 19) before n refl f in
-              elim (which (eqb n 18)) [ inl a ↦ absurd (x (eqb-true _ _ a)) | inr a ↦ absurd (y (eqb-true _ _ (rw a at w))) ]
+        none-left = λ z x y v w. elim (fails-parts before (row 17 (someLeft l) ∷ last) n g) [
+          | inl f ↦ absurd (goes-before x y v w (fails-each first-numbers before n refl f))
           | inr f ↦ given (f .1) (lists (f .0) ∙ z)
         ];
       } where
@@ -355,37 +361,45 @@ module _ (o : Opening) (Q : ℕ → Type 0)
         l = left (ownOf s) (s .common) m
 
         before : List Row
-        before = stageRows s NEGO ++ (row 18 (s .acceptor) ∷ row 19 (below (s .count) m) ∷ [])
+        before = replyBefore m nego
+
+        first-numbers : ℕ → Bool
+        first-numbers k = eqb k 18 || (eqb k 19 || (eqb k 25 || eqb k 26))
+
+        goes-before : (n ≡ 18 → ⊥) → (n ≡ 19 → ⊥) → (n ≡ 25 → ⊥) → (n ≡ 26 → ⊥) → first-numbers n ≡ true → ⊥
+        goes-before x y v w h = no-true (rw (ne-eqb n 18 x, ne-eqb n 19 y, ne-eqb n 25 v, ne-eqb n 26 w) at h)
 
         lists : AllTrue before → l ≡ reply-of m
-        lists t = acc-lists m (true-behind (limitRows s) (row 18 (mayWrite s NEGO)) (row 18 (s .acceptor) ∷ row 19 (below (s .count) m) ∷ []) t) (ok .at) .lists
+        lists t = acc-lists m (true-behind (limitRows s) (row 18 (mayWrite s NEGO)) (row 18 (s .acceptor) ∷ row 19 (below (s .count) m) ∷ extensionRows (nego .0)) t) (ok .at) .lists
 
         given : FirstFails n (row 17 (someLeft l) ∷ last) → l ≡ [] → n ≡ 17
         given (inl f) none = sym (f .1)
         given (inr f) none = no-true (sym (ap someLeft none) ∙ f .0)
 
-      acc-reply : (m : ℕ) (random : Sized 32) → (isAccepted (replying s b m (random .0) .answer) ≡ true → Q m) → AccGoal (reply m random) (ReplyAnswer o m) (replying s b m (random .0))
+      acc-reply : (m : ℕ) (nego : NegoCall) → (isAccepted (replying s b m (nego .0) .answer) ≡ true → Q m) → AccGoal (reply m nego) (ReplyAnswer o m) (replying s b m (nego .0))
       unfolding replying
-      acc-reply m random =
+      acc-reply m nego =
           let l : List Id = left (ownOf s) (s .common) m in
-          let last : List Row = fits s b (length (replyMessage s m (random .0))) ∷ [] in
-          let before : List Row = stageRows s NEGO ++ (row 18 (s .acceptor) ∷ row 19 (below (s .count) m) ∷ []) in
-          decide-out (λ out. (isAccepted (out .answer) ≡ true → Q m) → AccGoal (reply m random) (ReplyAnswer o m) out) (before ++ (row 17 (someLeft l) ∷ last)) s b
-          (naming l (appended s b (placeAfter s NEGO) (replyMessage s m (random .0)) (record { marks = m; told = s .told; asked = s .asked; verified = s .verified })))
-          (λ n g ask. refusal e AccOk along ok tg (reply m random) (ReplyAnswer o m) n 0 (fails-other 0 (before ++ (row 17 (someLeft l) ∷ last)) n refl g) (reply-refused m n last refl refl g))
+          let last : List Row = fits s b (length (replyMessage s m (nego .0))) ∷ [] in
+          let before : List Row = replyBefore m nego in
+          decide-out (λ out. (isAccepted (out .answer) ≡ true → Q m) → AccGoal (reply m nego) (ReplyAnswer o m) out) (before ++ (row 17 (someLeft l) ∷ last)) s b
+          (naming l (appended s b (placeAfter s NEGO) (replyMessage s m (nego .0)) (record { marks = m; told = s .told; asked = s .asked; verified = s .verified })))
+          (λ n g ask. refusal e AccOk along ok tg (reply m nego) (ReplyAnswer o m) n 0 (fails-other 0 (before ++ (row 17 (someLeft l) ∷ last)) n refl g) (reply-refused m nego n last refl refl g))
           (λ g ask.
-          let h = true-behind (limitRows s) (row 18 (mayWrite s NEGO)) (row 18 (s .acceptor) ∷ row 19 (below (s .count) m) ∷ row 17 (someLeft l) ∷ last) g in
+          let more : List Row = row 18 (s .acceptor) ∷ row 19 (below (s .count) m) ∷ (extensionRows (nego .0) ++ (row 17 (someLeft l) ∷ last)) in
+          let h = true-behind (limitRows s) (row 18 (mayWrite s NEGO)) more g in
+          let (is-acceptor, (marks, (x25, (x26, behind)))) = back-true (stageRows s NEGO) more g in
           let some-left = true-behind before (row 17 (someLeft l)) last g in
           let a = acc-lists m h (ok .at) in
-          let hd : Heads 1 (left (o .acceptor) (s .common) m) (replyMessage s m (random .0)) = heads-reply s m random (ok .role) (ok .own) (a .talk) (front-true (limitRows s) (row 18 (mayWrite s NEGO) ∷ row 18 (s .acceptor) ∷ row 19 (below (s .count) m) ∷ row 17 (someLeft l) ∷ last) g) in
+          let hd : Heads 1 (left (o .acceptor) (s .common) m) (replyMessage s m (nego .0)) = heads-reply s m nego (ok .role) (ok .own) (a .talk) (front-true (limitRows s) (row 18 (mayWrite s NEGO) ∷ more) g) (x25, (x26, tt)) in
           let same : left (o .acceptor) (s .common) m ≡ reply-of m = ap (λ (k : List Id). left k (s .common) m) (sym (ok .own)) ∙ a .lists in
           record {
-            then-ok = record { role = ok .role; own = ok .own; at = acc-open (a .stage) (positive (placeAfter s NEGO) h) m (ask refl) (rw (a .none-yet) (subst (λ (k : List Id). Heads 1 k (replyMessage s m (random .0))) same hd)) };
+            then-ok = record { role = ok .role; own = ok .own; at = acc-open (a .stage) (positive (placeAfter s NEGO) h) m (ask refl) (rw (a .none-yet) (subst (λ (k : List Id). Heads 1 k (replyMessage s m (nego .0))) same hd)) };
             then-together = tg;
             fair = record {
               refuses = λ z. absurd (omega arith);
               answers = λ z. (ap first (sym (a .lists)) ∙ some-first l some-left, ap length (a .lists));
-              none-left = λ z x y. no-true (sym (ap someLeft (a .lists ∙ z)) ∙ some-left);
+              none-left = λ z x y v w. no-true (sym (ap someLeft (a .lists ∙ z)) ∙ some-left);
             };
           })
 
@@ -437,8 +451,8 @@ module _ (o : Opening) (Q : ℕ → Type 0)
 
       acc-step : (k : Call) → no12 (act e (f .turn) k .answer) → AskAcc k (act e (f .turn) k .answer) → AccGoal k (AccSays k) (act e (f .turn) k)
       unfolding act
-      acc-step (offer random) z q = acc-offer random
-      acc-step (reply m random) z q = acc-reply m random q
+      acc-step (offer nego) z q = acc-offer nego
+      acc-step (reply m nego) z q = acc-reply m nego q
       acc-step (metadata id value) z q = metadata-goal e AccOk along ok tg acc-on id value
       acc-step (speak t) z q = speak-goal e AccOk along ok tg acc-on t
       acc-step read z q = read-goal e AccOk along ok tg (f .turn) acc-reads-on z
@@ -470,14 +484,14 @@ module _ (o : Opening) (Q : ℕ → Type 0)
 
     -- 18 is no answer to what is asked
     fair-18 : (x : Bool) (k : Call) (a : Answer) → a .refusal ≡ 18 → Fair x k a
-    fair-18 false (offer random) a n = λ z. omega arith
-    fair-18 false (reply m random) a n = n
+    fair-18 false (offer nego) a n = λ z. omega arith
+    fair-18 false (reply m nego) a n = n
     fair-18 false (metadata id value) a n = λ z. omega arith
     fair-18 false (speak s) a n = λ z. omega arith
     fair-18 false read a n = λ z. omega arith
     fair-18 false (choose m s) a n = ((λ z. absurd (omega arith)), (λ z. no-true (rw n at z)), (λ z. no-true (rw n at z)))
-    fair-18 true (offer random) a n = λ z. omega arith
-    fair-18 true (reply m random) a n = record { refuses = λ z. absurd (omega arith); answers = λ z. no-true (rw n at z); none-left = λ z x y. absurd (x n) }
+    fair-18 true (offer nego) a n = λ z. omega arith
+    fair-18 true (reply m nego) a n = record { refuses = λ z. absurd (omega arith); answers = λ z. no-true (rw n at z); none-left = λ z x y. absurd (x n) }
     fair-18 true (metadata id value) a n = λ z. omega arith
     fair-18 true (speak s) a n = λ z. omega arith
     fair-18 true read a n = λ z. omega arith

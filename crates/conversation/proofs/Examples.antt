@@ -19,6 +19,7 @@ use Rattle.message.specs.Check.{commonRows, allKeepRule, noneCritical, contentR
 use Rattle.message.specs.Show.{idsAt, schemesIn}
 use Rattle.token.specs.Token.{orderRows, nextRows, chainOf}
 use Rattle.put.specs.Put.{put}
+use Rattle.elements.specs.Elements.{offsetOf, itemOctets, itemsFit, itemsOf, sumFrom, smallFrom, elementsFit, ordinaryFrom}
 use Rattle.encode.specs.Encode.{encoded}
 use Rattle.schemes.specs.Lists.{Id, mem, place, distinct, marked}
 use Rattle.schemes.specs.Sets.{setOf, left, has, mentions, ones, openPlaces, keptBelow}
@@ -33,22 +34,22 @@ use Rattle.conversation.specs.Reading.{conversationOf, judge, judged, co
 use Rattle.conversation.specs.Choosing.{choosing}
 use Rattle.conversation.specs.Runs.{Call, offer, reply, metadata, speak, read, choose, Opening, world, Entry, run, MarksKept, NotLost, act}
 use Rattle.conversation.specs.Logs.{messagesIn}
-use Rattle.conversation.specs.Worked.{scheme, opened, negotiation, Says, saysOf, names, longerLists, LongerRun, LongerChoice, WholeConversation, WholeLogs, AtOnce, EarlyVerify, StaysRejected}
+use Rattle.conversation.specs.Worked.{scheme, plain, ordinary, critical, tooMany, opened, negotiation, Says, saysOf, names, longerLists, LongerRun, LongerChoice, WholeConversation, WholeLogs, AtOnce, EarlyVerify, Extended, StaysRejected}
 use Rattle.conversation.proofs.Demand.{demand3, run-calls}
 
 pub whole-conversation : WholeConversation
-unfolding opened le signed32 sameOctets sameId keepsRule shown shapeOf headOf elementsAt contentOf vectorsOf commonRows allKeepRule noneCritical contentRows bodyRows frontRows idsAt schemesIn orderRows nextRows chainOf put encoded mem place distinct setOf left has mentions ones openPlaces keptBelow turns.writing turns.reading turns.kindOf turns.typeOf turns.afterOpening turns.afterFurther turns.after offering replying writingMetadata speaking schemeNow messagesAt schemeFits heardFor passed admit conversationOf judge judged commonAfter keptAfter finish readingToken choosing act
+unfolding opened plain offsetOf itemOctets itemsFit itemsOf sumFrom smallFrom elementsFit ordinaryFrom le signed32 sameOctets sameId keepsRule shown shapeOf headOf elementsAt contentOf vectorsOf commonRows allKeepRule noneCritical contentRows bodyRows frontRows idsAt schemesIn orderRows nextRows chainOf put encoded mem place distinct setOf left has mentions ones openPlaces keptBelow turns.writing turns.reading turns.kindOf turns.typeOf turns.afterOpening turns.afterFurther turns.after offering replying writingMetadata speaking schemeNow messagesAt schemeFits heardFor passed admit conversationOf judge judged commonAfter keptAfter finish readingToken choosing act
 whole-conversation = refl
 
 pub whole-logs : WholeLogs
-unfolding opened le signed32 sameOctets sameId keepsRule shown shapeOf headOf elementsAt contentOf vectorsOf commonRows allKeepRule noneCritical contentRows bodyRows frontRows idsAt schemesIn orderRows nextRows chainOf put encoded mem place distinct setOf left has mentions ones openPlaces keptBelow turns.writing turns.reading turns.kindOf turns.typeOf turns.afterOpening turns.afterFurther turns.after offering replying writingMetadata speaking schemeNow messagesAt schemeFits heardFor passed admit conversationOf judge judged commonAfter keptAfter finish readingToken choosing act messagesIn
+unfolding opened plain offsetOf itemOctets itemsFit itemsOf sumFrom smallFrom elementsFit ordinaryFrom le signed32 sameOctets sameId keepsRule shown shapeOf headOf elementsAt contentOf vectorsOf commonRows allKeepRule noneCritical contentRows bodyRows frontRows idsAt schemesIn orderRows nextRows chainOf put encoded mem place distinct setOf left has mentions ones openPlaces keptBelow turns.writing turns.reading turns.kindOf turns.typeOf turns.afterOpening turns.afterFurther turns.after offering replying writingMetadata speaking schemeNow messagesAt schemeFits heardFor passed admit conversationOf judge judged commonAfter keptAfter finish readingToken choosing act messagesIn
 whole-logs = (refl, refl)
 
 -- two runs without marks, the second with longer lists
 
 abbrev unmarked : Call → Bool
-unmarked (offer random) = true
-unmarked (reply m random) = eqb m 0
+unmarked (offer nego) = true
+unmarked (reply m nego) = eqb m 0
 unmarked (metadata id value) = true
 unmarked (speak s) = true
 unmarked read = true
@@ -70,7 +71,7 @@ no-bits own own′ m m′ s e e′ = rw (eqb-true m 0 e, eqb-true m′ 0 e′) (
 
 none-kept : (o : Opening) (cs : List (Bool × Call)) (o′ : Opening) (cs′ : List (Bool × Call)) → noMarks cs ≡ true → noMarks cs′ ≡ true → MarksKept o cs o′ cs′
 none-kept o cs o′ cs′ h h′ = record {
-  acceptor-marks = λ m m′ random x j s a b. no-bits (o .acceptor) (o′ .acceptor) m m′ s (no-marks cs h (true, reply m (x .random)) (run-calls (world o) cs _ (x .entry))) (no-marks cs′ h′ (true, reply m′ random) j);
+  acceptor-marks = λ m m′ nego x j s a b. no-bits (o .acceptor) (o′ .acceptor) m m′ s (no-marks cs h (true, reply m (x .content)) (run-calls (world o) cs _ (x .entry))) (no-marks cs′ h′ (true, reply m′ nego) j);
   initiator-marks = λ m m′ s′ x j s a b. no-bits (o .initiator) (o′ .initiator) m m′ s (no-marks cs h (false, choose m (x .spoke)) (run-calls (world o) cs _ (x .entry))) (no-marks cs′ h′ (false, choose m′ s′) j);
 }
 
@@ -101,7 +102,7 @@ abbrev chosen : Entry
 chosen = fifth (run (world opened) (negotiation 0 0)) none-such
 
 first-choice : saysOf chosen ≡ names (scheme 2) 2
-unfolding opened le signed32 sameOctets sameId keepsRule shown shapeOf headOf elementsAt contentOf vectorsOf commonRows allKeepRule noneCritical contentRows bodyRows frontRows idsAt schemesIn orderRows nextRows chainOf put encoded mem place distinct setOf left has mentions ones openPlaces keptBelow turns.writing turns.reading turns.kindOf turns.typeOf turns.afterOpening turns.afterFurther turns.after offering replying writingMetadata speaking schemeNow messagesAt schemeFits heardFor passed admit conversationOf judge judged commonAfter keptAfter finish readingToken choosing act
+unfolding opened plain offsetOf itemOctets itemsFit itemsOf sumFrom smallFrom elementsFit ordinaryFrom le signed32 sameOctets sameId keepsRule shown shapeOf headOf elementsAt contentOf vectorsOf commonRows allKeepRule noneCritical contentRows bodyRows frontRows idsAt schemesIn orderRows nextRows chainOf put encoded mem place distinct setOf left has mentions ones openPlaces keptBelow turns.writing turns.reading turns.kindOf turns.typeOf turns.afterOpening turns.afterFurther turns.after offering replying writingMetadata speaking schemeNow messagesAt schemeFits heardFor passed admit conversationOf judge judged commonAfter keptAfter finish readingToken choosing act
 first-choice = refl
 
 -- so no call of the second run is refused with 17, and its choice, by rule 2, stands no later
@@ -113,23 +114,29 @@ longer-run y h =
 
 -- the second run, computed
 pub choices : LongerChoice
-unfolding longerLists le signed32 sameOctets sameId keepsRule shown shapeOf headOf elementsAt contentOf vectorsOf commonRows allKeepRule noneCritical contentRows bodyRows frontRows idsAt schemesIn orderRows nextRows chainOf put encoded mem place distinct setOf left has mentions ones openPlaces keptBelow turns.writing turns.reading turns.kindOf turns.typeOf turns.afterOpening turns.afterFurther turns.after offering replying writingMetadata speaking schemeNow messagesAt schemeFits heardFor passed admit conversationOf judge judged commonAfter keptAfter finish readingToken choosing act
+unfolding longerLists plain offsetOf itemOctets itemsFit itemsOf sumFrom smallFrom elementsFit ordinaryFrom le signed32 sameOctets sameId keepsRule shown shapeOf headOf elementsAt contentOf vectorsOf commonRows allKeepRule noneCritical contentRows bodyRows frontRows idsAt schemesIn orderRows nextRows chainOf put encoded mem place distinct setOf left has mentions ones openPlaces keptBelow turns.writing turns.reading turns.kindOf turns.typeOf turns.afterOpening turns.afterFurther turns.after offering replying writingMetadata speaking schemeNow messagesAt schemeFits heardFor passed admit conversationOf judge judged commonAfter keptAfter finish readingToken choosing act
 choices = refl
 
 -- the choosing call, by each of its refusals
 
 pub at-once : AtOnce
-unfolding opened le signed32 sameOctets sameId keepsRule shown shapeOf headOf elementsAt contentOf vectorsOf commonRows allKeepRule noneCritical contentRows bodyRows frontRows idsAt schemesIn orderRows nextRows chainOf put encoded mem place distinct setOf left has mentions ones openPlaces keptBelow turns.writing turns.reading turns.kindOf turns.typeOf turns.afterOpening turns.afterFurther turns.after offering replying writingMetadata speaking schemeNow messagesAt schemeFits heardFor passed admit conversationOf judge judged commonAfter keptAfter finish readingToken choosing act
+unfolding opened plain offsetOf itemOctets itemsFit itemsOf sumFrom smallFrom elementsFit ordinaryFrom le signed32 sameOctets sameId keepsRule shown shapeOf headOf elementsAt contentOf vectorsOf commonRows allKeepRule noneCritical contentRows bodyRows frontRows idsAt schemesIn orderRows nextRows chainOf put encoded mem place distinct setOf left has mentions ones openPlaces keptBelow turns.writing turns.reading turns.kindOf turns.typeOf turns.afterOpening turns.afterFurther turns.after offering replying writingMetadata speaking schemeNow messagesAt schemeFits heardFor passed admit conversationOf judge judged commonAfter keptAfter finish readingToken choosing act
 at-once = refl
 
 -- early VERIFYs, that count and that do not
 
 pub early-verify : EarlyVerify
-unfolding opened longerLists le signed32 sameOctets sameId keepsRule shown shapeOf headOf elementsAt contentOf vectorsOf commonRows allKeepRule noneCritical contentRows bodyRows frontRows idsAt schemesIn orderRows nextRows chainOf put encoded mem place distinct setOf left has mentions ones openPlaces keptBelow turns.writing turns.reading turns.kindOf turns.typeOf turns.afterOpening turns.afterFurther turns.after offering replying writingMetadata speaking schemeNow messagesAt schemeFits heardFor passed admit conversationOf judge judged commonAfter keptAfter finish readingToken choosing act
+unfolding opened longerLists plain offsetOf itemOctets itemsFit itemsOf sumFrom smallFrom elementsFit ordinaryFrom le signed32 sameOctets sameId keepsRule shown shapeOf headOf elementsAt contentOf vectorsOf commonRows allKeepRule noneCritical contentRows bodyRows frontRows idsAt schemesIn orderRows nextRows chainOf put encoded mem place distinct setOf left has mentions ones openPlaces keptBelow turns.writing turns.reading turns.kindOf turns.typeOf turns.afterOpening turns.afterFurther turns.after offering replying writingMetadata speaking schemeNow messagesAt schemeFits heardFor passed admit conversationOf judge judged commonAfter keptAfter finish readingToken choosing act
 early-verify = (refl, refl)
+
+-- extensions and several alerts, by each of their refusals, and test calls
+
+pub extended : Extended
+unfolding opened plain ordinary critical tooMany offsetOf itemOctets itemsFit itemsOf sumFrom smallFrom elementsFit ordinaryFrom le signed32 sameOctets sameId keepsRule shown shapeOf headOf elementsAt contentOf vectorsOf commonRows allKeepRule noneCritical contentRows bodyRows frontRows idsAt schemesIn orderRows nextRows chainOf put encoded mem place distinct setOf left has mentions ones openPlaces keptBelow turns.writing turns.reading turns.kindOf turns.typeOf turns.afterOpening turns.afterFurther turns.after offering replying writingMetadata speaking schemeNow messagesAt schemeFits heardFor passed admit conversationOf judge judged commonAfter keptAfter finish readingToken choosing act
+extended = (refl, refl)
 
 -- a critical extension, and then a good token
 
 pub stays-rejected : StaysRejected
-unfolding opened le signed32 sameOctets sameId keepsRule shown shapeOf headOf elementsAt contentOf vectorsOf commonRows allKeepRule noneCritical contentRows bodyRows frontRows idsAt schemesIn orderRows nextRows chainOf put encoded mem place distinct setOf left has mentions ones openPlaces keptBelow turns.writing turns.reading turns.kindOf turns.typeOf turns.afterOpening turns.afterFurther turns.after offering replying writingMetadata speaking schemeNow messagesAt schemeFits heardFor passed admit conversationOf judge judged commonAfter keptAfter finish readingToken choosing act
+unfolding opened plain offsetOf itemOctets itemsFit itemsOf sumFrom smallFrom elementsFit ordinaryFrom le signed32 sameOctets sameId keepsRule shown shapeOf headOf elementsAt contentOf vectorsOf commonRows allKeepRule noneCritical contentRows bodyRows frontRows idsAt schemesIn orderRows nextRows chainOf put encoded mem place distinct setOf left has mentions ones openPlaces keptBelow turns.writing turns.reading turns.kindOf turns.typeOf turns.afterOpening turns.afterFurther turns.after offering replying writingMetadata speaking schemeNow messagesAt schemeFits heardFor passed admit conversationOf judge judged commonAfter keptAfter finish readingToken choosing act
 stays-rejected = (refl, refl)

@@ -22,10 +22,10 @@ use Rattle.conversation.specs.declared.Scan.{Scan}
 use Rattle.conversation.specs.State.{ownOf, schemeAt, limitRows}
 use Rattle.conversation.specs.Turns.{NEGO, METADATA, VERIFY, writing, reading, reads, placeAfter, mayWrite}
 use Rattle.conversation.specs.Outcomes.{Outcome, refused, decide, row, room, WrittenAs, unchanged, wrote}
-use Rattle.conversation.specs.Writing.{stageRows, thenFits, offered, offerRows, offering, replyMessage, replyRows, replying, metadataMessage, metadataRows, writingMetadata, schemeNow, namedRows, Speech, request, checksum, alarm, kindIn, spoken, askedBy, spokenAs, speaking}
+use Rattle.conversation.specs.Writing.{stageRows, thenFits, offered, offerRows, offering, replyMessage, replyRows, replying, metadataMessage, metadataRows, writingMetadata, schemeNow, namedRows, Speech, request, checksum, alarm, kindIn, speechFits, spoken, askedBy, spokenAs, speaking}
 use Rattle.conversation.specs.Reading.{Judged, whole, halted, judged, countsBehind, finish, tokenRows, readingToken}
 use Rattle.conversation.specs.Choosing.{openTo, firstPlace, chose, choosing}
-use Rattle.conversation.specs.Runs.{Sized, Call, offer, reply, metadata, speak, read, choose, End, act, Opening, World, world, next, ends, isAccepted}
+use Rattle.conversation.specs.Runs.{Sized, NegoCall, Call, offer, reply, metadata, speak, read, choose, End, act, Opening, World, world, next, ends, isAccepted}
 use Rattle.conversation.specs.Claims.{recordAt}
 use Rattle.conversation.proofs.Early.{isChecksum, verifies, verifyCount, Inv, Invs, here, invs-kept, judged-kept, judged-asked, verify-at, writes-some, acceptor-stage, initiator-stage, later-now, reply-now, first-now, later-reads}
 use Rattle.conversation.proofs.Rows.{decide-out, true-behind, front-true}
@@ -107,17 +107,17 @@ module _ (id : Id) where
       none-first = λ e st v. writes-some r VERIFY may (rw (e, st));
     }
 
-    has-offer : (random : Sized 32) → Then r (offer random) n (offering r d (random .0))
+    has-offer : (nego : NegoCall) → Then r (offer nego) n (offering r d (nego .0))
     unfolding offering
-    has-offer random =
-        has-by (offer random) (stageRows r NEGO ++ thenFits (offerRows r) r d (offered r (random .0))) _ refl
-        (λ g. has-same (placeAfter r NEGO) (length (offered r (random .0))) (unchanged r) refl refl)
+    has-offer nego =
+        has-by (offer nego) (stageRows r NEGO ++ thenFits (offerRows r (nego .0)) r d (offered r (nego .0))) _ refl
+        (λ g. has-same (placeAfter r NEGO) (length (offered r (nego .0))) (unchanged r) refl refl)
 
-    has-reply : (m : ℕ) (random : Sized 32) → Then r (reply m random) n (replying r d m (random .0))
+    has-reply : (m : ℕ) (nego : NegoCall) → Then r (reply m nego) n (replying r d m (nego .0))
     unfolding replying
-    has-reply m random =
-        has-by (reply m random) (stageRows r NEGO ++ thenFits (replyRows r m) r d (replyMessage r m (random .0))) _ refl
-        (λ g. has-same (placeAfter r NEGO) (length (replyMessage r m (random .0))) (record { marks = m; told = r .told; asked = r .asked; verified = r .verified }) refl refl)
+    has-reply m nego =
+        has-by (reply m nego) (stageRows r NEGO ++ thenFits (replyRows r m (nego .0)) r d (replyMessage r m (nego .0))) _ refl
+        (λ g. has-same (placeAfter r NEGO) (length (replyMessage r m (nego .0))) (record { marks = m; told = r .told; asked = r .asked; verified = r .verified }) refl refl)
 
     has-metadata : (scheme : Sized 16) (value : List ℕ) → Then r (metadata scheme value) n (writingMetadata r d (scheme .0) value)
     unfolding writingMetadata
@@ -128,7 +128,7 @@ module _ (id : Id) where
     has-speak : (s : Speech) → Then r (speak s) n (speaking r d s)
     unfolding speaking
     has-speak s =
-        let rest : List Row = thenFits (namedRows r) r d (spoken r s) in
+        let rest : List Row = thenFits (namedRows r (speechFits s)) r d (spoken r s) in
         has-by (speak s) (stageRows r (kindIn s) ++ rest) _ refl
         (λ g. has-speech s (placeAfter r (kindIn s)) (length (spoken r s)) (true-behind (limitRows r) (row 18 (mayWrite r (kindIn s))) rest g))
 
@@ -218,8 +218,8 @@ module _ (id : Id) where
 
   has-step : (e : End) (peer : List ℕ) (k : Call) → Inv (e .record-of) → (n : ℕ) → Has (e .record-of) n → Then (e .record-of) k n (act e peer k)
   unfolding act
-  has-step e peer (offer random) h n p = has-offer (e .record-of) (e .transcript) h n p random
-  has-step e peer (reply m random) h n p = has-reply (e .record-of) (e .transcript) h n p m random
+  has-step e peer (offer nego) h n p = has-offer (e .record-of) (e .transcript) h n p nego
+  has-step e peer (reply m nego) h n p = has-reply (e .record-of) (e .transcript) h n p m nego
   has-step e peer (metadata scheme value) h n p = has-metadata (e .record-of) (e .transcript) h n p scheme value
   has-step e peer (speak s) h n p = has-speak (e .record-of) (e .transcript) h n p s
   has-step e peer read h n p = has-read (e .record-of) (e .transcript) h n p peer

@@ -21,7 +21,7 @@ use Rattle.conversation.specs.declared.Scan.{Scan}
 use Rattle.conversation.specs.State.{NONE, ownOf, schemeAt, limitRows}
 use Rattle.conversation.specs.Turns.{NEGO, METADATA, writing, reading, reads, mayRead}
 use Rattle.conversation.specs.Outcomes.{Outcome, decide, row, room, WrittenAs, unchanged, wrote}
-use Rattle.conversation.specs.Writing.{stageRows, thenFits, offered, offerRows, offering, replyMessage, replyRows, replying, metadataMessage, metadataRows, writingMetadata, namedRows, Speech, request, checksum, alarm, kindIn, spoken, spokenAs, speaking}
+use Rattle.conversation.specs.Writing.{stageRows, thenFits, offered, offerRows, offering, replyMessage, replyRows, replying, metadataMessage, metadataRows, writingMetadata, namedRows, Speech, request, checksum, alarm, kindIn, speechFits, spoken, spokenAs, speaking}
 use Rattle.conversation.specs.Admitting.{isAt, on, admit}
 use Rattle.conversation.specs.Reading.{startOf, Judged, whole, halted, judged, chainFor, taken, finish, tokenRows, readingToken}
 use Rattle.conversation.specs.Choosing.{openTo, firstPlace, chose, choosing}
@@ -254,14 +254,14 @@ module _ (id : Id) where
 
     call-says : (k : Call) → Says (act e peer k .answer .next) (n + length (keep (verifyFor id) (addedBy isReading e peer k)))
     unfolding act offering replying writingMetadata speaking
-    call-says (offer random) = more _ n (says-by (stageRows r NEGO ++ thenFits (offerRows r) r d (offered r (random .0))) _ (λ g. wrote-says r n _ _ (unchanged r) (λ z. refl) s))
-    call-says (reply m random) =
-        more _ n (says-by (stageRows r NEGO ++ thenFits (replyRows r m) r d (replyMessage r m (random .0))) _
+    call-says (offer nego) = more _ n (says-by (stageRows r NEGO ++ thenFits (offerRows r (nego .0)) r d (offered r (nego .0))) _ (λ g. wrote-says r n _ _ (unchanged r) (λ z. refl) s))
+    call-says (reply m nego) =
+        more _ n (says-by (stageRows r NEGO ++ thenFits (replyRows r m (nego .0)) r d (replyMessage r m (nego .0))) _
         (λ g. wrote-says r n _ _ (record { marks = m; told = r .told; asked = r .asked; verified = r .verified }) (λ z. refl) s))
     call-says (metadata scheme value) =
         more _ n (says-by (stageRows r METADATA ++ thenFits (metadataRows r (scheme .0) (length value)) r d (metadataMessage r (scheme .0) value)) _
         (λ g. wrote-says r n _ _ (record { marks = r .marks; told = r .told + 2 ^ place (ownOf r) (scheme .0); asked = r .asked; verified = r .verified }) (λ z. refl) s))
-    call-says (speak v) = more _ n (says-by (stageRows r (kindIn v) ++ thenFits (namedRows r) r d (spoken r v)) _ (λ g. wrote-says r n _ _ (spokenAs r v) (speech-asked r v) s))
+    call-says (speak v) = more _ n (says-by (stageRows r (kindIn v) ++ thenFits (namedRows r (speechFits v)) r d (spoken r v)) _ (λ g. wrote-says r n _ _ (spokenAs r v) (speech-asked r v) s))
     call-says read = reads-one
     call-says (choose m v) = more _ n (chooses m v)
 

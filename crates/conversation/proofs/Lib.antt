@@ -25,3 +25,4 @@ pub mod Verifies
 pub mod Heard
 pub mod Hearings
 pub mod Nines
+pub mod Critical

@@ -1,12 +1,12 @@
 -- What holds of both ends in every run: records inside their limits, used and sequence counted by the messages read and written, and logs in step.
 -- Assumes nothing.
-use Prim.Native.Nat.{ℕ, _+_, _*_, _^_, _/_, _≤_, _<_}
+use Prim.Native.Nat.{ℕ, _+_, _-_, _*_, _^_, _/_, _≤_, _<_}
 use mathlib.Core.Path.{_≡_, refl, sym, ap, subst, _∙_}
 use mathlib.Core.Bool.{Bool, true, false, cond, not, _&&_, _||_}
 use mathlib.Core.Logic.{inl, inr}
-use mathlib.Core.List.{List, [], _∷_, _++_, List·Memᴰ, List·Memᴰ·cases-cons, List·Memᴰ·not-nil, append-assoc, append-nil}
+use mathlib.Core.List.{List, [], _∷_, _++_, List·Memᴰ, List·Memᴰ·head, List·Memᴰ·tail, List·Memᴰ·cases-cons, List·Memᴰ·not-nil, append-assoc, append-nil}
 use native.Mathlib.Omega.{arith}
-use lib.ListN.{length, take, drop, getD, length-append, length-take, length-drop}
+use lib.ListN.{length, take, drop, getD, replicate, length-append, length-replicate, length-take, length-drop}
 use lib.Seq.{take-at, length-take-le}
 use lib.Pow.{pow-pos}
 use lib.Dec.{eqb, leb}
@@ -17,7 +17,7 @@ use Rattle.message.specs.Check.{Row, FirstFails, criticalOk}
 use Rattle.message.proofs.Tables.{AllTrue, without, fails-other}
 use Rattle.token.specs.Split.{join}
 use Rattle.put.specs.Put.{put}
-use Rattle.encode.specs.Encode.{Whole, Contents, ofNego, ofExchange}
+use Rattle.encode.specs.Encode.{Whole, Contents, ofExchange}
 use Rattle.schemes.specs.Lists.{Id, distinct, oneTo16, joinIds, place}
 use Rattle.schemes.specs.Sets.{left, named, below, keptBelow}
 use Rattle.conversation.specs.declared.Record.{Record}
@@ -25,19 +25,20 @@ use Rattle.conversation.specs.declared.Scan.{Scan}
 use Rattle.conversation.specs.State.{ownOf, schemeAt, limitRows, fresh}
 use Rattle.conversation.specs.Turns.{FIRST, NEGO, METADATA, typeOf, reads, placeAfter, mayRead}
 use Rattle.conversation.specs.Outcomes.{Outcome, zeroId, refused, closedBy, decide, row, room, fits, WrittenAs, unchanged, wrote, appended}
-use Rattle.conversation.specs.Writing.{heading, messageOf, stageRows, thenFits, offerRows, offering, someLeft, replyMessage, naming, replying, metadataAllowed, metadataMessage, metadataRows, writingMetadata, schemeNow, schemeAllowed, namedRows, speaking, spoken, Speech, request, checksum, alarm, kindIn, contentsIn, spokenAs}
+use Rattle.conversation.specs.Writing.{negoIn, extensionRows, offered, heading, messageOf, stageRows, thenFits, offerRows, offering, someLeft, replyMessage, naming, replying, metadataAllowed, metadataMessage, metadataRows, writingMetadata, schemeNow, schemeAllowed, namedRows, speaking, spoken, Speech, request, checksum, alarm, kindIn, speechFits, contentsIn, spokenAs}
 use Rattle.conversation.specs.Reading.{conversationOf, startOf, Judged, whole, halted, chainFor, judged, taken, finish, readingToken}
 use Rattle.conversation.specs.Choosing.{openTo, chose, choosing}
-use Rattle.conversation.specs.Runs.{Sized, Call, offer, reply, metadata, speak, read, choose, End, act, turnAfter, moved, Opening, World, world, outcomeAt, next, ends, Entry, run}
+use Rattle.conversation.specs.Runs.{Sized, NegoCall, Call, offer, reply, metadata, speak, read, choose, End, act, turnAfter, moved, Opening, World, world, outcomeAt, next, ends, Entry, run}
 use Rattle.conversation.specs.Logs.{messagesIn, added, logged, Logs, nextLogs, logsBehind, Counted, InStep, EveryRun}
-use Rattle.conversation.specs.Claims.{TwelveNeverRun}
+use Rattle.conversation.specs.Claims.{Arrays, isTest, NoTest, TwelveNeverRun}
 use Rattle.conversation.proofs.Decides.{all-first}
-use Rattle.conversation.proofs.Rows.{decide-out, true-behind}
+use Rattle.conversation.proofs.Rows.{decide-out, back-true, true-behind}
 use Rattle.conversation.proofs.Chosen.{choiceTable, choice-passed}
 use Rattle.conversation.proofs.Tokens.{judged-first, judged-number}
-use Rattle.conversation.proofs.Ends.{ok-distinct, each-whole, sized-at, own-opened, count-joined}
+use Rattle.conversation.proofs.Ends.{ok-distinct, each-whole, sized-at, own-opened, count-joined, length-joined}
+use Rattle.conversation.proofs.Sends.{listed-whole, left-whole, plain-nego}
 use Rattle.conversation.proofs.Inside.{told-below, ChosenBelow, admit-chosen, limits-wrote, limits-taken, limits-chose, limits-counts, now-below, chosen-below, now-chosen}
-use Rattle.conversation.proofs.Messages.{FramedFrom, Framed, framed-more, framed-behind, framed-long, framed-order, join-append, join-one, same-messages, same-start, written-framed, plain-nego, plain-kind, Not12, turn-12, judge-keeps, Taken, token-taken}
+use Rattle.conversation.proofs.Messages.{FramedFrom, Framed, framed-more, framed-behind, framed-long, framed-order, join-append, join-one, same-messages, same-start, Plain, AllPlain, plain-more, plain-behind, written-framed, written-plain, plain-kind, Not12, turn-12, judge-keeps, Taken, token-taken}
 
 -- 1. the invariant of an end
 
@@ -45,6 +46,7 @@ pub record Sound (r : Record) (d : List ℕ) (log : List (List ℕ)) : Type 0 wh
   pub limits : AllTrue (limitRows r)
   pub ids : (k : ℕ) → k < r .count → length (schemeAt r k) ≡ 16
   pub talk : length (r .conversation) ≡ 16
+  pub list : length (r .list) ≡ 256
   framed : FramedFrom 0 log
   used : r .used ≡ length (join log)
   sequence : r .sequence ≡ length log
@@ -73,22 +75,22 @@ type-known false kind = small (eqb kind 1) (omega arith) (small (eqb kind 2) (om
 whole-speech : (s : Speech) (id : List ℕ) → length id ≡ 16 → Whole (contentsIn id s)
 whole-speech (request value) id h = h
 whole-speech (checksum type value) id h = h
-whole-speech (alarm code) id h = h
+whole-speech (alarm a) id h = h
 
 spoken-marks : (r : Record) (s : Speech) → (spokenAs r s .marks ≡ r .marks) × (spokenAs r s .told ≡ r .told)
 spoken-marks r (request value) = (refl, refl)
 spoken-marks r (checksum type value) = (refl, refl)
-spoken-marks r (alarm code) = (refl, refl)
+spoken-marks r (alarm a) = (refl, refl)
 
 -- and is no NEGO
 speech-plain : (s : Speech) → eqb (kindIn s) NEGO ≡ false
 speech-plain (request value) = refl
 speech-plain (checksum type value) = refl
-speech-plain (alarm code) = refl
+speech-plain (alarm a) = refl
 
--- a written message has no critical extension
-abbrev Plain : Record → ℕ → Contents → Type 0
-Plain r kind c = criticalOk (contentOf (shapeOf (typeOf (r .acceptor) kind)) (messageOf r kind c)) ≡ true
+-- a message to write has no critical extension
+abbrev PlainAs : Record → ℕ → Contents → Type 0
+PlainAs r kind c = criticalOk (contentOf (shapeOf (typeOf (r .acceptor) kind)) (messageOf r kind c)) ≡ true
 
 -- a message, written in any record inside its limits that counts its log: `said` is the end's turn so far
 module _ (r : Record) (d said : List ℕ) (le lf : List (List ℕ)) (ok : Sound r d le) (here : InStep said le lf) where
@@ -99,12 +101,25 @@ module _ (r : Record) (d said : List ℕ) (le lf : List (List ℕ)) (ok : Sound 
     sound : Sound (wrote r position (length x) w) (put d (r .used) x) (le ++ (x ∷ []))
     turn : InStep (said ++ x) (le ++ (x ∷ [])) lf
 
-  writes-message : (kind position : ℕ) (c : Contents) (w : WrittenAs) → Whole c → below (r .count) (w .marks) ≡ true → below (r .count) (w .told) ≡ true → Plain r kind c → leb (r .used + length (messageOf r kind c)) (room d) ≡ true → Wrote position (messageOf r kind c) w
-  writes-message kind position c w ids marks told plain fit =
+  -- the message that is written
+  record Written (kind : ℕ) (c : Contents) : Type 0 where
+    framed : Framed (r .sequence) (messageOf r kind c)
+    plain : PlainAs r kind c → Plain (messageOf r kind c)
+
+  message-written : (kind : ℕ) (c : Contents) → Whole c → leb (r .used + length (messageOf r kind c)) (room d) ≡ true → Written kind c
+  message-written kind c ids fit =
+      let (inside, short) = room-kept (r .used) (length (messageOf r kind c)) d fit in
+      let (few, numbers) = limits-counts r (ok .limits) in
+      record {
+        framed = written-framed (heading r kind) c (type-known (r .acceptor) kind) (omega arith) (ok .talk) ids (omega arith);
+        plain = written-plain (heading r kind) c (type-known (r .acceptor) kind) (omega arith) (ok .talk) ids (omega arith);
+      }
+
+  writes-message : (kind position : ℕ) (c : Contents) (w : WrittenAs) → Whole c → below (r .count) (w .marks) ≡ true → below (r .count) (w .told) ≡ true → leb (r .used + length (messageOf r kind c)) (room d) ≡ true → Wrote position (messageOf r kind c) w
+  writes-message kind position c w ids marks told fit =
       let x : List ℕ = messageOf r kind c in
       let (inside, short) = room-kept (r .used) (length x) d fit in
-      let (few, numbers) = limits-counts r (ok .limits) in
-      let a : Framed (r .sequence) x = written-framed (heading r kind) c (type-known (r .acceptor) kind) (omega arith) (ok .talk) ids (omega arith) plain in
+      let a : Framed (r .sequence) x = message-written kind c ids fit .framed in
       let u = ok .used in
       let q : r .sequence ≡ 0 + length le = let s = ok .sequence in omega arith in
       let n = length-append (join le) x in
@@ -114,6 +129,7 @@ module _ (r : Record) (d said : List ℕ) (le lf : List (List ℕ)) (ok : Sound 
           limits = limits-wrote r (ok .limits) position (length x) w marks told (a .long) short;
           ids = ok .ids;
           talk = ok .talk;
+          list = ok .list;
           framed = framed-more 0 le (x ∷ []) (ok .framed) (subst (λ (k : ℕ). Framed k x) q a, tt);
           used = omega arith;
           sequence = let z = length-append le (x ∷ []) in omega arith;
@@ -142,10 +158,11 @@ module _ (e f : End) (le lf : List (List ℕ)) (ok : Sound (e .record-of) (e .tr
     sound : Sound (out .answer .next) (out .transcript) (logged e (f .turn) k out le)
     here-then : InStep (moved e k out .turn) (logged e (f .turn) k out le) lf
     there-then : InStep (f .turn) lf (logged e (f .turn) k out le)
-    unclosed : Not12 (out .answer .refusal)
+    plain : isTest k ≡ false → AllPlain le → AllPlain (logged e (f .turn) k out le)
+    unclosed : AllPlain lf → Not12 (out .answer .refusal)
 
   stays : (k : Call) (n p : ℕ) → (n ≡ 0 → ⊥) → Not12 n → Goal k (refused r d n p)
-  stays k n p z w = record { sound = rw (ne-eqb n 0 z) ok; here-then = rw (ne-eqb n 0 z) here; there-then = rw (ne-eqb n 0 z) there; unclosed = w }
+  stays k n p z w = record { sound = rw (ne-eqb n 0 z) ok; here-then = rw (ne-eqb n 0 z) here; there-then = rw (ne-eqb n 0 z) there; plain = λ t p. rw (ne-eqb n 0 z) p; unclosed = λ p. w }
 
   stopped : (k : Call) (rows : List Row) → without 0 rows ≡ true → without 12 rows ≡ true → (n : ℕ) → FirstFails n rows → Goal k (refused r d n 0)
   stopped k rows z w n g = stays k n 0 (fails-other 0 rows n z g) (fails-other 12 rows n w g)
@@ -162,25 +179,36 @@ module _ (e f : End) (le lf : List (List ℕ)) (ok : Sound (e .record-of) (e .tr
   }
 
   -- what a writer's table has to give
-  record Given (kind : ℕ) (c : Contents) (w : WrittenAs) : Type 0 where
+  record Given (k : Call) (kind : ℕ) (c : Contents) (w : WrittenAs) : Type 0 where
     whole : Whole c
     marks : below (r .count) (w .marks) ≡ true
     told : below (r .count) (w .told) ≡ true
-    plain : Plain r kind c
+    plain : isTest k ≡ false → PlainAs r kind c
+
+  -- the log behind a message that is written
+  more-plain : (kind : ℕ) (c : Contents) → Whole c → leb (r .used + length (messageOf r kind c)) (room d) ≡ true → PlainAs r kind c → AllPlain le → AllPlain (le ++ (messageOf r kind c ∷ []))
+  more-plain kind c ids fit p u = plain-more le (messageOf r kind c ∷ []) u (message-written r d (e .turn) le lf ok here kind c ids fit .plain p, tt)
 
   writes-call : (k : Call) (kind : ℕ) (rows : List Row) (c : Contents) (w : WrittenAs)
       → added e (f .turn) k ≡ messageOf r kind c ∷ [] → turnAfter e k ≡ e .turn ++ messageOf r kind c
       → without 0 (stageRows r kind ++ thenFits rows r d (messageOf r kind c)) ≡ true
       → without 12 (stageRows r kind ++ thenFits rows r d (messageOf r kind c)) ≡ true
-      → (AllTrue (stageRows r kind ++ thenFits rows r d (messageOf r kind c)) → Given kind c w)
+      → (AllTrue (stageRows r kind ++ thenFits rows r d (messageOf r kind c)) → Given k kind c w)
       → Goal k (decide (stageRows r kind ++ thenFits rows r d (messageOf r kind c)) r d (appended r d (placeAfter r kind) (messageOf r kind c) w))
   writes-call k kind rows c w adds turns z y given =
       let table : List Row = stageRows r kind ++ thenFits rows r d (messageOf r kind c) in
       decide-out (Goal k) table r d (appended r d (placeAfter r kind) (messageOf r kind c) w) (stopped k table z y)
       (λ g.
       let v = given g in
-      let a = writes-message r d (e .turn) le lf ok here kind (placeAfter r kind) c w (v .whole) (v .marks) (v .told) (v .plain) (true-behind (stageRows r kind ++ rows) (fits r d (length (messageOf r kind c))) [] g) in
-      record { sound = rw adds (a .sound); here-then = rw (adds, turns) (a .turn); there-then = rw adds (more-there (messageOf r kind c ∷ [])); unclosed = λ q. omega arith })
+      let fit = true-behind (stageRows r kind ++ rows) (fits r d (length (messageOf r kind c))) [] g in
+      let a = writes-message r d (e .turn) le lf ok here kind (placeAfter r kind) c w (v .whole) (v .marks) (v .told) fit in
+      record {
+        sound = rw adds (a .sound);
+        here-then = rw (adds, turns) (a .turn);
+        there-then = rw adds (more-there (messageOf r kind c ∷ []));
+        plain = λ t u. rw adds (more-plain kind c (v .whole) fit (v .plain t) u);
+        unclosed = λ p q. omega arith;
+      })
 
   -- marks and told as they were
   marks-here : below (r .count) (r .marks) ≡ true
@@ -189,26 +217,44 @@ module _ (e f : End) (le lf : List (List ℕ)) (ok : Sound (e .record-of) (e .tr
   told-here : below (r .count) (r .told) ≡ true
   told-here = let (l1, (l2, (l3, (l4, (l5, (l6, rest)))))) = ok .limits in l6
 
-  offers : (random : Sized 32) → Goal (offer random) (offering r d (random .0))
-  unfolding offering
-  offers random =
-      writes-call (offer random) NEGO (offerRows r) (ofNego (record { random = random .0; schemes = take (16 * r .count) (r .list) })) (unchanged r) refl refl refl refl
-      (λ g. record { whole = random .1; marks = marks-here; told = told-here; plain = plain-nego (heading r NEGO) _ _ (ok .talk) (random .1) })
+  arrays-here : Arrays r
+  arrays-here = record { list = ok .list; conversation = ok .talk }
 
-  replies : (m : ℕ) (random : Sized 32) → Goal (reply m random) (replying r d m (random .0))
+  offers : (nego : NegoCall) → Goal (offer nego) (offering r d (nego .0))
+  unfolding offering
+  offers nego =
+      writes-call (offer nego) NEGO (offerRows r (nego .0)) (negoIn (nego .0) (take (16 * r .count) (r .list))) (unchanged r) refl refl refl refl
+      (λ g.
+      let more : List Row = thenFits (offerRows r (nego .0)) r d (offered r (nego .0)) in
+      let (is-initiator, (x25, (x26, (fit, end)))) = back-true (stageRows r NEGO) more g in
+      record {
+        whole = nego .1 .random;
+        marks = marks-here;
+        told = told-here;
+        plain = λ t. plain-nego r d (arrays-here) (ok .limits) nego (x25, (x26, tt)) t _ (listed-whole r d arrays-here (ok .limits)) fit;
+      })
+
+  replies : (m : ℕ) (nego : NegoCall) → Goal (reply m nego) (replying r d m (nego .0))
   unfolding replying
-  replies m random =
+  replies m nego =
       let l : List Id = left (ownOf r) (r .common) m in
-      let x : List ℕ = replyMessage r m (random .0) in
+      let x : List ℕ = replyMessage r m (nego .0) in
       let w : WrittenAs = record { marks = m; told = r .told; asked = r .asked; verified = r .verified } in
       let before : List Row = stageRows r NEGO ++ (row 18 (r .acceptor) ∷ []) in
-      let last : List Row = row 17 (someLeft l) ∷ fits r d (length x) ∷ [] in
-      decide-out (Goal (reply m random)) (before ++ (row 19 (below (r .count) m) ∷ last)) r d (naming l (appended r d (placeAfter r NEGO) x w))
-      (stopped (reply m random) (before ++ (row 19 (below (r .count) m) ∷ last)) refl refl)
+      let last : List Row = extensionRows (nego .0) ++ (row 17 (someLeft l) ∷ fits r d (length x) ∷ []) in
+      decide-out (Goal (reply m nego)) (before ++ (row 19 (below (r .count) m) ∷ last)) r d (naming l (appended r d (placeAfter r NEGO) x w))
+      (stopped (reply m nego) (before ++ (row 19 (below (r .count) m) ∷ last)) refl refl)
       (λ g.
-      let a = writes-message r d (e .turn) le lf ok here NEGO (placeAfter r NEGO) (ofNego (record { random = random .0; schemes = joinIds l })) w (random .1) (true-behind before (row 19 (below (r .count) m)) last g) told-here (plain-nego (heading r NEGO) _ _ (ok .talk) (random .1))
-      (true-behind (before ++ (row 19 (below (r .count) m) ∷ row 17 (someLeft l) ∷ [])) (fits r d (length x)) [] g) in
-      record { sound = a .sound; here-then = a .turn; there-then = more-there (x ∷ []); unclosed = λ q. omega arith })
+      let (marks, (x25, (x26, (some-left, (fit, end))))) = back-true before (row 19 (below (r .count) m) ∷ last) g in
+      let c : Contents = negoIn (nego .0) (joinIds l) in
+      let a = writes-message r d (e .turn) le lf ok here NEGO (placeAfter r NEGO) c w (nego .1 .random) marks told-here fit in
+      record {
+        sound = a .sound;
+        here-then = a .turn;
+        there-then = more-there (x ∷ []);
+        plain = λ t u. more-plain NEGO c (nego .1 .random) fit (plain-nego r d arrays-here (ok .limits) nego (x25, (x26, tt)) t (joinIds l) (left-whole r d arrays-here (ok .limits) m) fit) u;
+        unclosed = λ p q. omega arith;
+      })
 
   tells : (id : Sized 16) (value : List ℕ) → Goal (metadata id value) (writingMetadata r d (id .0) value)
   unfolding writingMetadata
@@ -219,22 +265,22 @@ module _ (e f : End) (le lf : List (List ℕ)) (ok : Sound (e .record-of) (e .tr
         whole = id .1;
         marks = marks-here;
         told = told-below r (id .0) (true-behind (stageRows r METADATA ++ (row 19 (leb 1 (length value)) ∷ [])) (row 15 (metadataAllowed r (id .0))) (fits r d (length (metadataMessage r (id .0) value)) ∷ []) g) told-here;
-        plain = plain-kind (r .acceptor) METADATA _ refl;
+        plain = λ t. plain-kind (r .acceptor) METADATA _ refl;
       })
 
   -- the rule's scheme has 16 octets
-  now-whole : (kind : ℕ) (more : List Row) → AllTrue (stageRows r kind ++ (row 15 (schemeAllowed r) ∷ more)) → length (schemeAt r (schemeNow r)) ≡ 16
-  now-whole kind more g = ok .ids (schemeNow r) (now-below r (true-behind (stageRows r kind) (row 15 (schemeAllowed r)) more g))
+  now-whole : (kind : ℕ) (fit : Bool) (more : List Row) → AllTrue (stageRows r kind ++ (row 25 fit ∷ row 15 (schemeAllowed r) ∷ more)) → length (schemeAt r (schemeNow r)) ≡ 16
+  now-whole kind fit more g = ok .ids (schemeNow r) (now-below r (true-behind (stageRows r kind ++ (row 25 fit ∷ [])) (row 15 (schemeAllowed r)) more g))
 
   speaks : (s : Speech) → Goal (speak s) (speaking r d s)
   unfolding speaking
   speaks s =
-      writes-call (speak s) (kindIn s) (namedRows r) (contentsIn (schemeAt r (schemeNow r)) s) (spokenAs r s) refl refl refl refl
+      writes-call (speak s) (kindIn s) (namedRows r (speechFits s)) (contentsIn (schemeAt r (schemeNow r)) s) (spokenAs r s) refl refl refl refl
       (λ g. record {
-        whole = whole-speech s (schemeAt r (schemeNow r)) (now-whole (kindIn s) (fits r d (length (spoken r s)) ∷ []) g);
+        whole = whole-speech s (schemeAt r (schemeNow r)) (now-whole (kindIn s) (speechFits s) (fits r d (length (spoken r s)) ∷ []) g);
         marks = subst (λ (m : ℕ). below (r .count) m ≡ true) (sym (spoken-marks r s .0)) marks-here;
         told = subst (λ (m : ℕ). below (r .count) m ≡ true) (sym (spoken-marks r s .1)) told-here;
-        plain = plain-kind (r .acceptor) (kindIn s) _ (speech-plain s);
+        plain = λ t. plain-kind (r .acceptor) (kindIn s) _ (speech-plain s);
       })
 
   -- 3. a token, read
@@ -286,6 +332,7 @@ module _ (e f : End) (le lf : List (List ℕ)) (ok : Sound (e .record-of) (e .tr
         limits = limits-taken r (ok .limits) t n c (chosen-then n c w) long short;
         ids = ok .ids;
         talk = talk-then n c w;
+        list = ok .list;
         framed = framed-more 0 le ms (ok .framed) (subst (λ (j : ℕ). FramedFrom j ms) q (k .framed));
         used = let z = length-append (join le) (join ms) in let y = ap length (join-append le ms) in omega arith;
         sequence = let z = length-append le ms in omega arith;
@@ -306,7 +353,7 @@ module _ (e f : End) (le lf : List (List ℕ)) (ok : Sound (e .record-of) (e .tr
   -- no limit looks at the stage
   shut-sound : (n : ℕ) → Sound (closedBy n r) d le
   shut-sound n = elim (which (eqb n 12)) [
-    | inl h ↦ rw h (record { limits = ok .limits; ids = ok .ids; talk = ok .talk; framed = ok .framed; used = ok .used; sequence = ok .sequence; transcript = ok .transcript })
+    | inl h ↦ rw h (record { limits = ok .limits; ids = ok .ids; talk = ok .talk; list = ok .list; framed = ok .framed; used = ok .used; sequence = ok .sequence; transcript = ok .transcript })
     | inr h ↦ rw h ok
   ]
 
@@ -319,12 +366,18 @@ module _ (e f : End) (le lf : List (List ℕ)) (ok : Sound (e .record-of) (e .tr
       (λ g. token (judged r t) refl) where
         token : (j : Judged) → judged r t ≡ j → Goal read (finish r d t j)
         token (halted n p) w = unfold finish in (
-            let z = turn-12 r t (0 + length (there .shared)) (there .own) (framed-behind 0 (there .shared) (there .own) (subst (FramedFrom 0) (there .parts) (ok′ .framed))) (there .written) n p w in
             let y = ne-eqb n 0 (judged-number r t n p w .0) in
-            record { sound = rw y (shut-sound n); here-then = rw y here; there-then = rw y there; unclosed = z })
+            record {
+              sound = rw y (shut-sound n);
+              here-then = rw y here;
+              there-then = rw y there;
+              plain = λ x u. rw y u;
+              unclosed = λ u. turn-12 r t (0 + length (there .shared)) (there .own) (framed-behind 0 (there .shared) (there .own) (subst (FramedFrom 0) (there .parts) (ok′ .framed)))
+                  (plain-behind (there .shared) (there .own) (subst AllPlain (there .parts) u)) (there .written) n p w;
+            })
         token (whole n c) w = unfold finish in elim (which (leb (r .used + length t) (room d))) [
           | inr b ↦ rw b (stays read 16 0 (λ z. omega arith) (λ z. omega arith))
-          | inl b ↦ rw b (record { sound = reads-token n c w b; here-then = read-here n c w; there-then = more-there ms; unclosed = λ z. omega arith })
+          | inl b ↦ rw b (record { sound = reads-token n c w b; here-then = read-here n c w; there-then = more-there ms; plain = λ x u. plain-more le ms u (token-taken r t n c w .plain); unclosed = λ u z. omega arith })
         ]
 
   -- 4. the choice
@@ -345,19 +398,27 @@ module _ (e f : End) (le lf : List (List ℕ)) (ok : Sound (e .record-of) (e .tr
         limits = limits-chose r (ok .limits) m role (p .marks);
         ids = ok .ids;
         talk = ok .talk;
+        list = ok .list;
         framed = ok .framed;
         used = ok .used;
         sequence = ok .sequence;
         transcript = ok .transcript;
       } in
-      let a = writes-message q d (e .turn) le lf between here (kindIn s) (placeAfter q (kindIn s)) (contentsIn (schemeAt q (schemeNow q)) s) (spokenAs q s)
-      (whole-speech s _ whole) (rw (spoken-marks q s .0) (p .marks)) (rw (spoken-marks q s .1) told-here) (plain-kind (q .acceptor) (kindIn s) _ (speech-plain s)) (p .fitting) in
-      record { sound = a .sound; here-then = a .turn; there-then = more-there (x ∷ []); unclosed = λ z. omega arith })
+      let c : Contents = contentsIn (schemeAt q (schemeNow q)) s in
+      let a = writes-message q d (e .turn) le lf between here (kindIn s) (placeAfter q (kindIn s)) c (spokenAs q s)
+      (whole-speech s _ whole) (rw (spoken-marks q s .0) (p .marks)) (rw (spoken-marks q s .1) told-here) (p .fitting) in
+      record {
+        sound = a .sound;
+        here-then = a .turn;
+        there-then = more-there (x ∷ []);
+        plain = λ t u. plain-more le (x ∷ []) u (message-written q d (e .turn) le lf between here (kindIn s) c (whole-speech s _ whole) (p .fitting) .plain (plain-kind (q .acceptor) (kindIn s) _ (speech-plain s)), tt);
+        unclosed = λ u z. omega arith;
+      })
 
   goal : (k : Call) → Goal k (act e (f .turn) k)
   unfolding act
-  goal (offer random) = offers random
-  goal (reply m random) = replies m random
+  goal (offer nego) = offers nego
+  goal (reply m nego) = replies m nego
   goal (metadata id value) = tells id value
   goal (speak s) = speaks s
   goal read = reading-call
@@ -371,25 +432,35 @@ pub record Both (w : World) (l : Logs) : Type 0 where
   i-steps : InStep (w .i .turn) (l .i) (l .a)
   a-steps : InStep (w .a .turn) (l .a) (l .i)
 
-pub both-next : (w : World) (l : Logs) → Both w l → (x : Bool) (k : Call) → Both (next w x k) (nextLogs w x k l) × Not12 (outcomeAt w x k .answer .refusal)
-both-next w l b false k =
+-- one call: both ends, and where it is no test their logs stay without a critical extension, so that it is not refused with 12
+record Next (w : World) (l : Logs) (x : Bool) (k : Call) : Type 0 where
+  both : Both (next w x k) (nextLogs w x k l)
+  plain : isTest k ≡ false → AllPlain (l .i) → AllPlain (l .a) → AllPlain (nextLogs w x k l .i) × AllPlain (nextLogs w x k l .a)
+  unclosed : AllPlain (l .i) → AllPlain (l .a) → Not12 (outcomeAt w x k .answer .refusal)
+
+goes-on : (w : World) (l : Logs) → Both w l → (x : Bool) (k : Call) → Next w l x k
+goes-on w l b false k =
     let g = goal (w .i) (w .a) (l .i) (l .a) (b .i) (b .a) (b .i-steps) (b .a-steps) k in
-    (record { i = g .sound; a = b .a; i-steps = g .here-then; a-steps = g .there-then }, g .unclosed)
-both-next w l b true k =
+    record { both = record { i = g .sound; a = b .a; i-steps = g .here-then; a-steps = g .there-then }; plain = λ t u v. (g .plain t u, v); unclosed = λ u v. g .unclosed v }
+goes-on w l b true k =
     let g = goal (w .a) (w .i) (l .a) (l .i) (b .a) (b .i) (b .a-steps) (b .i-steps) k in
-    (record { i = b .i; a = g .sound; i-steps = g .there-then; a-steps = g .here-then }, g .unclosed)
+    record { both = record { i = b .i; a = g .sound; i-steps = g .there-then; a-steps = g .here-then }; plain = λ t u v. (u, g .plain t v); unclosed = λ u v. g .unclosed u }
+
+pub both-next : (w : World) (l : Logs) → Both w l → (x : Bool) (k : Call) → Both (next w x k) (nextLogs w x k l)
+both-next w l b x k = goes-on w l b x k .both
 
 both-behind : (w : World) (l : Logs) → Both w l → (cs : List (Bool × Call)) → Both (ends w cs) (logsBehind w l cs)
 both-behind w l b [] = b
-both-behind w l b (c ∷ cs) = both-behind (next w (c .0) (c .1)) (nextLogs w (c .0) (c .1) l) (both-next w l b (c .0) (c .1) .0) cs
+both-behind w l b (c ∷ cs) = both-behind (next w (c .0) (c .1)) (nextLogs w (c .0) (c .1) l) (both-next w l b (c .0) (c .1)) cs
 
-run-12 : (w : World) (l : Logs) → Both w l → (cs : List (Bool × Call)) (x : Entry) → List·Memᴰ x (run w cs) → Not12 (x .said .refusal)
-run-12 w l b [] x m = absurd (List·Memᴰ·not-nil m)
-run-12 w l b (c ∷ cs) x m =
-    let n = both-next w l b (c .0) (c .1) in
+run-12 : (w : World) (l : Logs) → Both w l → AllPlain (l .i) → AllPlain (l .a) → (cs : List (Bool × Call)) → NoTest cs → (x : Entry) → List·Memᴰ x (run w cs) → Not12 (x .said .refusal)
+run-12 w l b u v [] t x m = absurd (List·Memᴰ·not-nil m)
+run-12 w l b u v (c ∷ cs) t x m =
+    let n = goes-on w l b (c .0) (c .1) in
+    let p = n .plain (t (c .0) (c .1) (List·Memᴰ·head refl)) u v in
     elim (List·Memᴰ·cases-cons m) [
-      | inl e ↦ subst (λ (y : Entry). Not12 (y .said .refusal)) (sym e) (n .1)
-      | inr i ↦ run-12 (next w (c .0) (c .1)) (nextLogs w (c .0) (c .1) l) (n .0) cs x i
+      | inl e ↦ subst (λ (y : Entry). Not12 (y .said .refusal)) (sym e) (n .unclosed u v)
+      | inr i ↦ run-12 (next w (c .0) (c .1)) (nextLogs w (c .0) (c .1) l) (n .both) (p .0) (p .1) cs (λ y k h. t y k (List·Memᴰ·tail h)) x i
     ]
 
 -- a fresh record
@@ -412,6 +483,7 @@ sound-fresh a l v d sized ok talk =
       );
       ids = λ k low. ap (λ (i : List Id). length (getD i k [])) own ∙ sized-at l sized k (subst (λ (j : ℕ). k < j) n low);
       talk = talk;
+      list = length-append (joinIds l) (replicate (256 - length (joinIds l)) 0) ∙ rw (length-replicate {A = ℕ} (256 - length (joinIds l)) 0) (let k = leb-true (length l) 16 (and-r (leb 1 (length l)) (leb (length l) 16) few) in omega (arith, length-joined l sized));
       framed = tt;
       used = refl;
       sequence = refl;
@@ -448,4 +520,4 @@ every-run o cs =
     record { initiator = counted _ _ _ (b .i); acceptor = counted _ _ _ (b .a); initiator-in-step = b .i-steps; acceptor-in-step = b .a-steps }
 
 pub twelve-never-run : TwelveNeverRun
-twelve-never-run o cs x m = run-12 (world o) (record { i = []; a = [] }) (both-opened o) cs x m
+twelve-never-run o cs t x m = run-12 (world o) (record { i = []; a = [] }) (both-opened o) tt tt cs t x m

@@ -43,7 +43,6 @@ pub record Framed (q : ℕ) (m : List ℕ) : Type 0 where
   pub long : 64 ≤ length m
   pub exact : (rest : List ℕ) → size (m ++ rest) ≡ length m
   pub number : (rest : List ℕ) → headOf (m ++ rest) .sequence ≡ q
-  pub plain : (rest : List ℕ) → criticalOk (contentOf (shapeOf (headOf (m ++ rest) .kind)) m) ≡ true
 
 -- messages numbered on from q
 abbrev pub FramedFrom : ℕ → List (List ℕ) → Type 0
@@ -69,6 +68,22 @@ framed-long q (m ∷ ms) a = let h = framed-long (q + 1) ms (a .1) in let l = a 
 pub framed-order : (q : ℕ) (ms : List (List ℕ)) → FramedFrom q ms → InOrder q ms
 framed-order q [] a = tt
 framed-order q (m ∷ ms) a = (ap (λ (s : List ℕ). headOf s .sequence) (sym (append-nil m)) ∙ a .0 .number [], framed-order (q + 1) ms (a .1))
+
+-- messages without a critical extension
+abbrev pub Plain : List ℕ → Type 0
+Plain m = (rest : List ℕ) → criticalOk (contentOf (shapeOf (headOf (m ++ rest) .kind)) m) ≡ true
+
+abbrev pub AllPlain : List (List ℕ) → Type 0
+AllPlain [] = Unit {0}
+AllPlain (m ∷ ms) = Plain m × AllPlain ms
+
+pub plain-more : (ms ns : List (List ℕ)) → AllPlain ms → AllPlain ns → AllPlain (ms ++ ns)
+plain-more [] ns a b = b
+plain-more (m ∷ ms) ns a b = (a .0, plain-more ms ns (a .1) b)
+
+pub plain-behind : (ms ns : List (List ℕ)) → AllPlain (ms ++ ns) → AllPlain ns
+plain-behind [] ns a = a
+plain-behind (m ∷ ms) ns a = plain-behind ms ns (a .1)
 
 pub join-append : (ms ns : List (List ℕ)) → join (ms ++ ns) ≡ join ms ++ join ns
 join-append [] ns = refl
@@ -118,8 +133,7 @@ least (ofExchange p) = omega arith
 least (ofVerify k) = omega arith
 least (ofAlert p) = omega arith
 
-module _ (h : Heading) (c : Contents) (known : h .kind .0 ≤ 7) (number : h .sequence < 4294967296) (id : length (h .conversation) ≡ 16) (w : Whole c) (short : length (encoded h c) ≤ 65535)
-    (plain : criticalOk (contentOf (shapeOf (h .kind .0)) (encoded h c)) ≡ true) where
+module _ (h : Heading) (c : Contents) (known : h .kind .0 ≤ 7) (number : h .sequence < 4294967296) (id : length (h .conversation) ≡ 16) (w : Whole c) (short : length (encoded h c) ≤ 65535) where
   head-written : (rest : List ℕ) → headOf (encoded h c ++ rest) ≡ record { signature = SIGNATURE; kind = h .kind .0; sequence = h .sequence; header = headerOf (shapeOf (h .kind .0)); length = sizeOf c; conversation = h .conversation }
   unfolding encoded
   head-written rest =
@@ -135,21 +149,12 @@ module _ (h : Heading) (c : Contents) (known : h .kind .0 ≤ 7) (number : h .se
         long = omega (arith, least c);
         exact = λ rest. ap (λ (g : Head). g .length) (head-written rest) ∙ sym n;
         number = λ rest. ap (λ (g : Head). g .sequence) (head-written rest);
-        plain = λ rest. ap (λ (g : Head). criticalOk (contentOf (shapeOf (g .kind)) (encoded h c))) (head-written rest) ∙ plain;
       }
 
--- a written NEGO has no extension, and no other kind of message has any
-none-written : (h : Heading) (o : Offer) → length (h .conversation) ≡ 16 → length (o .random) ≡ 32 → le 2 (encoded h (ofNego o)) 92 ≡ 0
-unfolding encoded
-none-written h o id w = number-at 12 92 (headFields h (sizeOf (ofNego o)) ++ bodyFields (ofNego o)) (simp (length-append, id, w)) 2 0 _ refl (omega arith)
+  pub written-plain : criticalOk (contentOf (shapeOf (h .kind .0)) (encoded h c)) ≡ true → Plain (encoded h c)
+  written-plain plain rest = ap (λ (g : Head). criticalOk (contentOf (shapeOf (g .kind)) (encoded h c))) (head-written rest) ∙ plain
 
-pub plain-nego : (h : Heading) (o : Offer) (s : Shape) → length (h .conversation) ≡ 16 → Whole (ofNego o) → criticalOk (contentOf s (encoded h (ofNego o))) ≡ true
-unfolding contentOf elementsAt noneCritical
-plain-nego h o nego id w = simp (none-written h o id w)
-plain-nego h o exchange id w = refl
-plain-nego h o verify id w = refl
-plain-nego h o alert id w = refl
-
+-- no kind of message but a NEGO has extensions
 pub plain-kind : (a : Bool) (kind : ℕ) (m : List ℕ) → eqb kind NEGO ≡ false → criticalOk (contentOf (shapeOf (typeOf a kind)) m) ≡ true
 unfolding typeOf shapeOf contentOf
 plain-kind true kind m e = rw e (go (eqb kind 2) (eqb kind 3) (eqb kind 4)) where
@@ -199,9 +204,15 @@ numbered-framed q v (m ∷ ms) e = (
     long = message-length q v m (e .0);
     exact = λ rest. ap (λ (g : Head). g .length) (message-head q v m rest (e .0)) ∙ e .0 .exact;
     number = λ rest. ap (λ (g : Head). g .sequence) (message-head q v m rest (e .0)) ∙ message-order q v m (e .0) .0;
-    plain = λ rest. ap (λ (g : Head). criticalOk (contentOf (shapeOf (g .kind)) m)) (message-head q v m rest (e .0)) ∙ passed-plain q v m (e .0);
   },
   numbered-framed (q + 1) v ms (e .1),
+)
+
+numbered-plain : (q : ℕ) (v : List ℕ) (ms : List (List ℕ)) → Numbered q v ms → AllPlain ms
+numbered-plain q v [] e = tt
+numbered-plain q v (m ∷ ms) e = (
+  λ rest. ap (λ (g : Head). criticalOk (contentOf (shapeOf (g .kind)) m)) (message-head q v m rest (e .0)) ∙ passed-plain q v m (e .0),
+  numbered-plain (q + 1) v ms (e .1),
 )
 
 -- a chain without a refusal
@@ -259,6 +270,7 @@ pub record Taken (r : Record) (t : List ℕ) (n : ℕ) : Type 0 where
   pub some : 0 < length t
   pub joins : join (messagesIn (chainFor r t)) ≡ t
   pub framed : FramedFrom (r .sequence) (messagesIn (chainFor r t))
+  pub plain : AllPlain (messagesIn (chainFor r t))
   pub count : n ≡ length (messagesIn (chainFor r t))
 
 pub token-taken : (r : Record) (t : List ℕ) (n : ℕ) (c : Scan) → judged r t ≡ whole n c → Taken r t n
@@ -274,10 +286,11 @@ token-taken r (x ∷ t) n c e =
       some = omega arith;
       joins = ap (λ (h : Chain). join (messagesIn h)) is ∙ g .joins;
       framed = subst (λ (h : Chain). FramedFrom (r .sequence) (messagesIn h)) (sym is) (numbered-framed (r .sequence) v (messagesIn (chainOf (x ∷ t) 0 0 (r .sequence) v)) (g .numbered));
+      plain = subst (λ (h : Chain). AllPlain (messagesIn h)) (sym is) (numbered-plain (r .sequence) v (messagesIn (chainOf (x ∷ t) 0 0 (r .sequence) v)) (g .numbered));
       count = let h = k .count in omega arith;
     }
 
--- 5. messages that are written are never refused with 12
+-- 5. messages without a critical extension are never refused with 12
 
 abbrev pub Not12 : ℕ → Type 0
 Not12 n = n ≡ 12 → ⊥
@@ -286,17 +299,17 @@ without-12 : (s : List ℕ) (q : ℕ) (v : List ℕ) → without 12 (before-12 s
 unfolding commonRows orderRows
 without-12 s q v = refl
 
-never-12 : (m rest : List ℕ) (p q : ℕ) (v : List ℕ) → Framed p m → (n : ℕ) → FirstFails n (nextRows (m ++ rest) q v) → Not12 n
-never-12 m rest p q v f n g e =
+never-12 : (m rest : List ℕ) (p q : ℕ) (v : List ℕ) → Framed p m → Plain m → (n : ℕ) → FirstFails n (nextRows (m ++ rest) q v) → Not12 n
+never-12 m rest p q v f u n g e =
     let s : List ℕ = m ++ rest in
     let h : FirstFails n (before-12 s q v ++ (row 12 (critical-row s) ∷ behind-12 s)) = subst (FirstFails n) (next-12 s q v) g in
     let is : front s ≡ m = ap (λ (k : ℕ). take k s) (f .exact rest) ∙ take-at m rest (length m) refl in
-    let plain : critical-row s ≡ true = ap (λ (l : List ℕ). criticalOk (contentOf (shapeOf (headOf s .kind)) l)) is ∙ f .plain rest in
+    let plain : critical-row s ≡ true = ap (λ (l : List ℕ). criticalOk (contentOf (shapeOf (headOf s .kind)) l)) is ∙ u rest in
     no-true (sym (fails-one 12 (before-12 s q v) (critical-row s) (behind-12 s) n (without-12 s q v) refl h e .1) ∙ plain)
 
-chain-12 : (p : ℕ) (ms : List (List ℕ)) → FramedFrom p ms → (place q : ℕ) (v : List ℕ) → Numbers Not12 (chainOf (join ms) 0 place q v)
-chain-12 p [] f place q v = unfold chainOf in tt
-chain-12 p (m ∷ ms) f place q v = go (which (passes (m ++ join ms) q v)) (chain-12 (p + 1) ms (f .1) (place + length m) (q + 1) v) where
+chain-12 : (p : ℕ) (ms : List (List ℕ)) → FramedFrom p ms → AllPlain ms → (place q : ℕ) (v : List ℕ) → Numbers Not12 (chainOf (join ms) 0 place q v)
+chain-12 p [] f u place q v = unfold chainOf in tt
+chain-12 p (m ∷ ms) f u place q v = go (which (passes (m ++ join ms) q v)) (chain-12 (p + 1) ms (f .1) (u .1) (place + length m) (q + 1) v) where
   go : (passes (m ++ join ms) q v ≡ true) ⊎ (passes (m ++ join ms) q v ≡ false) → Numbers Not12 (chainOf (join ms) 0 (place + length m) (q + 1) v) → Numbers Not12 (chainOf (m ++ join ms) 0 place q v)
   go (inl e) ih =
       let z : size (m ++ join ms) ≡ length m = f .0 .exact (join ms) in
@@ -305,12 +318,12 @@ chain-12 p (m ∷ ms) f place q v = go (which (passes (m ++ join ms) q v)) (chai
       subst (Numbers Not12) (sym (turn-pass place q v (m ++ join ms) e)) (subst (Numbers Not12) (sym same) ih)
   go (inr e) ih =
       let some : 0 < length (m ++ join ms) = (let l = f .0 .long in omega (arith, length-append m (join ms))) in
-      subst (Numbers Not12) (sym (turn-fail place q v (m ++ join ms) some e)) (never-12 m (join ms) p q v (f .0) _ (refuses-first (nextRows (m ++ join ms) q v) e))
+      subst (Numbers Not12) (sym (turn-fail place q v (m ++ join ms) some e)) (never-12 m (join ms) p q v (f .0) (u .0) _ (refuses-first (nextRows (m ++ join ms) q v) e))
 
-pub turn-12 : (r : Record) (t : List ℕ) (p : ℕ) (ms : List (List ℕ)) → FramedFrom p ms → join ms ≡ t → (n place : ℕ) → judged r t ≡ halted n place → Not12 n
-turn-12 r t p ms f is n place e = judged-numbers Not12 (λ z. omega arith) (λ z. omega arith) r t (numbers t is) n place e where
+pub turn-12 : (r : Record) (t : List ℕ) (p : ℕ) (ms : List (List ℕ)) → FramedFrom p ms → AllPlain ms → join ms ≡ t → (n place : ℕ) → judged r t ≡ halted n place → Not12 n
+turn-12 r t p ms f u is n place e = judged-numbers Not12 (λ z. omega arith) (λ z. omega arith) r t (numbers t is) n place e where
   numbers : (s : List ℕ) → join ms ≡ s → Numbers Not12 (chainFor r s)
   numbers [] is = λ z. omega arith
   numbers (x ∷ s) is =
       let some : length (x ∷ s) ≡ 0 → ⊥ = λ z. omega arith in
-      rw (ne-eqb _ _ some) (subst (λ (l : List ℕ). Numbers Not12 (chainOf l 0 0 (r .sequence) (conversationOf r (x ∷ s)))) is (chain-12 p ms f 0 (r .sequence) (conversationOf r (x ∷ s))))
+      rw (ne-eqb _ _ some) (subst (λ (l : List ℕ). Numbers Not12 (chainOf l 0 0 (r .sequence) (conversationOf r (x ∷ s)))) is (chain-12 p ms f u 0 (r .sequence) (conversationOf r (x ∷ s))))

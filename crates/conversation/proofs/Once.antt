@@ -19,10 +19,10 @@ use Rattle.conversation.specs.declared.Scan.{Scan}
 use Rattle.conversation.specs.State.{closed, ownOf, limitRows}
 use Rattle.conversation.specs.Turns.{NEGO, METADATA, writing, reading, writes, placeAfter, mayWrite}
 use Rattle.conversation.specs.Outcomes.{Outcome, refused, closedBy, decide, row, room, fits, WrittenAs, appended, wrote}
-use Rattle.conversation.specs.Writing.{stageRows, thenFits, offered, offerRows, offering, someLeft, replyMessage, replyRows, naming, replying, metadataMessage, metadataRows, writingMetadata, namedRows, speaking, spoken, Speech, kindIn, spokenAs}
+use Rattle.conversation.specs.Writing.{extensionRows, stageRows, thenFits, offered, offerRows, offering, someLeft, replyMessage, replyRows, naming, replying, metadataMessage, metadataRows, writingMetadata, namedRows, speaking, spoken, Speech, kindIn, speechFits, spokenAs}
 use Rattle.conversation.specs.Reading.{Judged, whole, halted, judged, taken, finish, tokenRows, readingToken}
 use Rattle.conversation.specs.Choosing.{mayChoose, chose, choosing}
-use Rattle.conversation.specs.Runs.{Sized, Call, offer, reply, metadata, speak, read, choose, End, act, World, world, outcomeAt, next, Entry, run, isAccepted}
+use Rattle.conversation.specs.Runs.{Sized, NegoCall, Call, offer, reply, metadata, speak, read, choose, End, act, World, world, outcomeAt, next, Entry, run, isAccepted}
 use Rattle.conversation.specs.Claims.{atEnd, acceptedAt, withMarks, MarksOnce}
 use Rattle.message.proofs.Tables.{without, fails-other}
 use Rattle.conversation.proofs.Rows.{decide-out, true-behind}
@@ -89,20 +89,20 @@ module _ (x : Bool) (r : Record) (d : List ℕ) (role : r .acceptor ≡ x) where
         spent st p (inr (inl s)) = omega arith
         spent st p (inr (inr s)) = omega arith
 
-  write-reply : (m : ℕ) (random : Sized 32) → Goes (reply m random) (replying r d m (random .0))
+  write-reply : (m : ℕ) (nego : NegoCall) → Goes (reply m nego) (replying r d m (nego .0))
   unfolding replying
-  write-reply m random =
+  write-reply m nego =
       let l : List Id = left (ownOf r) (r .common) m in
-      let rest : List Row = row 19 (below (r .count) m) ∷ row 17 (someLeft l) ∷ fits r d (length (replyMessage r m (random .0))) ∷ [] in
+      let rest : List Row = row 19 (below (r .count) m) ∷ (extensionRows (nego .0) ++ (row 17 (someLeft l) ∷ fits r d (length (replyMessage r m (nego .0))) ∷ [])) in
       let w : WrittenAs = record { marks = m; told = r .told; asked = r .asked; verified = r .verified } in
-      decide-out (Goes (reply m random)) (stageRows r NEGO ++ thenFits (replyRows r m) r d (replyMessage r m (random .0))) r d (naming l (appended r d (placeAfter r NEGO) (replyMessage r m (random .0)) w))
-      (stopped (reply m random) (stageRows r NEGO ++ thenFits (replyRows r m) r d (replyMessage r m (random .0))) refl)
+      decide-out (Goes (reply m nego)) (stageRows r NEGO ++ thenFits (replyRows r m (nego .0)) r d (replyMessage r m (nego .0))) r d (naming l (appended r d (placeAfter r NEGO) (replyMessage r m (nego .0)) w))
+      (stopped (reply m nego) (stageRows r NEGO ++ thenFits (replyRows r m (nego .0)) r d (replyMessage r m (nego .0))) refl)
       (λ g.
-      let h = true-behind (limitRows r) (row 18 (mayWrite r NEGO)) (thenFits (replyRows r m) r d (replyMessage r m (random .0))) g in
+      let h = true-behind (limitRows r) (row 18 (mayWrite r NEGO)) (thenFits (replyRows r m (nego .0)) r d (replyMessage r m (nego .0))) g in
       record {
         role = role;
-        stays = wrote-stays x NEGO (length (replyMessage r m (random .0))) w h;
-        spends = λ k a. replied x role (true-behind (stageRows r NEGO) (row 18 (r .acceptor)) rest g) h (length (replyMessage r m (random .0))) w;
+        stays = wrote-stays x NEGO (length (replyMessage r m (nego .0))) w h;
+        spends = λ k a. replied x role (true-behind (stageRows r NEGO) (row 18 (r .acceptor)) rest g) h (length (replyMessage r m (nego .0))) w;
       })
 
   chosen : (b : Bool) → r .acceptor ≡ b → mayChoose r ≡ true → (m position n : ℕ) (w : WrittenAs) → (Spent b r → ⊥) × Spent b (wrote (chose r m) position n w)
@@ -154,16 +154,16 @@ module _ (x : Bool) (r : Record) (d : List ℕ) (role : r .acceptor ≡ x) where
 
 behind : (x : Bool) (e : End) (peer : List ℕ) (k : Call) → e .record-of .acceptor ≡ x → Behind x (e .record-of) k (act e peer k .answer)
 unfolding act offering writingMetadata speaking
-behind x e peer (offer random) h =
-    write x (e .record-of) (e .transcript) h (offer random) NEGO
-    (offerRows (e .record-of)) (offered (e .record-of) (random .0)) _ refl refl
-behind x e peer (reply m random) h = write-reply x (e .record-of) (e .transcript) h m random
+behind x e peer (offer nego) h =
+    write x (e .record-of) (e .transcript) h (offer nego) NEGO
+    (offerRows (e .record-of) (nego .0)) (offered (e .record-of) (nego .0)) _ refl refl
+behind x e peer (reply m nego) h = write-reply x (e .record-of) (e .transcript) h m nego
 behind x e peer (metadata id value) h =
     write x (e .record-of) (e .transcript) h (metadata id value) METADATA
     (metadataRows (e .record-of) (id .0) (length value)) (metadataMessage (e .record-of) (id .0) value) _ refl refl
 behind x e peer (speak s) h =
     write x (e .record-of) (e .transcript) h (speak s) (kindIn s)
-    (namedRows (e .record-of)) (spoken (e .record-of) s) (spokenAs (e .record-of) s) refl refl
+    (namedRows (e .record-of) (speechFits s)) (spoken (e .record-of) s) (spokenAs (e .record-of) s) refl refl
 behind x e peer read h = read-goes x (e .record-of) (e .transcript) h peer
 behind x e peer (choose m s) h = choose-goes x (e .record-of) (e .transcript) h m s
 

@@ -66,3 +66,7 @@ front-true (x ∷ xs) ys h = (h .0, front-true xs ys (h .1))
 pub back-true : (xs ys : List Row) → AllTrue (xs ++ ys) → AllTrue ys
 back-true [] ys h = h
 back-true (x ∷ xs) ys h = back-true xs ys (h .1)
+
+pub both-true : (xs ys : List Row) → AllTrue xs → AllTrue ys → AllTrue (xs ++ ys)
+both-true [] ys a b = b
+both-true (x ∷ xs) ys a b = (a .0, both-true xs ys (a .1) b)

@@ -12,14 +12,18 @@ use lib.Seq.{length-take-le}
 use lib.Dec.{eqb, leb}
 use borrow.Author.Tests.{leb-true, le-leb, eq-eqb, ne-eqb, not-true}
 use Rattle.octets.proofs.Bools.{no-true, and-i, and-l}
-use Rattle.message.specs.Check.{Row}
+use Rattle.message.specs.Layout.{nego as nego-shape, shapeOf, contentOf}
+use Rattle.message.specs.Check.{Row, criticalOk}
 use Rattle.message.specs.Show.{idsAt}
 use Rattle.message.proofs.Tables.{AllTrue, without, fails-other}
 use Rattle.put.specs.Put.{put}
+use Rattle.elements.specs.Elements.{itemsFit, itemsOf, ordinary}
+use Rattle.elements.proofs.Views.{handed, types-alone}
 use Rattle.encode.specs.declared.Heading.{Heading}
 use Rattle.encode.specs.Encode.{Whole, Contents, ofNego, ofExchange, ofVerify, ofAlert, sizeOf, hasKind, fitsFields, encodable, encoded, written, storing}
 use Rattle.encode.proofs.Sizes.{length-encoded}
-use Rattle.roundtrip.specs.ReadBack.{InRange, Outgoing}
+use Rattle.roundtrip.specs.ReadBack.{InRange, Sent, ReadsBack, Outgoing}
+use Rattle.roundtrip.proofs.Arrays.{critical-read}
 use Rattle.roundtrip.proofs.RoundTrip.{read-encode, stored-stands}
 use Rattle.schemes.specs.Lists.{Id, joinIds}
 use Rattle.schemes.specs.Sets.{left, named}
@@ -27,9 +31,9 @@ use Rattle.conversation.specs.declared.Record.{Record}
 use Rattle.conversation.specs.State.{ownOf, schemeAt, limitRows}
 use Rattle.conversation.specs.Turns.{NEGO, METADATA, typeOf, placeAfter, mayWrite}
 use Rattle.conversation.specs.Outcomes.{Outcome, decide, row, room, fits, appended}
-use Rattle.conversation.specs.Writing.{heading, messageOf, stageRows, thenFits, offerRows, replyRows, metadataRows, namedRows, schemeNow, schemeAllowed, offering, replying, writingMetadata, speaking, Speech, request, checksum, alarm, kindIn, contentsIn, spoken, spokenAs, naming}
+use Rattle.conversation.specs.Writing.{negoIn, extensionRows, heading, messageOf, stageRows, thenFits, offerRows, replyRows, metadataRows, namedRows, schemeNow, schemeAllowed, offering, replying, writingMetadata, speaking, Speech, request, checksum, alarm, kindIn, speechFits, contentsIn, spoken, spokenAs, naming}
 use Rattle.conversation.specs.Choosing.{openTo, chose, choosing}
-use Rattle.conversation.specs.Runs.{Call, offer, reply, metadata, speak, read, choose, End, act, isAccepted}
+use Rattle.conversation.specs.Runs.{NegoCall, Call, offer, reply, metadata, speak, read, choose, End, act, isAccepted}
 use Rattle.conversation.specs.Claims.{Arrays, sentBy, ReadsAsSent, WrittenReads}
 use Rattle.conversation.proofs.Rows.{decide-out, true-behind, front-true, back-true}
 use Rattle.conversation.proofs.Chosen.{choiceTable, choice-passed}
@@ -38,18 +42,18 @@ use Rattle.conversation.proofs.Inside.{now-below, limits-counts, limits
 
 -- 1. a message that has passed 16 fits its fields
 
--- a scheme list is one of whole ids
+-- a scheme list is one of whole ids, and extensions and alerts keep their limits
 abbrev pub WholeIds : Contents → Type 0
-WholeIds (ofNego o) = length (o .schemes) % 16 ≡ 0
+WholeIds (ofNego o) = (length (o .schemes) % 16 ≡ 0) × (itemsFit (o .extensions) ≡ true)
 WholeIds (ofExchange p) = Unit {0}
 WholeIds (ofVerify k) = Unit {0}
-WholeIds (ofAlert p) = Unit {0}
+WholeIds (ofAlert p) = itemsFit (p .alerts) ≡ true
 
 pub fields-fit : (c : Contents) → WholeIds c → sizeOf c ≤ 65535 → fitsFields c ≡ true
-fields-fit (ofNego o) w h = simp (eq-eqb _ _ w, le-leb (length (o .schemes)) 1048560 (omega arith))
+fields-fit (ofNego o) w h = simp (eq-eqb _ _ (w .0), le-leb (length (o .schemes)) 1048560 (omega arith), w .1)
 fields-fit (ofExchange p) w h = le-leb (length (p .value)) 4294967231 (omega arith)
 fields-fit (ofVerify k) w h = le-leb (length (k .value)) 4294967215 (omega arith)
-fields-fit (ofAlert p) w h = refl
+fields-fit (ofAlert p) w h = w
 
 stored : (d : List ℕ) (at : ℕ) (h : Heading) (c : Contents) → encodable h c ≡ true → at + length (encoded h c) ≤ length d
     → storing d at h c ≡ written (at + length (encoded h c)) (put d at (encoded h c))
@@ -78,32 +82,46 @@ speech-kinds : (s : Speech) (id : Id) → (hasKind (contentsIn id s) (typeOf tru
 unfolding typeOf
 speech-kinds (request value) id = (refl, refl)
 speech-kinds (checksum type value) id = (refl, refl)
-speech-kinds (alarm code) id = (refl, refl)
+speech-kinds (alarm a) id = (refl, refl)
 
-speech-whole : (s : Speech) (id : Id) → length id ≡ 16 → Whole (contentsIn id s) × WholeIds (contentsIn id s)
-speech-whole (request value) id h = (h, tt)
-speech-whole (checksum type value) id h = (h, tt)
-speech-whole (alarm code) id h = (h, tt)
+speech-whole : (s : Speech) (id : Id) → length id ≡ 16 → speechFits s ≡ true → Whole (contentsIn id s) × WholeIds (contentsIn id s)
+speech-whole (request value) id h f = (h, tt)
+speech-whole (checksum type value) id h f = (h, tt)
+speech-whole (alarm a) id h f = (h, handed (a .alerts) (a .values) f .fit)
 
 -- 2. one law for the six writers: what stands where the table passes reads back
 
 module _ (r : Record) (d : List ℕ) (arrays : Arrays r) where
-  -- a message that has room, put at the transcript's end
+  -- a message that has room can be written, and reads back
+  can-send : (kind : ℕ) (c : Contents) → hasKind c (typeOf true kind) ≡ true → hasKind c (typeOf false kind) ≡ true → AllTrue (limitRows r) → Whole c → WholeIds c
+      → leb (r .used + length (messageOf r kind c)) (room d) ≡ true → Sent (heading r kind) c
+  unfolding encodable
+  can-send kind c of-acceptor of-initiator limits whole ids room-is =
+      let n : length (messageOf r kind c) ≡ sizeOf c = length-encoded (heading r kind) (arrays .conversation) c whole in
+      let fit : r .used + length (messageOf r kind c) ≤ room d = leb-true _ _ room-is in
+      record {
+        can = and-i (hasKind c (typeOf (r .acceptor) kind)) (fitsFields c) (either c kind (r .acceptor) of-acceptor of-initiator) (fields-fit c ids (omega arith));
+        number = omega (arith, limits-counts r limits .1);
+        id = arrays .conversation;
+        whole = whole;
+      }
+
+  pub sent-reads : (kind : ℕ) (c : Contents) → hasKind c (typeOf true kind) ≡ true → hasKind c (typeOf false kind) ≡ true → InRange c → AllTrue (limitRows r) → Whole c → WholeIds c
+      → leb (r .used + length (messageOf r kind c)) (room d) ≡ true → (rest : List ℕ) → ReadsBack (heading r kind) c rest
+  sent-reads kind c of-acceptor of-initiator range limits whole ids room-is = read-encode (heading r kind) c (can-send kind c of-acceptor of-initiator limits whole ids room-is) range
+
+  -- and, put at the transcript's end, stands there
   stands-sent : (kind : ℕ) (c : Contents) → hasKind c (typeOf true kind) ≡ true → hasKind c (typeOf false kind) ≡ true → InRange c → AllTrue (limitRows r) → Whole c → WholeIds c
       → leb (r .used + length (messageOf r kind c)) (room d) ≡ true
       → (o : Outcome) → o .answer .next .used ≡ r .used + length (messageOf r kind c) → o .transcript ≡ put d (r .used) (messageOf r kind c)
       → ReadsAsSent r d (record { heading = heading r kind; contents = c }) o
-  unfolding encodable
   stands-sent kind c of-acceptor of-initiator range limits whole ids room-is o used transcript =
       let h : Heading = heading r kind in
-      let m : List ℕ = messageOf r kind c in
-      let n : length m ≡ sizeOf c = length-encoded h (arrays .conversation) c whole in
-      let fit : r .used + length m ≤ room d = leb-true _ _ room-is in
-      let counts = limits-counts r limits in
-      let can : encodable h c ≡ true = and-i (hasKind c (typeOf (r .acceptor) kind)) (fitsFields c) (either c kind (r .acceptor) of-acceptor of-initiator) (fields-fit c ids (omega arith)) in
+      let fit : r .used + length (messageOf r kind c) ≤ room d = leb-true _ _ room-is in
+      let can = can-send kind c of-acceptor of-initiator limits whole ids room-is .can in
       record {
         stands = stored-stands d (r .used) h c (o .answer .next .used) (o .transcript) (rw (used, transcript) (stored d (r .used) h c can (omega arith)));
-        reads = read-encode h c (record { can = can; number = omega (arith, counts .1); id = arrays .conversation; whole = whole; range = range });
+        reads = sent-reads kind c of-acceptor of-initiator range limits whole ids room-is;
       }
 
   pub sends : (kind : ℕ) (rows : List Row) (c : Contents) (action : Outcome)
@@ -135,17 +153,37 @@ module _ (r : Record) (d : List ℕ) (arrays : Arrays r) where
       let low : schemeNow r < r .count = now-below r allowed in
       sized-at (ownOf r) (own-sized limits) (schemeNow r) (rw (length-idsAt (r .count) (r .list)) low)
 
-  listed-whole : AllTrue (limitRows r) → length (take (16 * r .count) (r .list)) % 16 ≡ 0
+  pub listed-whole : AllTrue (limitRows r) → length (take (16 * r .count) (r .list)) % 16 ≡ 0
   listed-whole limits =
       let (l1, (l2, rest)) = limits in
       let few : r .count ≤ 16 = leb-true _ _ l2 in
       let n : length (take (16 * r .count) (r .list)) ≡ 16 * r .count = length-take-le (16 * r .count) (r .list) (omega (arith, arrays .list)) in
       omega arith
 
-  left-whole : AllTrue (limitRows r) → (m : ℕ) → length (joinIds (left (ownOf r) (r .common) m)) % 16 ≡ 0
+  pub left-whole : AllTrue (limitRows r) → (m : ℕ) → length (joinIds (left (ownOf r) (r .common) m)) % 16 ≡ 0
   left-whole limits m =
       let n = length-joined (left (ownOf r) (r .common) m) (left-sized (ownOf r) (r .common) m (own-sized limits) .0) in
       omega arith
+
+-- a NEGO of a call that is no test has no critical extension
+module _ (r : Record) (d : List ℕ) (arrays : Arrays r) (limits : AllTrue (limitRows r)) (nego : NegoCall) (rows : AllTrue (extensionRows (nego .0))) (test : nego .0 .test ≡ false) where
+  abbrev contents : List ℕ → Contents
+  contents schemes = negoIn (nego .0) schemes
+
+  nego-ordinary : ordinary (itemsOf (nego .0 .extensions) (nego .0 .values)) ≡ true
+  nego-ordinary = sym (types-alone (nego .0 .extensions) (nego .0 .values)) ∙ rw test at (rows .1 .0)
+
+  pub plain-nego : (schemes : List ℕ) → length schemes % 16 ≡ 0 → leb (r .used + length (messageOf r NEGO (contents schemes))) (room d) ≡ true
+      → criticalOk (contentOf (shapeOf (typeOf (r .acceptor) NEGO)) (messageOf r NEGO (contents schemes))) ≡ true
+  unfolding typeOf shapeOf
+  plain-nego schemes ids fit =
+      let q : ℕ = 96 + length schemes + 12 * length (itemsOf (nego .0 .extensions) (nego .0 .values)) in
+      let read = sent-reads r d arrays NEGO (contents schemes) refl refl (nego .1 .types) limits (nego .1 .random) (ids, handed _ _ (rows .0) .fit) fit [] in
+      shaped (r .acceptor) (messageOf r NEGO (contents schemes)) (ap criticalOk (read .content) ∙ critical-read (itemsOf (nego .0 .extensions) (nego .0 .values)) q ∙ nego-ordinary)
+    where
+      shaped : (a : Bool) (m : List ℕ) → criticalOk (contentOf nego-shape m) ≡ true → criticalOk (contentOf (shapeOf (typeOf a NEGO)) m) ≡ true
+      shaped true m e = e
+      shaped false m e = e
 
 -- 3. every call
 
@@ -164,7 +202,7 @@ module _ (e : End) (peer : List ℕ) (arrays : Arrays (e .record-of)) where
   said s = λ range.
       let c : Contents = contentsIn (schemeAt r (schemeNow r)) s in
       let k = speech-kinds s (schemeAt r (schemeNow r)) in
-      sends r d arrays (kindIn s) (namedRows r) c _ refl (k .0) (k .1) range (λ l t. speech-whole s (schemeAt r (schemeNow r)) (now-sized r d arrays l (t .0))) refl refl
+      sends r d arrays (kindIn s) (namedRows r (speechFits s)) c _ refl (k .0) (k .1) range (λ l t. speech-whole s (schemeAt r (schemeNow r)) (now-sized r d arrays l (t .1 .0)) (t .0)) refl refl
 
   -- a choosing call's message is written in the record behind the choice
   chooses : (n : ℕ) (s : Speech) → Reads (choose n s) (record { heading = heading r (kindIn s); contents = contentsIn (schemeAt r (schemeNow (chose r n))) s })
@@ -182,19 +220,19 @@ module _ (e : End) (peer : List ℕ) (arrays : Arrays (e .record-of)) where
       let role : r .acceptor ≡ false = not-true _ (and-l (not (r .acceptor)) (eqb (r .stage) 2) (p .may)) in
       let (l1, (l2, (l3, (l4, (l5, (l6, (l7, rest))))))) = p .limits in
       let then : AllTrue (limitRows q) = limits-chose r (p .limits) n role (p .marks) in
-      let w = speech-whole s id (now-sized q d there then (chosen-allowed r n (rw role at l7) (p .left))) in
+      let w = speech-whole s id (now-sized q d there then (chosen-allowed r n (rw role at l7) (p .left))) (p .keeps) in
       let k = speech-kinds s id in
       let x = stands-sent q d there (kindIn s) (contentsIn id s) (k .0) (k .1) range then (w .0) (w .1) (p .fitting) action refl refl in
       record { stands = x .stands; reads = x .reads })
 
   sent : (k : Call) (m : Outgoing) → sentBy r k ≡ some m → Reads k m
   unfolding act offering replying writingMetadata typeOf
-  sent (offer random) m is = subst (Reads (offer random)) (Option·some-injective _ _ is)
-      (λ range. sends r d arrays NEGO (offerRows r) (ofNego (record { random = random .0; schemes = take (16 * r .count) (r .list) })) _ refl refl refl range
-      (λ l t. (random .1, listed-whole r d arrays l)) refl refl)
-  sent (reply m random) o is = subst (Reads (reply m random)) (Option·some-injective _ _ is)
-      (λ range. sends r d arrays NEGO (replyRows r m) (ofNego (record { random = random .0; schemes = joinIds (left (ownOf r) (r .common) m) })) _ refl refl refl range
-      (λ l t. (random .1, left-whole r d arrays l m)) refl refl)
+  sent (offer nego) m is = subst (Reads (offer nego)) (Option·some-injective _ _ is)
+      (λ range. sends r d arrays NEGO (offerRows r (nego .0)) (negoIn (nego .0) (take (16 * r .count) (r .list))) _ refl refl refl range
+      (λ l t. (nego .1 .random, (listed-whole r d arrays l, handed _ _ (t .1 .0) .fit))) refl refl)
+  sent (reply m nego) o is = subst (Reads (reply m nego)) (Option·some-injective _ _ is)
+      (λ range. sends r d arrays NEGO (replyRows r m (nego .0)) (negoIn (nego .0) (joinIds (left (ownOf r) (r .common) m))) _ refl refl refl range
+      (λ l t. (nego .1 .random, (left-whole r d arrays l m, handed _ _ (t .1 .1 .0) .fit))) refl refl)
   sent (metadata id value) m is = subst (Reads (metadata id value)) (Option·some-injective _ _ is)
       (λ range. sends r d arrays METADATA (metadataRows r (id .0) (length value)) (ofExchange (record { scheme = id .0; value = value })) _ refl refl refl range
       (λ l t. (id .1, tt)) refl refl)

@@ -14,7 +14,7 @@ use Rattle.schemes.specs.Sets.{left, named}
 use Rattle.conversation.specs.State.{ownOf, limitRows}
 use Rattle.conversation.specs.Turns.{NEGO, METADATA, placeAfter}
 use Rattle.conversation.specs.Outcomes.{Outcome, decide, room, WrittenAs, unchanged, appended}
-use Rattle.conversation.specs.Writing.{stageRows, thenFits, offered, offerRows, replyMessage, replyRows, naming, metadataMessage, metadataRows, namedRows, offering, replying, writingMetadata, speaking, spoken, kindIn, spokenAs}
+use Rattle.conversation.specs.Writing.{stageRows, thenFits, offered, offerRows, replyMessage, replyRows, naming, metadataMessage, metadataRows, namedRows, offering, replying, writingMetadata, speaking, spoken, kindIn, speechFits, spokenAs}
 use Rattle.conversation.specs.Reading.{Judged, whole, halted, judged, finish, tokenRows, readingToken}
 use Rattle.conversation.specs.Choosing.{openTo, chose, choosing}
 use Rattle.conversation.specs.Runs.{Call, offer, reply, metadata, speak, read, choose, End, act}
@@ -51,16 +51,16 @@ module _ (e : End) (peer : List ℕ) where
 
   unchanged-behind : (k : Call) → Unchanged r d (act e peer k)
   unfolding act offering replying writingMetadata speaking readingToken choosing
-  unchanged-behind (offer random) =
-      wrote-unchanged (stageRows r NEGO ++ thenFits (offerRows r) r d (offered r (random .0))) r d (placeAfter r NEGO) (offered r (random .0)) (unchanged r) refl
-  unchanged-behind (reply m random) =
-      named-unchanged (stageRows r NEGO ++ thenFits (replyRows r m) r d (replyMessage r m (random .0))) r d
-      (left (ownOf r) (r .common) m) (appended r d (placeAfter r NEGO) (replyMessage r m (random .0)) (record { marks = m; told = r .told; asked = r .asked; verified = r .verified })) refl refl
+  unchanged-behind (offer nego) =
+      wrote-unchanged (stageRows r NEGO ++ thenFits (offerRows r (nego .0)) r d (offered r (nego .0))) r d (placeAfter r NEGO) (offered r (nego .0)) (unchanged r) refl
+  unchanged-behind (reply m nego) =
+      named-unchanged (stageRows r NEGO ++ thenFits (replyRows r m (nego .0)) r d (replyMessage r m (nego .0))) r d
+      (left (ownOf r) (r .common) m) (appended r d (placeAfter r NEGO) (replyMessage r m (nego .0)) (record { marks = m; told = r .told; asked = r .asked; verified = r .verified })) refl refl
   unchanged-behind (metadata id value) =
       wrote-unchanged (stageRows r METADATA ++ thenFits (metadataRows r (id .0) (length value)) r d (metadataMessage r (id .0) value)) r d (placeAfter r METADATA) (metadataMessage r (id .0) value)
       (record { marks = r .marks; told = r .told + 2 ^ place (ownOf r) (id .0); asked = r .asked; verified = r .verified }) refl
   unchanged-behind (speak s) =
-      wrote-unchanged (stageRows r (kindIn s) ++ thenFits (namedRows r) r d (spoken r s)) r d (placeAfter r (kindIn s)) (spoken r s) (spokenAs r s) refl
+      wrote-unchanged (stageRows r (kindIn s) ++ thenFits (namedRows r (speechFits s)) r d (spoken r s)) r d (placeAfter r (kindIn s)) (spoken r s) (spokenAs r s) refl
   unchanged-behind read =
       decided (limitRows r ++ tokenRows r (length peer)) r d (finish r d peer (judged r peer)) refl (finished r d peer (judged r peer))
   unchanged-behind (choose m s) =

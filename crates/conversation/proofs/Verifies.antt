@@ -23,7 +23,7 @@ use Rattle.conversation.specs.declared.Record.{Record}
 use Rattle.conversation.specs.State.{LATER, schemeAt}
 use Rattle.conversation.specs.Turns.{NEGO, METADATA, VERIFY, typeOf}
 use Rattle.conversation.specs.Outcomes.{Outcome, decide, row, fits}
-use Rattle.conversation.specs.Writing.{heading, messageOf, stageRows, thenFits, schemeNow, schemeAllowed, namedRows, Speech, request, checksum, alarm, kindIn, spoken, speaking}
+use Rattle.conversation.specs.Writing.{heading, messageOf, stageRows, thenFits, schemeNow, schemeAllowed, namedRows, Speech, request, checksum, alarm, kindIn, speechFits, spoken, speaking}
 use Rattle.conversation.specs.Admitting.{schemeIn}
 use Rattle.conversation.specs.Choosing.{chose, choosing}
 use Rattle.conversation.specs.Runs.{Call, offer, reply, metadata, speak, read, choose, End, act, Opening, World, world, next, ends, isAccepted}
@@ -110,9 +110,9 @@ module _ (id : Id) (e : End) (peer : List ℕ) (log : List (List ℕ)) (ok : Sou
   speak-whole : (s : Speech) → isAccepted (speaking r d s .answer) ≡ true → length (schemeAt r (schemeNow r)) ≡ 16
   unfolding speaking
   speak-whole s a =
-      let rest : List Row = thenFits (namedRows r) r d (spoken r s) in
+      let rest : List Row = thenFits (namedRows r (speechFits s)) r d (spoken r s) in
       let g = passed-by (stageRows r (kindIn s) ++ rest) _ refl a in
-      ok .ids (schemeNow r) (now-below r (true-behind (stageRows r (kindIn s)) (row 15 (schemeAllowed r)) (fits r d (length (spoken r s)) ∷ []) g))
+      ok .ids (schemeNow r) (now-below r (true-behind (stageRows r (kindIn s) ++ (row 25 (speechFits s) ∷ [])) (row 15 (schemeAllowed r)) (fits r d (length (spoken r s)) ∷ []) g))
 
   choose-whole : (m : ℕ) (s : Speech) → isAccepted (choosing r d m s .answer) ≡ true → length (schemeAt (chose r m) (schemeNow (chose r m))) ≡ 16
   unfolding choosing
@@ -124,8 +124,8 @@ module _ (id : Id) (e : End) (peer : List ℕ) (log : List (List ℕ)) (ok : Sou
 
   accepted-one : (k : Call) → isAccepted (act e peer k .answer) ≡ true → length (keep (verifyFor id) (addedBy isWriting e peer k)) ≡ cond (verifies id r k) 1 0
   unfolding act
-  accepted-one (offer random) a = rw a (one-of (verifyFor id) _ false (other-message id r NEGO _ refl))
-  accepted-one (reply m random) a = rw a (one-of (verifyFor id) _ false (other-message id r NEGO _ refl))
+  accepted-one (offer nego) a = rw a (one-of (verifyFor id) _ false (other-message id r NEGO _ refl))
+  accepted-one (reply m nego) a = rw a (one-of (verifyFor id) _ false (other-message id r NEGO _ refl))
   accepted-one (metadata scheme value) a = rw a (one-of (verifyFor id) _ false (other-message id r METADATA _ refl))
   accepted-one (speak (request value)) a = rw a (one-of (verifyFor id) _ false (other-message id r (kindIn (request value)) _ refl))
   accepted-one (speak (checksum type value)) a = rw a (one-of (verifyFor id) _ _ (verify-message id r _ type value (ok .talk) (speak-whole (checksum type value) a)))
@@ -138,8 +138,8 @@ module _ (id : Id) (e : End) (peer : List ℕ) (log : List (List ℕ)) (ok : Sou
   one-call : (k : Call) → length (keep (verifyFor id) (addedBy isWriting e peer k)) ≡ cond (isAccepted (act e peer k .answer) && verifies id r k) 1 0
   one-call k = elim (which (isAccepted (act e peer k .answer))) [ inl a ↦ rw a (rw a at (accepted-one k a)) | inr a ↦ rw a (rw a at (none k a)) ] where
     none : (k : Call) → isAccepted (act e peer k .answer) ≡ false → length (keep (verifyFor id) (addedBy isWriting e peer k)) ≡ 0
-    none (offer random) a = rw a
-    none (reply m random) a = rw a
+    none (offer nego) a = rw a
+    none (reply m nego) a = rw a
     none (metadata scheme value) a = rw a
     none (speak s) a = rw a
     none read a = refl
@@ -162,7 +162,7 @@ counted id x w l b [] = refl
 counted id x w l b (c ∷ cs) =
     let here-is : List (List ℕ) = addedAt isWriting x w (c .0) (c .1) in
     let there : List (List ℕ) = writtenIn x (next w (c .0) (c .1)) cs in
-    let rest = counted id x (next w (c .0) (c .1)) (nextLogs w (c .0) (c .1) l) (both-next w l b (c .0) (c .1) .0) cs in
+    let rest = counted id x (next w (c .0) (c .1)) (nextLogs w (c .0) (c .1) l) (both-next w l b (c .0) (c .1)) cs in
     ap length (keep-append (verifyFor id) here-is there) ∙ length-append (keep (verifyFor id) here-is) (keep (verifyFor id) there)
     ∙ sum (here id w x (c .0) (c .1)) (one-at id x w l b (c .0) (c .1)) rest where
       sum : (v : Bool) {m n k : ℕ} → m ≡ cond v 1 0 → n ≡ k → m + n ≡ cond v (suc k) k

@@ -8,6 +8,7 @@ use Rattle.message.specs.Check.{commonRows, allKeepRule, noneCritical, contentR
 use Rattle.message.specs.Show.{idsAt, schemesIn}
 use Rattle.token.specs.Token.{orderRows, nextRows, chainOf, readingOf, tokenOf}
 use Rattle.put.specs.Put.{put}
+use Rattle.elements.specs.Elements.{offsetOf, itemOctets, itemsFit, itemsOf, sumFrom, smallFrom, elementsFit, ordinaryFrom}
 use Rattle.encode.specs.Encode.{encoded}
 use Rattle.schemes.specs.Lists.{mem, place, distinct}
 use Rattle.schemes.specs.Sets.{setOf, left, has, mentions, ones, openPlaces, keptBelow}
@@ -17,8 +18,8 @@ use Rattle.conversation.specs.Admitting.{messagesAt, schemeFits, heardFo
 use Rattle.conversation.specs.Reading.{conversationOf, judge, judged, commonAfter, keptAfter, finish, readingToken}
 use Rattle.conversation.specs.Choosing.{choosing}
 use Rattle.conversation.specs.Runs.{act}
-use Rattle.conversation.specs.Worked.{opened, Worked}
+use Rattle.conversation.specs.Worked.{opened, plain, Worked}
 
 pub worked : Worked
-unfolding opened le signed32 sameOctets sameId keepsRule shown shapeOf headOf elementsAt contentOf vectorsOf commonRows allKeepRule noneCritical contentRows bodyRows frontRows idsAt schemesIn orderRows nextRows chainOf readingOf tokenOf put encoded mem place distinct setOf left has mentions ones openPlaces keptBelow turns.writing turns.reading turns.kindOf turns.typeOf turns.afterOpening turns.afterFurther turns.after offering replying writingMetadata speaking schemeNow messagesAt schemeFits heardFor passed admit conversationOf judge judged commonAfter keptAfter finish readingToken choosing act
+unfolding opened plain offsetOf itemOctets itemsFit itemsOf sumFrom smallFrom elementsFit ordinaryFrom le signed32 sameOctets sameId keepsRule shown shapeOf headOf elementsAt contentOf vectorsOf commonRows allKeepRule noneCritical contentRows bodyRows frontRows idsAt schemesIn orderRows nextRows chainOf readingOf tokenOf put encoded mem place distinct setOf left has mentions ones openPlaces keptBelow turns.writing turns.reading turns.kindOf turns.typeOf turns.afterOpening turns.afterFurther turns.after offering replying writingMetadata speaking schemeNow messagesAt schemeFits heardFor passed admit conversationOf judge judged commonAfter keptAfter finish readingToken choosing act
 worked = (refl, (refl, (refl, (refl, (refl, (refl, (refl, (refl, (refl, (refl, (refl, (refl, (refl, (refl, tt))))))))))))))

@@ -8,7 +8,7 @@
 --   chose r m      the record behind the choice, in which the message is written
 --   mayChoose r    18: the stage is the one to choose in, and the end is the initiator
 --   maySpeak       18: the message may be written behind the choice
---   choosing       the call; its table: the limits, then choiceRows, 18, 19, 17, 18, then 16
+--   choosing       the call; its table: the limits, then choiceRows, 18, 19, 25, 17, 18, then 16
 use Prim.Native.Nat.{ℕ}
 use mathlib.Core.Bool.{Bool, not, _&&_}
 use mathlib.Core.List.{List, [], _∷_, _++_}
@@ -19,7 +19,7 @@ use Rattle.conversation.specs.declared.Record.{Record}
 use Rattle.conversation.specs.State.{NONE, CHOOSING, LATER, ownOf, limitRows}
 use Rattle.conversation.specs.Turns.{placeAfter, mayWrite}
 use Rattle.conversation.specs.Outcomes.{Outcome, decide, row, appended}
-use Rattle.conversation.specs.Writing.{thenFits, someLeft, naming, Speech, kindIn, spoken, spokenAs}
+use Rattle.conversation.specs.Writing.{thenFits, someLeft, naming, Speech, kindIn, speechFits, spoken, spokenAs}
 
 abbrev pub openTo : Record → ℕ → List ℕ
 openTo r m = openPlaces (r .kept) (r .common) m
@@ -56,11 +56,13 @@ mayChoose r = not (r .acceptor) && eqb (r .stage) CHOOSING
 abbrev pub maySpeak : Record → ℕ → ℕ → Bool
 maySpeak r m kind = mayWrite (chose r m) kind
 
--- C-12: "Refusals: 18, 19, 17, 16.", 16 by thenFits; C-15: "a second VERIFY is 18, tested between 17 and 16"
-abbrev pub choiceRows : Record → ℕ → ℕ → List Row
-choiceRows r m kind =
+-- C-12: "Refusals: 18, 19, 17, 16.", 16 by thenFits; C-15: "a second VERIFY is 18, tested between 17 and 16"; C-22: 25, of a content that keeps its
+-- limits or doesn't, "after 19"
+abbrev pub choiceRows : Record → ℕ → Bool → ℕ → List Row
+choiceRows r m fit kind =
     row 18 (mayChoose r)
     ∷ row 19 (below (r .count) m)
+    ∷ row 25 fit
     ∷ row 17 (someLeft (named (ownOf r) (openTo r m)))
     ∷ row 18 (maySpeak r m kind)
     ∷ []
@@ -68,6 +70,6 @@ choiceRows r m kind =
 -- a refusal leaves the record r: nothing is chosen, and nothing is written
 unfoldable pub choosing : Record → List ℕ → ℕ → Speech → Outcome
 choosing r d m s =
-    decide (limitRows r ++ thenFits (choiceRows r m (kindIn s)) (chose r m) d (spoken (chose r m) s)) r d
+    decide (limitRows r ++ thenFits (choiceRows r m (speechFits s) (kindIn s)) (chose r m) d (spoken (chose r m) s)) r d
     (naming (named (ownOf r) (openTo r m))
     (appended (chose r m) d (placeAfter (chose r m) (kindIn s)) (spoken (chose r m) s) (spokenAs (chose r m) s)))

@@ -7,12 +7,14 @@
 --   OnlyTwelveCloses   a record that a call closes is closed by a reading, refused with 12
 --   ClosedRefuses      at the stage CLOSED every call is refused with 18, and changes nothing
 --   NineNeverRead      no reading into a record is refused with 9
---   TwelveNeverRun     no call of a run is refused with 12
+--   isTest             a call that says that it is a test; NoTest cs: none of the calls cs does
+--   TwelveNeverRun     no call of a run without a test call is refused with 12
+--   CriticalCloses     a record that may read a written message with a critical extension refuses its token with 12 and closes
 --   decides            an answer that is no refusal, or that closes the record
 --   RefusedStays       a call that does not decide leaves the two ends as they were
 --   acceptedOf         the calls of a list that are accepted, in order; decidingOf: those that decide
 --   DecidingEnds       any two ends behind a list of calls are those of its deciding calls alone
---   AcceptedEnds       the two ends of a run are those of its accepted calls alone
+--   AcceptedEnds       the two ends of a run without a test call are those of its accepted calls alone
 --   OpeningFresh       the records that a run starts with are those that opening answers
 --   leftWith o ma mi   what rule 2 leaves of the lists of an opening, with the marks of either end; replyWith o m: the reply's list with the acceptor's
 --   RuleTwoAnswer      what a choosing call of a run answers, by rule 2
@@ -45,20 +47,22 @@ use lib.ListN.{length, take}
 use lib.Dec.{eqb}
 use Rattle.octets.specs.Octets.{sameOctets}
 use Rattle.message.specs.Layout.{headOf}
-use Rattle.encode.specs.Encode.{Contents, ofNego, ofExchange}
-use Rattle.roundtrip.specs.ReadBack.{InRange, ReadsBack, Stands, Outgoing}
+use Rattle.message.specs.Check.{firstFailing}
+use Rattle.encode.specs.declared.Heading.{Heading}
+use Rattle.encode.specs.Encode.{Contents, exchangeOf, encoded}
+use Rattle.roundtrip.specs.ReadBack.{InRange, Sent, ordinaryIn, ReadsBack, Stands, Outgoing}
 use Rattle.schemes.specs.Lists.{Id, keep, first, leftOver, rule2, replyOf, oneTo16, wholeIds, joinIds}
 use Rattle.schemes.specs.Sets.{left}
 use Rattle.conversation.specs.declared.Record.{Record}
 use Rattle.conversation.specs.declared.Answer.{Answer}
 use Rattle.conversation.specs.State.{LATER, CLOSED, withStage, closed, ownOf, schemeAt, limitRows, fresh}
-use Rattle.conversation.specs.Turns.{NEGO, METADATA}
+use Rattle.conversation.specs.Turns.{NEGO, METADATA, mayRead}
 use Rattle.conversation.specs.Outcomes.{Outcome, zeroId, answered, refused, closedBy}
-use Rattle.conversation.specs.Writing.{heading, messageOf, schemeNow, Speech, kindIn, contentsIn, spoken, opening}
+use Rattle.conversation.specs.Writing.{heading, messageOf, negoIn, schemeNow, Speech, kindIn, contentsIn, spoken, opening}
 use Rattle.conversation.specs.Admitting.{schemeIn}
-use Rattle.conversation.specs.Reading.{readingToken}
+use Rattle.conversation.specs.Reading.{conversationOf, readingToken}
 use Rattle.conversation.specs.Choosing.{chose, choosing}
-use Rattle.conversation.specs.Runs.{Sized, Call, offer, reply, metadata, speak, read, choose, End, act, Opening, World, world, outcomeAt, next, ends, Entry, run, isAccepted, isLawful, Replied}
+use Rattle.conversation.specs.Runs.{Sized, NegoCall, Call, offer, reply, metadata, speak, read, choose, End, act, Opening, World, world, outcomeAt, next, ends, Entry, run, isAccepted, isLawful, Replied}
 use Rattle.conversation.specs.Logs.{added}
 
 -- "Record and lent octets are unchanged.", as C-18 has it: "Refusal 12 now returns the record closed, everything else in it unchanged, and the lent
@@ -91,9 +95,29 @@ ClosedRefuses =
 abbrev pub NineNeverRead : Type 0
 NineNeverRead = (r : Record) (d t : List ℕ) → readingToken r d t .answer .refusal ≡ 9 → ⊥
 
--- what our ends write has no critical extension, so that no record of a run closes
+abbrev pub isTest : Call → Bool
+isTest (offer g) = g .0 .test
+isTest (reply m g) = g .0 .test
+isTest (metadata id value) = false
+isTest (speak s) = false
+isTest read = false
+isTest (choose m s) = false
+
+abbrev pub NoTest : List (Bool × Call) → Type 0
+NoTest cs = (x : Bool) (k : Call) → List·Memᴰ (x, k) cs → isTest k ≡ false
+
+-- without a test call what our ends write has no critical extension, so that no record of such a run closes
 abbrev pub TwelveNeverRun : Type 0
-TwelveNeverRun = (o : Opening) (cs : List (Bool × Call)) (x : Entry) → List·Memᴰ x (run (world o) cs) → x .said .refusal ≡ 12 → ⊥
+TwelveNeverRun =
+    (o : Opening) (cs : List (Bool × Call)) → NoTest cs → (x : Entry) → List·Memᴰ x (run (world o) cs) → x .said .refusal ≡ 12 → ⊥
+
+-- C-22: "For a critical one the structural reading answers 12": so does a record's, where it may read and nothing goes before, and it closes (C-18)
+abbrev pub CriticalCloses : Type 0
+CriticalCloses =
+    (r : Record) (d : List ℕ) (h : Heading) (c : Contents) (rest : List ℕ) → Sent h c → InRange c → ordinaryIn c ≡ false
+    → firstFailing (limitRows r) ≡ 0 → mayRead r ≡ true → length (encoded h c ++ rest) ≤ 65535
+    → h .sequence ≡ r .sequence → h .conversation ≡ conversationOf r (encoded h c ++ rest)
+    → readingToken r d (encoded h c ++ rest) ≡ refused (closed r) d 12 0
 
 abbrev pub decides : Answer → Bool
 decides a = isAccepted a || eqb (a .refusal) 12
@@ -117,7 +141,7 @@ acceptedOf w (c ∷ cs) =
 -- "In a run the call and those accepted (not refused) before it decide 18.", with the choice, which their marks and the two lists give: by C-15 an early
 -- VERIFY counts by it
 abbrev pub AcceptedEnds : Type 0
-AcceptedEnds = (o : Opening) (cs : List (Bool × Call)) → ends (world o) (acceptedOf (world o) cs) ≡ ends (world o) cs
+AcceptedEnds = (o : Opening) (cs : List (Bool × Call)) → NoTest cs → ends (world o) (acceptedOf (world o) cs) ≡ ends (world o) cs
 
 -- "A run starts with a record of each role, fresh from opening"
 abbrev pub OpeningFresh : Type 0
@@ -151,15 +175,16 @@ NoneRefused =
     → isLawful (x .said) ≡ true → Replied o cs ma → leftWith o ma m ≡ [] → x .said .refusal ≡ 17
 
 -- "the acceptor's, by its own marks alone, is answered when its NEGO is written": the first and the number of the common schemes less its marks; 17 is
--- given only where there is none, and wherever there is none and neither 18 nor 19 goes before (15 is not asked of this call, and 16 comes behind 17)
+-- given only where there is none, and wherever there is none and none of 18, 19, 25 and 26 goes before (15 is not asked of this call, and 16 comes
+-- behind 17)
 pub record ReplyAnswer (o : Opening) (m : ℕ) (a : Answer) : Type 0 where
   pub refuses : a .refusal ≡ 17 → replyWith o m ≡ []
   pub answers : isAccepted a ≡ true → (first (replyWith o m) ≡ some (a .choice)) × (a .left ≡ length (replyWith o m))
-  pub none-left : replyWith o m ≡ [] → (a .refusal ≡ 18 → ⊥) → (a .refusal ≡ 19 → ⊥) → a .refusal ≡ 17
+  pub none-left : replyWith o m ≡ [] → (a .refusal ≡ 18 → ⊥) → (a .refusal ≡ 19 → ⊥) → (a .refusal ≡ 25 → ⊥) → (a .refusal ≡ 26 → ⊥) → a .refusal ≡ 17
 
 abbrev pub ReplyByMarks : Type 0
 ReplyByMarks =
-    (o : Opening) (cs : List (Bool × Call)) (x : Entry) (m : ℕ) (random : Sized 32) → List·Memᴰ x (run (world o) cs) → x .call ≡ reply m random
+    (o : Opening) (cs : List (Bool × Call)) (x : Entry) (m : ℕ) (g : NegoCall) → List·Memᴰ x (run (world o) cs) → x .call ≡ reply m g
     → ReplyAnswer o m (x .said)
 
 abbrev pub atEnd : Bool → Entry → Bool
@@ -170,8 +195,8 @@ abbrev pub acceptedAt : Bool → (Call → Bool) → Entry → Bool
 acceptedAt x sort y = atEnd x y && (isAccepted (y .said) && sort (y .call))
 
 abbrev pub withMarks : Call → Bool
-withMarks (offer random) = false
-withMarks (reply m random) = true
+withMarks (offer g) = false
+withMarks (reply m g) = true
 withMarks (metadata id value) = false
 withMarks (speak s) = false
 withMarks read = false
@@ -182,8 +207,8 @@ abbrev pub MarksOnce : Type 0
 MarksOnce = (o : Opening) (cs : List (Bool × Call)) (x : Bool) → length (keep (acceptedAt x withMarks) (run (world o) cs)) ≤ 1
 
 abbrev pub isReading : Call → Bool
-isReading (offer random) = false
-isReading (reply m random) = false
+isReading (offer g) = false
+isReading (reply m g) = false
 isReading (metadata id value) = false
 isReading (speak s) = false
 isReading read = true
@@ -250,9 +275,9 @@ abbrev pub sent : Record → ℕ → Contents → Option Outgoing
 sent r kind c = some (record { heading = heading r kind; contents = c })
 
 abbrev pub sentBy : Record → Call → Option Outgoing
-sentBy r (offer random) = sent r NEGO (ofNego (record { random = random .0; schemes = take (16 * r .count) (r .list) }))
-sentBy r (reply m random) = sent r NEGO (ofNego (record { random = random .0; schemes = joinIds (left (ownOf r) (r .common) m) }))
-sentBy r (metadata id value) = sent r METADATA (ofExchange (record { scheme = id .0; value = value }))
+sentBy r (offer g) = sent r NEGO (negoIn (g .0) (take (16 * r .count) (r .list)))
+sentBy r (reply m g) = sent r NEGO (negoIn (g .0) (joinIds (left (ownOf r) (r .common) m)))
+sentBy r (metadata id value) = sent r METADATA (exchangeOf (id .0) value)
 sentBy r (speak s) = sent r (kindIn s) (contentsIn (schemeAt r (schemeNow r)) s)
 sentBy r read = none
 sentBy r (choose m s) = sent r (kindIn s) (contentsIn (schemeAt r (schemeNow (chose r m))) s)
@@ -261,7 +286,7 @@ pub record ReadsAsSent (r : Record) (d : List ℕ) (m : Outgoing) (o : Outcome) 
   pub stands : Stands d (r .used) (m .heading) (m .contents) (o .answer .next .used) (o .transcript)
   pub reads : (rest : List ℕ) → ReadsBack (m .heading) (m .contents) rest
 
--- a checksum type and an error code are numbers of 32 bits (`InRange`), as the calls take them
+-- a checksum type, an error code and the types of extensions and alerts are numbers of 32 bits (`InRange`), as the calls take them
 abbrev pub WrittenReads : Type 0
 WrittenReads =
     (e : End) (peer : List ℕ) (k : Call) (m : Outgoing) → Arrays (e .record-of) → sentBy (e .record-of) k ≡ some m → InRange (m .contents)

@@ -35,8 +35,8 @@ messagesIn (message m ms) = m .octets ∷ messagesIn ms
 
 -- "Each written message, and each accepted token, is put at its end"
 abbrev pub added : End → List ℕ → Call → List (List ℕ)
-added e peer (offer random) = offered (e .record-of) (random .0) ∷ []
-added e peer (reply m random) = replyMessage (e .record-of) m (random .0) ∷ []
+added e peer (offer g) = offered (e .record-of) (g .0) ∷ []
+added e peer (reply m g) = replyMessage (e .record-of) m (g .0) ∷ []
 added e peer (metadata id value) = metadataMessage (e .record-of) (id .0) value ∷ []
 added e peer (speak s) = spoken (e .record-of) s ∷ []
 added e peer read = messagesIn (chainFor (e .record-of) peer)

@@ -3,6 +3,7 @@
 --
 -- Glossary
 --   Sized n          n octets, as an array hands them over
+--   NegoGiven        the contents of a NEGO as arrays hand them over: 32 octets of random, and types of 32 bits; NegoCall: such contents
 --   Call             the calls, with what each is given
 --   End              an end of a run: its record, its transcript buffer, and its turn so far
 --   act              a call at an end, beside the other end's turn so far: its outcome
@@ -11,7 +12,7 @@
 --   outcomeAt, next  a call at one of two ends: its outcome, and the two ends behind it; ends: those behind a list of calls
 --   Entry, run       a call with its end and its answer; those of a list of calls
 --   isAccepted       an answer that is no refusal
---   isLawful         "none of 15, 16, 18, 19 applies"
+--   isLawful         "none of 15, 16, 18, 19 applies", nor 25 or 26
 --   Replied          the marks with which the acceptor's NEGO was written in a run; ChoseWith: those with which the initiator chose
 --   MarksKept        the marks of the second run are those of the first, for the schemes that both ends listed there
 --   Choice           what a lawful choosing call answers behind a longer offer
@@ -26,20 +27,29 @@ use lib.ListN.{length}
 use lib.Dec.{eqb}
 use Rattle.schemes.specs.Lists.{Id, oneTo16, wholeIds, joinIds, rule2}
 use Rattle.schemes.specs.Longer.{Longer, SameMarks, NoLater}
+use Rattle.elements.specs.Elements.{itemsOf}
+use Rattle.roundtrip.specs.ReadBack.{typesFit}
 use Rattle.conversation.specs.declared.Record.{Record}
 use Rattle.conversation.specs.declared.Answer.{Answer}
 use Rattle.conversation.specs.State.{fresh}
 use Rattle.conversation.specs.Outcomes.{Outcome, zeroId}
-use Rattle.conversation.specs.Writing.{offering, replying, writingMetadata, offered, replyMessage, metadataMessage, Speech, spoken, speaking}
+use Rattle.conversation.specs.Writing.{NegoContent, offering, replying, writingMetadata, offered, replyMessage, metadataMessage, Speech, spoken, speaking}
 use Rattle.conversation.specs.Reading.{readingToken}
 use Rattle.conversation.specs.Choosing.{chose, choosing}
 
 abbrev pub Sized : ℕ → Type 0
 Sized n = (l : List ℕ) × (length l ≡ n)
 
+pub record NegoGiven (g : NegoContent) : Type 0 where
+  pub random : length (g .random) ≡ 32
+  pub types : typesFit (itemsOf (g .extensions) (g .values)) ≡ true
+
+abbrev pub NegoCall : Type 0
+NegoCall = (g : NegoContent) × NegoGiven g
+
 pub data Call : Type 0 where
-  offer : Sized 32 → Call
-  reply : (marks : ℕ) → Sized 32 → Call
+  offer : NegoCall → Call
+  reply : (marks : ℕ) → NegoCall → Call
   metadata : Sized 16 → (value : List ℕ) → Call
   speak : Speech → Call
   read : Call
@@ -52,8 +62,8 @@ pub record End : Type 0 where
 
 -- "A reading gets, in a separate buffer, a copy of the other end's turn so far"
 unfoldable pub act : End → List ℕ → Call → Outcome
-act e peer (offer random) = offering (e .record-of) (e .transcript) (random .0)
-act e peer (reply m random) = replying (e .record-of) (e .transcript) m (random .0)
+act e peer (offer g) = offering (e .record-of) (e .transcript) (g .0)
+act e peer (reply m g) = replying (e .record-of) (e .transcript) m (g .0)
 act e peer (metadata id value) = writingMetadata (e .record-of) (e .transcript) (id .0) value
 act e peer (speak s) = speaking (e .record-of) (e .transcript) s
 act e peer read = readingToken (e .record-of) (e .transcript) peer
@@ -61,8 +71,8 @@ act e peer (choose m s) = choosing (e .record-of) (e .transcript) m s
 
 -- "all that this other end wrote since its own opening or the last token that it accepted itself"
 abbrev pub turnAfter : End → Call → List ℕ
-turnAfter e (offer random) = e .turn ++ offered (e .record-of) (random .0)
-turnAfter e (reply m random) = e .turn ++ replyMessage (e .record-of) m (random .0)
+turnAfter e (offer g) = e .turn ++ offered (e .record-of) (g .0)
+turnAfter e (reply m g) = e .turn ++ replyMessage (e .record-of) m (g .0)
 turnAfter e (metadata id value) = e .turn ++ metadataMessage (e .record-of) (id .0) value
 turnAfter e (speak s) = e .turn ++ spoken (e .record-of) s
 turnAfter e read = []
@@ -122,17 +132,18 @@ ends w (c ∷ cs) = ends (next w (c .0) (c .1)) cs
 abbrev pub isAccepted : Answer → Bool
 isAccepted a = eqb (a .refusal) 0
 
--- "A call is lawful if none of 15, 16, 18, 19 applies." By the number that is given, which asks no more than that. Demand 3 asks it of choosing calls: one
+-- "A call is lawful if none of 15, 16, 18, 19 applies."; C-22: 25 and 26, "neither lawful". By the number that is given, which asks no more than that. Demand 3 asks it of choosing calls: one
 -- without room is 16, and so not lawful. The two differ only where nothing is left and there is no room: the number is 17 then. No call of demand 3's
 -- second run is 17, so that there they agree.
 abbrev pub isLawful : Answer → Bool
-isLawful a = not (eqb (a .refusal) 15 || (eqb (a .refusal) 16 || (eqb (a .refusal) 18 || eqb (a .refusal) 19)))
+isLawful a =
+    not (eqb (a .refusal) 15 || (eqb (a .refusal) 16 || (eqb (a .refusal) 18 || (eqb (a .refusal) 19 || (eqb (a .refusal) 25 || eqb (a .refusal) 26)))))
 
 pub record Replied (o : Opening) (cs : List (Bool × Call)) (m : ℕ) : Type 0 where
-  pub random : Sized 32
+  pub content : NegoCall
   pub answered : Answer
   pub accepted : isAccepted answered ≡ true
-  pub entry : List·Memᴰ (record { acceptor = true; call = reply m random; said = answered }) (run (world o) cs)
+  pub entry : List·Memᴰ (record { acceptor = true; call = reply m content; said = answered }) (run (world o) cs)
 
 pub record ChoseWith (o : Opening) (cs : List (Bool × Call)) (m : ℕ) : Type 0 where
   pub answered : Answer
@@ -143,7 +154,7 @@ pub record ChoseWith (o : Opening) (cs : List (Bool × Call)) (m : ℕ) : Type 0
 -- "In demand 3's second run a call with marks has, for the schemes that both ends listed in the first, exactly the marks that its end's accepted call
 -- had there": refused calls too. Asked of the acceptor's NEGO and of the initiator's choice; at the other end either call is 18, whatever its marks.
 pub record MarksKept (o : Opening) (cs : List (Bool × Call)) (o′ : Opening) (cs′ : List (Bool × Call)) : Type 0 where
-  pub acceptor-marks : (m m′ : ℕ) (random : Sized 32) → Replied o cs m → List·Memᴰ (true, reply m′ random) cs′
+  pub acceptor-marks : (m m′ : ℕ) (g′ : NegoCall) → Replied o cs m → List·Memᴰ (true, reply m′ g′) cs′
       → SameMarks (o .acceptor) (o .initiator) (o .acceptor) m (o′ .acceptor) m′
   pub initiator-marks : (m m′ : ℕ) (s′ : Speech) → ChoseWith o cs m → List·Memᴰ (false, choose m′ s′) cs′
       → SameMarks (o .acceptor) (o .initiator) (o .initiator) m (o′ .initiator) m′

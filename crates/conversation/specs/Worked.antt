@@ -4,7 +4,7 @@
 --   negoToken       a token of one INITIATOR_NEGO: its length, its scheme and extension vectors, its payload; withScheme, withExtension: the examples'
 --   Extension       an extension as it is shown: its type, and its value's octets; extensionsIn m: those of the NEGO m
 --   Reads           what the reading of an example says: a refusal, or one NEGO with what is shown of it; readsAs: that of a token
---   scheme n        a scheme; random: octets for a NEGO
+--   scheme n        a scheme; plain: the contents of a NEGO without extensions; negoWith: with some; pulse: an ALERT with a pulse
 --   opened          what the examples' runs start with; negotiation: their calls, with the marks of either end
 --   Says            what a call answers: its number, its choice and how many were left; saysOf: of an entry of a run
 --   done, refuses   the answer of a call that is accepted and says no more, and of one that is refused; names: of one that names a choice
@@ -18,6 +18,9 @@
 --   attempts        choosing calls of each refusal, then one that is accepted; AtOnce: what they answer
 --   early           calls in which either end writes a VERIFY before the choice, and tries one behind it: with marks of either end, and the content of the choice
 --   EarlyVerify     C-15: what they answer, where the early ones count and where they do not
+--   two t           two extensions or alerts, of the types t and 5, the second with an empty value; nine: one more than there may be; octets: the values of two
+--   ordinary, critical, tooMany   contents of a NEGO with these: no critical type; the type minus 2, in a test call or not; nine
+--   extended        C-22: calls with extensions and alerts, those of each refusal, and test calls; Extended: what they answer
 --   readInTurn      the numbers that an end answers to tokens, read one behind the other
 --   StaysRejected   C-18, with the examples' tokens
 use Prim.Native.Nat.{ℕ}
@@ -32,10 +35,12 @@ use Rattle.message.specs.Layout.{elementsOf, extensionVector}
 use Rattle.message.specs.Show.{schemesIn}
 use Rattle.put.specs.Put.{octetsOf, joined}
 use Rattle.token.specs.Token.{Reading, Accepted, Refused, tokenOf}
+use Rattle.elements.specs.declared.Elements.{Elements}
+use Rattle.elements.specs.Elements.{itemsOf, noElements, pulseValue, pulseElements}
 use Rattle.schemes.specs.Lists.{Id, mem, distinct}
 use Rattle.conversation.specs.Outcomes.{zeroId}
-use Rattle.conversation.specs.Writing.{Speech, request, checksum, alarm}
-use Rattle.conversation.specs.Runs.{Sized, Call, offer, reply, metadata, speak, read, choose, End, act, moved, Opening, world, Entry, run, isAccepted, NotLost}
+use Rattle.conversation.specs.Writing.{NegoContent, Speech, request, checksum, alarm}
+use Rattle.conversation.specs.Runs.{NegoCall, Call, offer, reply, metadata, speak, read, choose, End, act, moved, Opening, world, Entry, run, isAccepted, NotLost}
 use Rattle.conversation.specs.Logs.{logsOf}
 
 abbrev pub negoToken : ℕ → ℕ → ℕ → ℕ → ℕ → List ℕ → List ℕ
@@ -79,8 +84,15 @@ readsAs (Accepted (m ∷ k ∷ ms)) = other
 abbrev pub scheme : ℕ → Id
 scheme n = replicate 16 n
 
-abbrev pub random : Sized 32
-random = (replicate 32 7, refl)
+abbrev pub negoWith : Bool → Elements → List ℕ → NegoContent
+negoWith test extensions values = record { random = replicate 32 7; test = test; extensions = extensions; values = values }
+
+unfoldable pub plain : NegoCall
+unfolding itemsOf
+plain = (negoWith false noElements [], record { random = refl; types = refl })
+
+abbrev pub pulse : ℤ → Speech
+pulse code = alarm (record { code = code; alerts = pulseElements; values = pulseValue })
 
 -- "Acceptor A, B, C, initiator C, B."
 unfoldable pub opened : Opening
@@ -99,9 +111,9 @@ opened = record {
 
 abbrev pub negotiation : ℕ → ℕ → List (Bool × Call)
 negotiation acceptorMarks initiatorMarks =
-    (false, offer random)
+    (false, offer plain)
     ∷ (true, read)
-    ∷ (true, reply acceptorMarks random)
+    ∷ (true, reply acceptorMarks plain)
     ∷ (false, read)
     ∷ (false, choose initiatorMarks (request []))
     ∷ []
@@ -196,12 +208,12 @@ LongerChoice = map saysOf (run (world longerLists) (negotiation 0 0)) ≡ done �
 -- metadata and optimistic exchanges, a choice with an exchange, several rounds, VERIFY of both ends, ALERTs
 abbrev pub conversation : List (Bool × Call)
 conversation =
-    (false, offer random)
+    (false, offer plain)
     ∷ (false, metadata (scheme 3, refl) (1 ∷ 2 ∷ []))
     ∷ (false, metadata (scheme 2, refl) (3 ∷ []))
     ∷ (false, speak (request (4 ∷ [])))
     ∷ (true, read)
-    ∷ (true, reply 2 random)
+    ∷ (true, reply 2 plain)
     ∷ (true, metadata (scheme 3, refl) (5 ∷ []))
     ∷ (true, speak (request (6 ∷ 7 ∷ [])))
     ∷ (false, read)
@@ -211,9 +223,9 @@ conversation =
     ∷ (true, speak (checksum (negsuc 137) (9 ∷ [])))
     ∷ (false, read)
     ∷ (false, speak (checksum (pos 16) []))
-    ∷ (false, speak (alarm (negsuc 0)))
+    ∷ (false, speak (pulse (negsuc 0)))
     ∷ (true, read)
-    ∷ (true, speak (alarm (pos 1)))
+    ∷ (true, speak (pulse (pos 1)))
     ∷ (false, read)
     ∷ []
 
@@ -231,9 +243,9 @@ WholeLogs = (length (logsOf opened conversation .i) ≡ 13) × (length (logsOf o
 -- acceptor's; one with other marks, as a VERIFY; a second one; a second VERIFY; the turn goes on, and is read
 abbrev pub attempts : List (Bool × Call)
 attempts =
-    (false, offer random)
+    (false, offer plain)
     ∷ (true, read)
-    ∷ (true, reply 0 random)
+    ∷ (true, reply 0 plain)
     ∷ (false, read)
     ∷ (false, speak (request []))
     ∷ (false, choose 0 (request (replicate 1000 0)))
@@ -244,7 +256,7 @@ attempts =
     ∷ (false, choose 2 (checksum (pos 16) (1 ∷ [])))
     ∷ (false, choose 0 (request []))
     ∷ (false, speak (checksum (pos 16) (1 ∷ [])))
-    ∷ (false, speak (alarm (pos 0)))
+    ∷ (false, speak (pulse (pos 0)))
     ∷ (true, read)
     ∷ []
 
@@ -257,12 +269,12 @@ AtOnce =
 -- C-15: a VERIFY before and behind the AP_REQUEST, and behind the CHALLENGE; a choice with a VERIFY, and one with a content; then a VERIFY of either end
 abbrev pub early : ℕ → ℕ → Speech → List (Bool × Call)
 early acceptorMarks initiatorMarks content =
-    (false, offer random)
+    (false, offer plain)
     ∷ (false, speak (checksum (pos 16) []))
     ∷ (false, speak (request []))
     ∷ (false, speak (checksum (pos 16) []))
     ∷ (true, read)
-    ∷ (true, reply acceptorMarks random)
+    ∷ (true, reply acceptorMarks plain)
     ∷ (true, speak (request []))
     ∷ (true, speak (checksum (pos 16) []))
     ∷ (false, read)
@@ -282,6 +294,59 @@ EarlyVerify =
     ≡ done ∷ refuses 18 ∷ done ∷ done ∷ done ∷ names (scheme 3) 1 ∷ done ∷ done ∷ done ∷ refuses 18 ∷ names (scheme 3) 1 ∷ refuses 18 ∷ done ∷ done ∷ refuses 18 ∷ done ∷ [])
     × (map saysOf (run (world longerLists) (early 4 1 (checksum (pos 16) [])))
     ≡ done ∷ refuses 18 ∷ done ∷ done ∷ done ∷ names (scheme 2) 2 ∷ done ∷ done ∷ done ∷ refuses 18 ∷ names (scheme 3) 1 ∷ refuses 18 ∷ done ∷ done ∷ done ∷ done ∷ [])
+
+abbrev pub two : ℕ → Elements
+two type = record { count = 2; types = type ∷ 5 ∷ replicate 6 0; sizes = 3 ∷ replicate 7 0 }
+
+abbrev pub octets : List ℕ
+octets = 1 ∷ 2 ∷ 3 ∷ []
+
+abbrev pub nine : Elements
+nine = record { count = 9; types = replicate 8 1; sizes = replicate 8 0 }
+
+unfoldable pub ordinary : NegoCall
+unfolding itemsOf
+ordinary = (negoWith false (two 2147483647) octets, record { random = refl; types = refl })
+
+unfoldable pub critical : Bool → NegoCall
+unfolding itemsOf
+critical test = (negoWith test (two 4294967294) octets, record { random = refl; types = refl })
+
+unfoldable pub tooMany : NegoCall
+unfolding itemsOf
+tooMany = (negoWith false nine [], record { random = refl; types = refl })
+
+-- C-22, 25 and 26 of either NEGO: behind 18 and 19, and before 17; extensions that the peer reads; a critical one in a test call, which closes its reader;
+-- 25 of an ALERT and of the choosing call, before 15 and 17
+abbrev pub extended : List (Bool × Call)
+extended =
+    (true, offer tooMany)
+    ∷ (false, offer tooMany)
+    ∷ (false, offer (critical false))
+    ∷ (false, offer ordinary)
+    ∷ (true, read)
+    ∷ (true, reply 8 tooMany)
+    ∷ (true, reply 7 tooMany)
+    ∷ (true, reply 7 (critical false))
+    ∷ (true, reply 7 (critical true))
+    ∷ (true, reply 0 ordinary)
+    ∷ (false, read)
+    ∷ (false, choose 4 (alarm (record { code = pos 0; alerts = nine; values = [] })))
+    ∷ (false, choose 3 (alarm (record { code = pos 0; alerts = two 1; values = [] })))
+    ∷ (false, choose 0 (alarm (record { code = pos 0; alerts = two 1; values = octets })))
+    ∷ (true, read)
+    ∷ (true, speak (alarm (record { code = pos 0; alerts = nine; values = [] })))
+    ∷ (true, speak (alarm (record { code = pos 0; alerts = noElements; values = [] })))
+    ∷ (false, read)
+    ∷ []
+
+abbrev pub Extended : Type 0
+Extended =
+    (map saysOf (run (world opened) extended)
+    ≡ refuses 18 ∷ refuses 25 ∷ refuses 26 ∷ done ∷ done ∷ refuses 19 ∷ refuses 25 ∷ refuses 26 ∷ refuses 17 ∷ names (scheme 2) 2 ∷ done
+    ∷ refuses 19 ∷ refuses 25 ∷ names (scheme 2) 2 ∷ done ∷ refuses 25 ∷ done ∷ done ∷ [])
+    × (map saysOf (run (world opened) ((false, offer (critical true)) ∷ (true, read) ∷ (true, read) ∷ []))
+    ≡ done ∷ refuses 12 ∷ refuses 18 ∷ [])
 
 abbrev pub readInTurn : End → List (List ℕ) → List ℕ
 readInTurn e [] = []

@@ -3,6 +3,7 @@
 use Prim.Native.Nat.{ℕ, zero, suc, _+_, _-_, _*_, _<_, _≤_}
 use mathlib.Core.Path.{_≡_, refl, sym, ap, _∙_}
 use mathlib.Core.Bool.{Bool, true, false, not, _&&_}
+use mathlib.Core.Logic.{inl, inr}
 use mathlib.Core.List.{List, [], _∷_, _++_, append-nil}
 use native.Mathlib.Omega.{arith}
 use lib.ListN.{length, getD, take, drop, length-append, length-drop}
@@ -10,11 +11,11 @@ use lib.Seq.{length-take-le, take-length, take-add, drop-drop}
 use lib.Dec.{leb, eqb}
 use borrow.Author.Tests.{le-leb, leb-true, eqb-true}
 use Rattle.octets.specs.Octets.{signed32, negative}
-use Rattle.octets.proofs.Bools.{both}
+use Rattle.octets.proofs.Bools.{both, which}
 use Rattle.put.specs.Put.{joined, Written}
 use Rattle.put.proofs.Laws.{wrote, step, done}
 use Rattle.elements.specs.declared.Elements.{Elements}
-use Rattle.elements.specs.Elements.{Item, elementFields, arrayOf, itemValues, itemOctets, itemsSize, smallValues, itemsFit, itemsFrom, itemsOf, sumFrom, smallFrom, arrayFrom, elementsFit, ordinary, ordinaryFrom, HandedWhole, TypesAlone}
+use Rattle.elements.specs.Elements.{Item, elementFields, arrayOf, itemValues, itemOctets, itemsSize, smallValues, itemsFit, itemsFrom, itemsOf, sumFrom, smallFrom, arrayFrom, elementsFit, handedSize, ordinary, ordinaryFrom, HandedWhole, TypesAlone}
 
 module _ (ts ns v : List ℕ) where
   pub length-from : (n i at : ℕ) → length (itemsFrom n i at ts ns v) ≡ n
@@ -132,6 +133,29 @@ module _ (e : Elements) (v : List ℕ) (f : Bool) (f-is : f ≡ elementsFit e v)
 
 pub size-given : (e : Elements) (v : List ℕ) → elementsFit e v ≡ true → itemsSize (itemsOf e v) ≡ 12 * e .count + length v
 size-given e v t = let h = handed e v t in rw (h .count, h .values)
+
+-- the size, in the words of the code
+module _ (e : Elements) (v : List ℕ) (f : Bool) (f-is : f ≡ elementsFit e v) where
+  pub size-fits : f ≡ true → 12 * e .count + length v ≡ handedSize e v
+  unfolding handedSize
+  size-fits h = rw (sym f-is ∙ h)
+
+  pub size-none : f ≡ false → 0 ≡ handedSize e v
+  unfolding handedSize
+  size-none h = rw (sym f-is ∙ h)
+
+pub ruleset sizes = (size-fits, size-none)
+
+pub handed-size : (e : Elements) (v : List ℕ) → elementsFit e v ≡ true → itemsSize (itemsOf e v) ≡ handedSize e v
+unfolding handedSize
+handed-size e v t = size-given e v t ∙ rw t
+
+pub handed-small : (e : Elements) (v : List ℕ) → handedSize e v ≤ 32864
+unfolding handedSize
+handed-small e v = elim (which (elementsFit e v)) [
+  | inl t ↦ rw t (let h = handed e v t in omega (arith, h .few, h .short))
+  | inr t ↦ rw t (omega arith)
+]
 
 -- the limits bound the size
 values-small : (xs : List Item) → smallValues xs ≡ true → length (joined (itemValues xs)) ≤ 4096 * length xs

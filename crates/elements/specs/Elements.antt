@@ -15,6 +15,7 @@
 --   sumFrom, smallFrom   of n sizes from place i on: their sum, and that none is above 4,096
 --   arrayFrom            the array of what is handed over, which needs types and sizes alone: n elements from place i on, the first value standing at p
 --   elementsFit e v      what is handed over keeps its limits (25)
+--   handedSize e v       how many octets they are written as, array and values; 0 where they break their limits
 --   typesOrdinary e      no type handed over is critical (26); ordinaryFrom: of n types from place i on
 --   noElements           nothing handed over
 --   pulseValue           the value of a pulse; pulses: one alert, a pulse; pulseElements: as it is handed over, with that value lent
@@ -22,7 +23,7 @@
 --   TypesAlone           whether an item is critical is known from the types alone
 use mathlib.Core.Path.{_≡_}
 use Prim.Native.Nat.{ℕ, zero, suc, _+_, _*_}
-use mathlib.Core.Bool.{Bool, true, not, _&&_}
+use mathlib.Core.Bool.{Bool, true, cond, not, _&&_}
 use mathlib.Core.List.{List, [], _∷_, _++_}
 use lib.ListN.{length, getD, take, drop}
 use lib.Dec.{leb, eqb}
@@ -97,6 +98,9 @@ arrayFrom (suc n) i p types sizes =
 -- "25 a count or value beyond its limit"; sizes that don't sum to the number of lent octets, too
 unfoldable pub elementsFit : Elements → List ℕ → Bool
 elementsFit e v = leb (e .count) 8 && (smallFrom (e .count) 0 (e .sizes) && eqb (sumFrom (e .count) 0 (e .sizes)) (length v))
+
+unfoldable pub handedSize : Elements → List ℕ → ℕ
+handedSize e v = cond (elementsFit e v) (12 * e .count + length v) 0
 
 -- "26 a critical type outside a test call"
 unfoldable pub ordinaryFrom : ℕ → ℕ → List ℕ → Bool

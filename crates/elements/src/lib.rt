@@ -5,7 +5,7 @@ ghost use Prim.Native.Nat.{_+_, _*_, _≤_, _<_};
 ghost use lib.ListN.{length};
 ghost use Rattle.octets.specs.Octets.{signed32, negative};
 ghost use Rattle.put.specs.Put.{Written, joined};
-ghost use Rattle.elements.specs.Elements.{offsetOf, elementFields, arrayFrom, sumFrom, itemOctets, itemsOf, elementsFit, typesOrdinary, noElements, pulseElements, pulseValue};
+ghost use Rattle.elements.specs.Elements.{offsetOf, elementFields, arrayFrom, sumFrom, itemOctets, itemsOf, elementsFit, handedSize, typesOrdinary, noElements, pulseElements, pulseValue};
 use message::field;
 use octets::to_i32;
 use put::put_octets;
@@ -94,6 +94,16 @@ pub fn fits(e: Elements, values: &[u8]) -> bool
         i += 1;
     }
     total == values.len()
+}
+
+// How many octets elements are written as, array and values. Those that break their limits are not written: 0.
+pub fn size_of(e: Elements, values: &[u8]) -> usize
+    ensures { λ r. ⌜ r ≡ handedSize e (now (values .entry)) ⌝ }
+{
+    if fits(e, values) {
+        return field::ELEMENT * e.count + values.len();
+    }
+    0
 }
 
 // Whether a type is critical: its sign, as a signed number of 32 bits.

@@ -1,14 +1,20 @@
-// ALERT, with one pulse.
+// ALERT, with its alerts.
 ghost use mathlib.Core.Path.{_≡_};
-ghost use Prim.Native.Nat.{_+_, _≤_};
+ghost use mathlib.Core.Bool.{true};
+ghost use mathlib.Core.List.{_++_};
+ghost use Prim.Native.Nat.{_+_, _*_, _≤_};
 ghost use lib.ListN.{length};
 ghost use Rattle.put.specs.Put.{Written, joined};
-ghost use Rattle.encode.specs.Encode.{encoded, pulseFields, alertOf, told, storing};
+ghost use Rattle.elements.specs.Elements.{itemsOf, elementsFit};
+ghost use Rattle.encode.specs.Encode.{headFields, alertFields, encoded, alertOf, told, storingHanded};
+use elements::Elements;
+use elements::fits;
+use elements::offset_of;
+use elements::put_elements;
 use encode::Heading;
 use encode::Stored;
 use encode::has_room;
 use encode::put_head;
-use encode::put_octet_vector;
 use encode::put_vector;
 use message::Kind;
 use message::field;
@@ -17,54 +23,78 @@ use put::put_octets;
 use put::put_u32;
 use vector::MessageOffset;
 
-// A written alert's type, and its value's length and reason.
-const PULSE_TYPE: u32 = 1;
-
-const PULSE_LENGTH: u32 = 8;
-
-const PULSE_REASON: u32 = 1;
-
-// Where the pulse's value stands: behind the header and the array's one element.
-const VALUE: u32 = Kind::ALERT_HEADER + field::ELEMENT as u32;
-
-// The message's length: header, element and value.
-pub const LENGTH: u32 = VALUE + PULSE_LENGTH;
-
-pub const LEN: usize = LENGTH as usize;
-
-// The pulse: the array's one element, and its value behind it.
-fn put_pulse(d: &mut [u8], at: usize) -> usize
-    requires { ⌜ at + 20 ≤ length (now d) ⌝ }
-    ensures { λ r. ⌜ Written (now (d .entry)) at 20 (joined pulseFields) (now (d .exit)) r ⌝ }
+// The header of a message of `size` octets: so many alerts from an offset on.
+fn put_header(
+    d: &mut [u8],
+    at: usize,
+    heading: Heading,
+    scheme: [u8; 16],
+    code: i32,
+    size: u32,
+    offset: MessageOffset,
+    alerts: u16,
+) -> usize
+    requires { ⌜ at + 72 ≤ length (now d) ⌝ }
+    ensures { λ r. ⌜ Written (now (d .entry)) at 72 (joined (headFields heading size ++ alertFields scheme code (offset .0) alerts)) (now (d .exit)) r ⌝ }
 {
-    let vector_at = put_u32(d, at, PULSE_TYPE);
-    let value_at = put_octet_vector(d, vector_at, MessageOffset(VALUE), PULSE_LENGTH);
-    let reason_at = put_u32(d, value_at, PULSE_LENGTH);
-    put_u32(d, reason_at, PULSE_REASON)
+    let scheme_at = put_head(d, at, heading, size);
+    let code_at = put_octets(d, scheme_at, &scheme);
+    let vector_at = put_i32(d, code_at, code);
+    let pad_at = put_vector(d, vector_at, offset, alerts);
+    put_u32(d, pad_at, 0)
 }
 
 // The message, where it has room.
-fn put_alert(d: &mut [u8], at: usize, heading: Heading, scheme: [u8; 16], code: i32) -> usize
-    requires { ⌜ at + 92 ≤ length (now d) ⌝ }
-    ensures { λ r. ⌜ Written (now (d .entry)) at 92 (encoded heading (alertOf scheme code)) (now (d .exit)) r ⌝ }
+fn put_alert(
+    d: &mut [u8],
+    at: usize,
+    heading: Heading,
+    scheme: [u8; 16],
+    code: i32,
+    alerts: Elements,
+    values: &[u8],
+) -> usize
+    requires { ⌜ (elementsFit alerts (now values) ≡ true) × ((at + (72 + (12 * alerts .count + length (now values))) ≤ length (now d)) × ((alerts .count ≤ 8) × (length (now values) ≤ 32768))) ⌝ }
+    ensures { λ r. ⌜ Written (now (d .entry)) at (72 + (12 * alerts .count + length (now (values .entry)))) (encoded heading (alertOf scheme code (itemsOf alerts (now (values .entry))))) (now (d .exit)) r ⌝ }
 {
-    let scheme_at = put_head(d, at, heading, LENGTH);
-    let code_at = put_octets(d, scheme_at, &scheme);
-    let vector_at = put_i32(d, code_at, code);
-    let pad_at = put_vector(d, vector_at, MessageOffset(Kind::ALERT_HEADER), 1);
-    let pulse_at = put_u32(d, pad_at, 0);
-    put_pulse(d, pulse_at)
+    let count = alerts.count;
+    let size = (Kind::ALERT_HEADER_LEN + (field::ELEMENT * count + values.len())) as u32;
+    let offset = offset_of(count, MessageOffset(Kind::ALERT_HEADER));
+    let array_at = put_header(d, at, heading, scheme, code, size, offset, count as u16);
+    put_elements(
+        d,
+        array_at,
+        alerts,
+        values,
+        MessageOffset(Kind::ALERT_HEADER),
+    )
 }
 
-// Writes an ALERT at a place: an error code, and a pulse.
-pub fn write(d: &mut [u8], at: usize, heading: Heading, scheme: [u8; 16], code: i32) -> Stored
-    ensures { λ r. ⌜ told r (now (d .exit)) ≡ storing (now (d .entry)) at heading (alertOf scheme code) ⌝ }
+// Writes an ALERT at a place: an error code, and alerts; nothing is written where they break their limits.
+pub fn write(
+    d: &mut [u8],
+    at: usize,
+    heading: Heading,
+    scheme: [u8; 16],
+    code: i32,
+    alerts: Elements,
+    values: &[u8],
+) -> Stored
+    ensures { λ r. ⌜ told r (now (d .exit)) ≡ storingHanded (elementsFit alerts (now (values .entry))) (now (d .entry)) at heading (alertOf scheme code (itemsOf alerts (now (values .entry)))) ⌝ }
 {
     if heading.kind.0 != Kind::ALERT {
         return Stored::Nothing;
     }
-    if has_room(d.len(), at, LEN) {
-        Stored::Next(put_alert(d, at, heading, scheme, code))
+    if fits(alerts, values) {
+        if has_room(
+            d.len(),
+            at,
+            Kind::ALERT_HEADER_LEN + (field::ELEMENT * alerts.count + values.len()),
+        ) {
+            Stored::Next(put_alert(d, at, heading, scheme, code, alerts, values))
+        } else {
+            Stored::Nothing
+        }
     } else {
         Stored::Nothing
     }

@@ -36,9 +36,11 @@ pub use vector::Vector;
 pub use listing::window;
 pub use windows::Shown;
 
-// A conversation: the record of an end goes in by value, and the next one comes back in the answer.
+// A conversation: the record of an end goes in by value, and the next one comes back in the answer. Extensions and alerts are handed over as `Elements`,
+// with their values joined in a slice beside it.
 pub use conversation::Answer;
 pub use conversation::Record;
+pub use elements::Elements;
 pub use negotiating::opening::open;
 pub use receiving::read;
 pub use sending_alert::choose_alert;

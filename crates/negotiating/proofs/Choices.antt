@@ -20,7 +20,7 @@ use Rattle.conversation.specs.declared.Answer.{Answer}
 use Rattle.conversation.specs.State.{ownOf, limitRows}
 use Rattle.conversation.specs.Turns.{writing, after, placeAfter}
 use Rattle.conversation.specs.Outcomes.{Outcome, answered, refused, decide, room, fits, appended}
-use Rattle.conversation.specs.Writing.{stageRows, namedRows, firstOr, naming, Speech, kindIn, spoken, spokenAs, speaking}
+use Rattle.conversation.specs.Writing.{stageRows, namedRows, firstOr, naming, Speech, kindIn, speechFits, spoken, spokenAs, speaking}
 use Rattle.conversation.specs.Choosing.{openTo, firstPlace, chose, mayChoose, choiceRows, choosing}
 use Rattle.conversation.proofs.Rows.{front-true, back-true}
 use Rattle.conversation.proofs.Decides.{decide-refused, first-stop}
@@ -44,48 +44,52 @@ unfolding leftOf
 first-place [] l e h = absurd (h (ap (λ (x : Left). x .left) e))
 first-place (k ∷ ks) l e h = sym (ap (λ (x : Left). x .place) e)
 
--- ---- 18, 19, 17 and 18
-module _ (r : Record) (m kind n : ℕ) (n-is : n ≡ firstFailing (limitRows r)) where
+-- ---- 18, 19, 25, 17 and 18
+module _ (r : Record) (m : ℕ) (fit : Bool) (kind n : ℕ) (n-is : n ≡ firstFailing (limitRows r)) where
   module _ (z : n ≡ 0) where
     pub choice-few : r .count ≤ 16
-    choice-few = limits-within r (choiceRows r m kind) n n-is z .few
+    choice-few = limits-within r (choiceRows r m fit kind) n n-is z .few
 
-    behind : (x : ℕ) → x ≡ firstFailing (choiceRows r m kind) → x ≡ callRefusal r (choiceRows r m kind)
-    behind = limits-on r (choiceRows r m kind) n n-is z
+    behind : (x : ℕ) → x ≡ firstFailing (choiceRows r m fit kind) → x ≡ callRefusal r (choiceRows r m fit kind)
+    behind = limits-on r (choiceRows r m fit kind) n n-is z
 
-    pub choice-role : r .acceptor ≡ true → 18 ≡ callRefusal r (choiceRows r m kind)
+    pub choice-role : r .acceptor ≡ true → 18 ≡ callRefusal r (choiceRows r m fit kind)
     choice-role e = behind 18 (rw e)
 
     module _ (i : r .acceptor ≡ false) where
-      pub choice-stage : (r .stage ≡ 2 → ⊥) → 18 ≡ callRefusal r (choiceRows r m kind)
+      pub choice-stage : (r .stage ≡ 2 → ⊥) → 18 ≡ callRefusal r (choiceRows r m fit kind)
       choice-stage h = behind 18 (rw (i, ne-eqb (r .stage) 2 h))
 
       module _ (s : r .stage ≡ 2) (b : Bool) (b-is : b ≡ below (r .count) m) where
         may : mayChoose r ≡ true
         may = rw (i, eq-eqb (r .stage) 2 s)
 
-        pub choice-marks : b ≡ false → 19 ≡ callRefusal r (choiceRows r m kind)
+        pub choice-marks : b ≡ false → 19 ≡ callRefusal r (choiceRows r m fit kind)
         choice-marks e = behind 19 (rw (may, ← b-is, e))
 
-        module _ (t : b ≡ true) (l : Left) (l-is : l ≡ leftOf (openPlaces (r .kept) (r .common) m)) where
-          pub choice-none : l .left ≡ 0 → 17 ≡ callRefusal r (choiceRows r m kind)
-          choice-none e = behind 17 (rw (may, ← b-is, t, ← open-none (r .list) (r .count) l (openTo r m) l-is e))
+        module _ (t : b ≡ true) where
+          pub choice-unfit : fit ≡ false → 25 ≡ callRefusal r (choiceRows r m fit kind)
+          choice-unfit e = behind 25 (rw (may, ← b-is, t, e))
 
-          module _ (some : l .left ≡ 0 → ⊥) (v : Bool) (v-is : v ≡ (r .verified && eqb (l .place) (r .asked))) (p : ℕ) (p-is : p ≡ after 2 0 v kind) where
-            place : placeAfter (chose r m) kind ≡ p
-            unfolding writing
-            place =
-                ap (λ (a : Bool). after (writing a 3) 0 (r .verified && eqb (firstPlace (openTo r m)) (r .asked)) kind) i
-                ∙ ap (λ (k : ℕ). after 2 0 (r .verified && eqb k (r .asked)) kind) (first-place (openTo r m) l l-is some)
-                ∙ ap (λ (x : Bool). after 2 0 x kind) (sym v-is) ∙ sym p-is
+          module _ (keeps : fit ≡ true) (l : Left) (l-is : l ≡ leftOf (openPlaces (r .kept) (r .common) m)) where
+            pub choice-none : l .left ≡ 0 → 17 ≡ callRefusal r (choiceRows r m fit kind)
+            choice-none e = behind 17 (rw (may, ← b-is, t, keeps, ← open-none (r .list) (r .count) l (openTo r m) l-is e))
 
-            pub choice-kind : p ≡ 0 → 18 ≡ callRefusal r (choiceRows r m kind)
-            choice-kind e = behind 18 (rw (may, ← b-is, t, ← open-some (r .list) (r .count) l (openTo r m) l-is some, place, eq-eqb p 0 e))
+            module _ (some : l .left ≡ 0 → ⊥) (v : Bool) (v-is : v ≡ (r .verified && eqb (l .place) (r .asked))) (p : ℕ) (p-is : p ≡ after 2 0 v kind) where
+              place : placeAfter (chose r m) kind ≡ p
+              unfolding writing
+              place =
+                  ap (λ (a : Bool). after (writing a 3) 0 (r .verified && eqb (firstPlace (openTo r m)) (r .asked)) kind) i
+                  ∙ ap (λ (k : ℕ). after 2 0 (r .verified && eqb k (r .asked)) kind) (first-place (openTo r m) l l-is some)
+                  ∙ ap (λ (x : Bool). after 2 0 x kind) (sym v-is) ∙ sym p-is
 
-            pub choice-some : (p ≡ 0 → ⊥) → 0 ≡ callRefusal r (choiceRows r m kind)
-            choice-some e = behind 0 (rw (may, ← b-is, t, ← open-some (r .list) (r .count) l (openTo r m) l-is some, place, ne-eqb p 0 e))
+              pub choice-kind : p ≡ 0 → 18 ≡ callRefusal r (choiceRows r m fit kind)
+              choice-kind e = behind 18 (rw (may, ← b-is, t, keeps, ← open-some (r .list) (r .count) l (openTo r m) l-is some, place, eq-eqb p 0 e))
 
-pub ruleset choice-refusals = (limits-stop, choice-role, choice-stage, choice-kind, choice-marks, choice-none, choice-some)
+              pub choice-some : (p ≡ 0 → ⊥) → 0 ≡ callRefusal r (choiceRows r m fit kind)
+              choice-some e = behind 0 (rw (may, ← b-is, t, keeps, ← open-some (r .list) (r .count) l (openTo r m) l-is some, place, ne-eqb p 0 e))
+
+pub ruleset choice-refusals = (limits-stop, choice-role, choice-stage, choice-kind, choice-marks, choice-unfit, choice-none, choice-some)
 
 -- ---- the record behind the choice, and the answer
 module _ (r : Record) (m : ℕ) (y : ChoiceReady r m) (l : Left) (l-is : l ≡ leftOf (openPlaces (r .kept) (r .common) m)) where
@@ -113,12 +117,12 @@ decide-last : (xs : List Row) (x : Row) (r : Record) (d : List ℕ) (action : Ou
 decide-last [] x r d action h = refl
 decide-last (y ∷ xs) x r d action h = rw (h .0) (decide-last xs x r d action (h .1))
 
-module _ (r : Record) (m kind n : ℕ) (n-is : n ≡ callRefusal r (choiceRows r m kind)) (z : n ≡ 0) where
-  given : AllTrue (limitRows r ++ choiceRows r m kind)
-  given = call-given r (choiceRows r m kind) n n-is refl z
+module _ (r : Record) (m : ℕ) (fit : Bool) (kind n : ℕ) (n-is : n ≡ callRefusal r (choiceRows r m fit kind)) (z : n ≡ 0) where
+  given : AllTrue (limitRows r ++ choiceRows r m fit kind)
+  given = call-given r (choiceRows r m fit kind) n n-is refl z
 
   role : r .acceptor ≡ false
-  role = let (may, rest) = back-true (limitRows r) (choiceRows r m kind) given in not-true (r .acceptor) (and-l (not (r .acceptor)) (eqb (r .stage) 2) may)
+  role = let (may, rest) = back-true (limitRows r) (choiceRows r m fit kind) given in not-true (r .acceptor) (and-l (not (r .acceptor)) (eqb (r .stage) 2) may)
 
   kept : keptBelow (r .count) (r .kept) (r .common) ≡ true
   kept = go (r .acceptor) role (given .1 .1 .1 .1 .1 .1 .0) where
@@ -128,19 +132,19 @@ module _ (r : Record) (m kind n : ℕ) (n-is : n ≡ callRefusal r (choiceRows r
 
   pub choose-ready : ChoiceReady r m
   choose-ready =
-      let (may, (marks, (some, (speaks, end)))) = back-true (limitRows r) (choiceRows r m kind) given in
-      record { inside = limits-inside r (choiceRows r m kind) given; kept = kept; some = some }
+      let (may, (marks, (keeps, (some, (speaks, end))))) = back-true (limitRows r) (choiceRows r m fit kind) given in
+      record { inside = limits-inside r (choiceRows r m fit kind) given; kept = kept; some = some }
 
   -- the tests of the writer before 16 pass in the record behind the choice
-  passed : AllTrue (stageRows (chose r m) kind ++ namedRows (chose r m))
+  passed : AllTrue (stageRows (chose r m) kind ++ namedRows (chose r m) fit)
   passed =
-      let (may, (marks, (some, (speaks, end)))) = back-true (limitRows r) (choiceRows r m kind) given in
-      let (l1, (l2, (l3, (l4, (l5, (l6, (l7, (l8, (l9, (l10, (l11, tail))))))))))) = limits-chose r (front-true (limitRows r) (choiceRows r m kind) given) m role marks in
-      (l1, (l2, (l3, (l4, (l5, (l6, (l7, (l8, (l9, (l10, (l11, (speaks, (chosen-allowed r m kept some, tt)))))))))))))
+      let (may, (marks, (keeps, (some, (speaks, end))))) = back-true (limitRows r) (choiceRows r m fit kind) given in
+      let (l1, (l2, (l3, (l4, (l5, (l6, (l7, (l8, (l9, (l10, (l11, tail))))))))))) = limits-chose r (front-true (limitRows r) (choiceRows r m fit kind) given) m role marks in
+      (l1, (l2, (l3, (l4, (l5, (l6, (l7, (l8, (l9, (l10, (l11, (speaks, (keeps, (chosen-allowed r m kept some, tt))))))))))))))
 
-module _ (r : Record) (d : List ℕ) (m : ℕ) (s : Speech) (n : ℕ) (n-is : n ≡ callRefusal r (choiceRows r m (kindIn s))) where
+module _ (r : Record) (d : List ℕ) (m : ℕ) (s : Speech) (n : ℕ) (n-is : n ≡ callRefusal r (choiceRows r m (speechFits s) (kindIn s))) where
   abbrev rows : List Row
-  rows = limitRows r ++ choiceRows r m (kindIn s)
+  rows = limitRows r ++ choiceRows r m (speechFits s) (kindIn s)
 
   abbrev last : Row
   last = fits (chose r m) d (length (spoken (chose r m) s))
@@ -157,11 +161,11 @@ module _ (r : Record) (d : List ℕ) (m : ℕ) (s : Speech) (n : ℕ) (n-is : n 
   module _ (z : n ≡ 0) where
     said : speaking (chose r m) d s ≡ cond (leb (r .used + length (spoken (chose r m) s)) (room d)) message (refused (chose r m) d 16 0)
     unfolding speaking
-    said = decide-last (stageRows (chose r m) (kindIn s) ++ namedRows (chose r m)) last (chose r m) d message (passed r m (kindIn s) n n-is z)
+    said = decide-last (stageRows (chose r m) (kindIn s) ++ namedRows (chose r m) (speechFits s)) last (chose r m) d message (passed r m (speechFits s) (kindIn s) n n-is z)
 
     chosen : choosing r d m s ≡ cond (leb (r .used + length (spoken (chose r m) s)) (room d)) (naming (named (ownOf r) (openTo r m)) message) (refused r d 16 0)
     unfolding choosing
-    chosen = decide-last rows last r d (naming (named (ownOf r) (openTo r m)) message) (given r m (kindIn s) n n-is z)
+    chosen = decide-last rows last r d (naming (named (ownOf r) (openTo r m)) message) (given r m (speechFits s) (kindIn s) n n-is z)
 
     pub choose-made : (q : Record) → q ≡ chose r m → (v : Speech) → v ≡ s → (o : Answer) (d' : List ℕ) → _≡_ {A = Outcome} (record { answer = o; transcript = d' }) (speaking q d v) → (a : Answer) → a ≡ namedChoice r m o
         → _≡_ {A = Outcome} (record { answer = a; transcript = d' }) (choosing r d m s)

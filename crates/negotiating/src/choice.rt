@@ -29,9 +29,9 @@ fn counts_for(early: bool, place: usize, asked: usize) -> bool
     false
 }
 
-// 18, 19, 17 and 18 for a choice with a message of a kind: the first that refuses, or 0.
-pub fn choice_refusal(r: Record, kind: u8, marks: u16) -> u32
-    ensures { λ a. ⌜ a ≡ callRefusal r (choiceRows r marks kind) ⌝ }
+// 18, 19, 25, 17 and 18 for a choice with a message of a kind, whose content keeps its limits or doesn't: the first that refuses, or 0.
+pub fn choice_refusal(r: Record, kind: u8, marks: u16, fit: bool) -> u32
+    ensures { λ a. ⌜ a ≡ callRefusal r (choiceRows r marks fit kind) ⌝ }
 {
     let n = outside(r);
     if n != 0 {
@@ -45,6 +45,9 @@ pub fn choice_refusal(r: Record, kind: u8, marks: u16) -> u32
     }
     if within(marks, r.count as u32) {} else {
         return 19;
+    }
+    if fit {} else {
+        return 25;
     }
     let kept = r.kept;
     let left = choose_kept(kept, r.common, marks);

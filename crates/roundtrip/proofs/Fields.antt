@@ -22,7 +22,7 @@ use Rattle.put.specs.Put.{octetsOf, unsigned32, joined}
 use Rattle.put.proofs.Laws.{joined-append}
 use Rattle.roundtrip.specs.ReadBack.{zeros, LeOctets, SignedBack}
 
-le-drop : (k : ℕ) (s : List ℕ) (at : ℕ) → le k s at ≡ le k (drop at s) 0
+pub le-drop : (k : ℕ) (s : List ℕ) (at : ℕ) → le k s at ≡ le k (drop at s) 0
 unfolding le
 le-drop zero s at = refl
 le-drop (suc k) s at = simp (← le-drop k s at, getD-drop, zero-add)

@@ -2,28 +2,31 @@
 -- Assumes nothing.
 use Prim.Native.Nat.{ℕ, _%_, _<_, _≤_}
 use mathlib.Core.Path.{_≡_, refl, sym, ap, _∙_}
-use mathlib.Core.Bool.{true}
+use mathlib.Core.Bool.{true, false, cond, _&&_}
 use mathlib.Core.List.{List, [], _∷_, _++_, append-nil}
 use native.Mathlib.Omega.{arith}
 use lib.ListN.{length, take, drop, length-append}
 use lib.Seq.{take-at}
 use lib.Dec.{leb, eqb}
 use borrow.Author.Tests.{le-leb, eq-eqb, leb-true, eqb-true}
-use Rattle.octets.specs.Octets.{le}
 use Rattle.octets.proofs.Bools.{both}
 use Rattle.octets.proofs.Same.{id-refl}
+use Rattle.octets.specs.Octets.{le}
 use Rattle.message.specs.Layout.{Shape, nego, exchange, verify, alert, shapeOf, headerOf, signature, Head, headOf, front, Content, contentOf, vectorsOf}
-use Rattle.message.specs.Check.{allPass, SIGNATURE, commonRows, allKeepRule, contentRows, bodyRows, frontRows, messageRows, versionOk, criticalOk, checksumOk, noneCritical, read, fieldsOf, messageVerdict}
-use Rattle.message.proofs.Tables.{giving, pass-append, verdict-is}
+use Rattle.message.specs.Check.{Row, allPass, firstFailing, SIGNATURE, commonRows, allKeepRule, contentRows, bodyRows, frontRows, messageRows, versionOk, criticalOk, checksumOk, Verdict, read, refused, verdict, fieldsOf, messageVerdict}
+use Rattle.message.proofs.Tables.{giving, verdict-is, verdict-append, verdict-read, verdict-refused}
 use Rattle.message.proofs.Shapes.{header-least, shape-nego, shape-exchange, shape-verify, shape-alert}
 use Rattle.token.specs.Token.{orderRows, nextRows, passes}
 use Rattle.put.specs.Put.{joined}
 use Rattle.put.proofs.Laws.{joined-append}
 use Rattle.encode.specs.declared.Heading.{Heading}
 use Rattle.encode.specs.Encode.{Contents, ofNego, ofExchange, ofVerify, ofAlert, sizeOf, headFields, bodyFields, hasKind, fitsFields, encodable, encoded}
-use Rattle.roundtrip.specs.ReadBack.{Sent, shapeFor, headRead, contentRead}
+use Rattle.roundtrip.specs.ReadBack.{Sent, shapeFor, headRead, contentRead, ordinaryIn}
+use Rattle.elements.specs.Elements.{itemsFit}
+use Rattle.elements.proofs.Views.{fit-small}
 use Rattle.encode.proofs.Sizes.{length-encoded}
 use Rattle.roundtrip.proofs.Fields.{number-at, octets-at}
+use Rattle.roundtrip.proofs.Arrays.{critical-read}
 
 -- what can be encoded has the kind of its layout, and a length of 32 bits
 pub record Fitting (h : Heading) (c : Contents) : Type 0 where
@@ -36,9 +39,11 @@ pub fitting : (h : Heading) (c : Contents) → encodable h c ≡ true → Fittin
 unfolding encodable
 fitting h (ofNego o) e =
     let a = both (hasKind (ofNego o) (h .kind .0)) (fitsFields (ofNego o)) e in
-    let b = both (eqb (length (o .schemes) % 16) 0) (leb (length (o .schemes)) 1048560) (a .1) in
+    let b = both (eqb (length (o .schemes) % 16) 0) (leb (length (o .schemes)) 1048560 && itemsFit (o .extensions)) (a .1) in
+    let f = both (leb (length (o .schemes)) 1048560) (itemsFit (o .extensions)) (b .1) in
     let k = leb-true (h .kind .0) 1 (a .0) in
-    let n = leb-true (length (o .schemes)) 1048560 (b .1) in
+    let n = leb-true (length (o .schemes)) 1048560 (f .0) in
+    let s = fit-small (o .extensions) (f .1) .size in
     record { shape = shape-nego _ k; known = omega arith; header = omega arith; small = omega arith }
 fitting h (ofExchange p) e =
     let a = both (hasKind (ofExchange p) (h .kind .0)) (fitsFields (ofExchange p)) e in
@@ -55,6 +60,7 @@ fitting h (ofVerify s) e =
 fitting h (ofAlert p) e =
     let a = both (hasKind (ofAlert p) (h .kind .0)) (fitsFields (ofAlert p)) e in
     let k = eqb-true (h .kind .0) 7 (a .0) in
+    let s = fit-small (p .alerts) (a .1) .size in
     record { shape = shape-alert (h .kind .0) (omega arith) (omega arith) (λ z. omega arith); known = omega arith; header = omega arith; small = omega arith }
 
 header-small : (s : Shape) → headerOf s < 4294967296
@@ -66,6 +72,10 @@ header-small alert = omega arith
 signature-first : (t : List ℕ) → le 8 (signature ++ t) 0 ≡ SIGNATURE
 unfolding le
 signature-first t = refl
+
+-- a table that passes leaves the verdict to the one behind it
+past : (xs ys : List Row) (v : Verdict) → allPass xs ≡ true → verdict (xs ++ ys) v ≡ verdict ys v
+past xs ys v e = verdict-append xs ys v ∙ verdict-is xs (verdict ys v) ∙ rw e
 
 -- the common header, whatever fields are behind it
 module _ (h : Heading) (n : ℕ) (fs : List (List ℕ)) (known : h .kind .0 ≤ 7) (number : h .sequence < 4294967296) (small : n < 4294967296) (id : length (h .conversation) ≡ 16) where
@@ -123,9 +133,8 @@ module _ (h : Heading) (c : Contents) (s : Sent h c) where
       version-encoded (ofVerify k) = refl
       version-encoded (ofAlert p) = refl
 
-      critical-encoded : (d : Contents) → criticalOk (contentRead d) ≡ true
-      unfolding noneCritical
-      critical-encoded (ofNego o) = refl
+      critical-encoded : (d : Contents) → criticalOk (contentRead d) ≡ ordinaryIn d
+      critical-encoded (ofNego o) = critical-read (o .extensions) _
       critical-encoded (ofExchange p) = refl
       critical-encoded (ofVerify k) = refl
       critical-encoded (ofAlert p) = refl
@@ -136,32 +145,40 @@ module _ (h : Heading) (c : Contents) (s : Sent h c) where
       checksum-encoded (ofVerify k) = refl
       checksum-encoded (ofAlert p) = refl
 
-      body-encoded : allPass (bodyRows (shapeFor c) (sizeOf c) (encoded h c)) ≡ true
-      unfolding bodyRows contentRows
-      body-encoded =
-          ap (λ (d : Content). allPass (contentRows (headerOf (shapeFor c)) (sizeOf c) d)) content
-          ∙ giving (contentRows (headerOf (shapeFor c)) (sizeOf c) (contentRead c)) (version-encoded c, (rules, (critical-encoded c, (checksum-encoded c, tt))))
-
-      front-rows : allPass (frontRows (encoded h c ++ r)) ≡ true
-      unfolding frontRows
+      -- the body's rows: all pass but 12, which passes where no type is critical
+      front-rows : frontRows (encoded h c ++ r) ≡ contentRows (headerOf (shapeFor c)) (sizeOf c) (contentRead c)
+      unfolding frontRows bodyRows
       front-rows =
-          ap (λ (g : Head). allPass (bodyRows (shapeOf (g .kind)) (g .length) (front (encoded h c ++ r)))) head-encoded
-          ∙ ap (λ (t : Shape). allPass (bodyRows t (sizeOf c) (front (encoded h c ++ r)))) (fits .shape)
-          ∙ ap (λ (m : List ℕ). allPass (bodyRows (shapeFor c) (sizeOf c) m)) front-encoded
-          ∙ body-encoded
+          ap (λ (g : Head). bodyRows (shapeOf (g .kind)) (g .length) (front (encoded h c ++ r))) head-encoded
+          ∙ ap (λ (t : Shape). bodyRows t (sizeOf c) (front (encoded h c ++ r))) (fits .shape)
+          ∙ ap (λ (m : List ℕ). bodyRows (shapeFor c) (sizeOf c) m) front-encoded
+          ∙ ap (λ (d : Content). contentRows (headerOf (shapeFor c)) (sizeOf c) d) content
 
-      pub verdict-encoded : messageVerdict (encoded h c ++ r) ≡ read (fieldsOf (headRead h c))
+      pub front-verdict : (v : Verdict) → verdict (frontRows (encoded h c ++ r)) v ≡ cond (ordinaryIn c) v (refused 12)
+      unfolding contentRows
+      front-verdict v = rw front-rows (simp (version-encoded c, rules, critical-encoded c, checksum-encoded c))
+
+      pub verdict-encoded : messageVerdict (encoded h c ++ r) ≡ cond (ordinaryIn c) (read (fieldsOf (headRead h c))) (refused 12)
       unfolding messageVerdict messageRows
       verdict-encoded =
-          let e = pass-append (commonRows (length (encoded h c ++ r)) (headOf (encoded h c ++ r))) (frontRows (encoded h c ++ r)) common-encoded front-rows in
-          verdict-is (commonRows (length (encoded h c ++ r)) (headOf (encoded h c ++ r)) ++ frontRows (encoded h c ++ r)) (read (fieldsOf (headOf (encoded h c ++ r))))
-          ∙ rw e (ap (λ (g : Head). read (fieldsOf g)) head-encoded)
+          let v = read (fieldsOf (headOf (encoded h c ++ r))) in
+          past (commonRows (length (encoded h c ++ r)) (headOf (encoded h c ++ r))) (frontRows (encoded h c ++ r)) v common-encoded ∙ front-verdict v
+          ∙ ap (λ (g : Head). cond (ordinaryIn c) (read (fieldsOf g)) (refused 12)) head-encoded
+
+      order-encoded : allPass (orderRows (headOf (encoded h c ++ r)) (h .sequence) (h .conversation)) ≡ true
+      unfolding orderRows
+      order-encoded = rw head-encoded (giving (orderRows (headRead h c) (h .sequence) (h .conversation)) (eq-eqb (h .sequence) (h .sequence) refl, (id-refl (h .conversation) (s .id), tt)))
 
       -- with its own number and conversation it passes 7 and 8 too
-      pub passes-encoded : passes (encoded h c ++ r) (h .sequence) (h .conversation) ≡ true
-      unfolding nextRows orderRows
-      passes-encoded =
-          pass-append (commonRows (length (encoded h c ++ r)) (headOf (encoded h c ++ r))) (orderRows (headOf (encoded h c ++ r)) (h .sequence) (h .conversation) ++ frontRows (encoded h c ++ r)) common-encoded
-          (pass-append (orderRows (headOf (encoded h c ++ r)) (h .sequence) (h .conversation)) (frontRows (encoded h c ++ r))
-          (rw head-encoded (giving (orderRows (headRead h c) (h .sequence) (h .conversation)) (eq-eqb (h .sequence) (h .sequence) refl, (id-refl (h .conversation) (s .id), tt))))
-          front-rows)
+      next-encoded : (v : Verdict) → verdict (nextRows (encoded h c ++ r) (h .sequence) (h .conversation)) v ≡ cond (ordinaryIn c) v (refused 12)
+      unfolding nextRows
+      next-encoded v =
+          let order = orderRows (headOf (encoded h c ++ r)) (h .sequence) (h .conversation) in
+          past (commonRows (length (encoded h c ++ r)) (headOf (encoded h c ++ r))) (order ++ frontRows (encoded h c ++ r)) v common-encoded
+          ∙ past order (frontRows (encoded h c ++ r)) v order-encoded ∙ front-verdict v
+
+      pub passes-encoded : ordinaryIn c ≡ true → passes (encoded h c ++ r) (h .sequence) (h .conversation) ≡ true
+      passes-encoded o = let g = fieldsOf (headRead h c) in verdict-read (nextRows (encoded h c ++ r) (h .sequence) (h .conversation)) g g (next-encoded (read g) ∙ rw o) .0
+
+      pub stops-encoded : ordinaryIn c ≡ false → (passes (encoded h c ++ r) (h .sequence) (h .conversation) ≡ false) × (firstFailing (nextRows (encoded h c ++ r) (h .sequence) (h .conversation)) ≡ 12)
+      stops-encoded o = let g = fieldsOf (headRead h c) in verdict-refused (nextRows (encoded h c ++ r) (h .sequence) (h .conversation)) g 12 (next-encoded (read g) ∙ rw o)

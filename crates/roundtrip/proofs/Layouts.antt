@@ -4,20 +4,24 @@
 use Prim.Native.Nat.{ℕ, _+_, _*_, _/_, _%_, _<_, _≤_}
 use mathlib.Core.Path.{_≡_, refl, ap, _∙_}
 use mathlib.Core.Bool.{true}
-use mathlib.Core.List.{List, [], _∷_, _++_}
+use mathlib.Core.List.{List, [], _∷_, _++_, append-nil}
 use native.Mathlib.Omega.{arith}
-use lib.ListN.{length, take, length-append}
+use lib.ListN.{length, drop, length-append}
 use lib.Signed.{mag}
 use Rattle.octets.specs.Octets.{le, octets}
 use Rattle.vector.specs.declared.Vector.{Vector}
 use Rattle.vector.specs.Vector.{keepsRule, part, shown}
-use Rattle.message.specs.Layout.{nego, exchange, verify, alert, padsOf, contentOf, vectorsOf, schemeVector, exchangeVector, checksumVector, alertVector, elementsAt, elementsOf}
+use Rattle.vector.proofs.Rule.{inside-rule}
+use Rattle.message.specs.Layout.{nego, exchange, verify, alert, padsOf, contentOf, vectorsOf, schemeVector, extensionVector, exchangeVector, checksumVector, alertVector, elementsOf}
 use Rattle.message.specs.Check.{allKeepRule}
-use Rattle.message.specs.Show.{idsOf, schemesIn, nestedOf}
-use Rattle.put.specs.Put.{octetsOf, unsigned32, joined}
+use Rattle.message.specs.Show.{idsOf, schemesIn}
+use Rattle.put.specs.Put.{unsigned32}
+use Rattle.elements.specs.Elements.{offsetOf, itemOctets, itemsFit}
+use Rattle.elements.proofs.Views.{fit-small}
+use Rattle.roundtrip.proofs.Arrays.{TypesFit, Reads, array-reads, offset-small}
 use Rattle.encode.specs.declared.Heading.{Heading}
-use Rattle.encode.specs.Encode.{Offer, Payload, Checksum, Pulse, Contents, ofNego, ofExchange, ofVerify, ofAlert, sizeOf, headFields, bodyFields, octetVectorFields, encoded}
-use Rattle.roundtrip.specs.ReadBack.{contentRead, Shows, padsZero}
+use Rattle.encode.specs.Encode.{Offer, Payload, Checksum, Alarm, Contents, ofNego, ofExchange, ofVerify, ofAlert, sizeOf, headFields, bodyFields, encoded}
+use Rattle.roundtrip.specs.ReadBack.{placedVector, contentRead, Shows, padsZero}
 use Rattle.encode.proofs.Sizes.{length-encoded}
 use Rattle.roundtrip.proofs.Fields.{zeros-le, number-at, octets-at, drop-joined, shown-field, behindHeader, payload-rule, payload-shown, signed-shown, unsigned-small}
 
@@ -31,7 +35,7 @@ module _ (h : Heading) (id : length (h .conversation) ≡ 16) where
   first-field c x rest e n w = octets-at 6 40 (fields c) (simp (length-append, id)) x rest e n w
 
   -- NEGO
-  module _ (o : Offer) (whole : length (o .random) ≡ 32) (ids : length (o .schemes) % 16 ≡ 0) (count : length (o .schemes) ≤ 1048560) where
+  module _ (o : Offer) (whole : length (o .random) ≡ 32) (ids : length (o .schemes) % 16 ≡ 0) (count : length (o .schemes) ≤ 1048560) (fit : itemsFit (o .extensions) ≡ true) where
     nego-random : octets 32 (encoded h (ofNego o)) 40 ≡ o .random
     nego-random = first-field (ofNego o) (o .random) _ refl 32 whole
 
@@ -51,21 +55,30 @@ module _ (h : Heading) (id : length (h .conversation) ≡ 16) where
     unfolding encoded
     nego-pad = number-at 10 86 (fields (ofNego o)) (simp (length-append, id, whole)) 2 0 _ refl (omega arith)
 
-    nego-extensions : le 4 (encoded h (ofNego o)) 88 ≡ 0
+    nego-extensions : le 4 (encoded h (ofNego o)) 88 ≡ offsetOf (length (o .extensions)) (96 + length (o .schemes))
     unfolding encoded
-    nego-extensions = number-at 11 88 (fields (ofNego o)) (simp (length-append, id, whole)) 4 0 _ refl (omega arith)
+    nego-extensions = number-at 11 88 (fields (ofNego o)) (simp (length-append, id, whole)) 4 (offsetOf (length (o .extensions)) (96 + length (o .schemes))) _ refl (offset-small _ _ (omega arith))
 
-    nego-no-extension : le 2 (encoded h (ofNego o)) 92 ≡ 0
+    nego-many : le 2 (encoded h (ofNego o)) 92 ≡ length (o .extensions)
     unfolding encoded
-    nego-no-extension = number-at 12 92 (fields (ofNego o)) (simp (length-append, id, whole)) 2 0 _ refl (omega arith)
+    nego-many = let k = fit-small (o .extensions) fit .few in number-at 12 92 (fields (ofNego o)) (simp (length-append, id, whole)) 2 (length (o .extensions)) _ refl (omega arith)
+
+    nego-behind : drop (96 + length (o .schemes)) (encoded h (ofNego o)) ≡ itemOctets (96 + length (o .schemes)) (o .extensions)
+    unfolding encoded
+    nego-behind = drop-joined 15 (fields (ofNego o)) (96 + length (o .schemes)) (simp (length-append, id, whole) (omega arith)) ∙ append-nil _
+
+    nego-length : length (encoded h (ofNego o)) ≡ sizeOf (ofNego o)
+    nego-length = length-encoded h id (ofNego o) whole
+
+    nego-vector : extensionVector (encoded h (ofNego o)) ≡ placedVector 12 (96 + length (o .schemes)) (length (o .extensions))
+    nego-vector = simp (nego-extensions, nego-many)
 
     nego-pad-2 : le 2 (encoded h (ofNego o)) 94 ≡ 0
     unfolding encoded
     nego-pad-2 = number-at 13 94 (fields (ofNego o)) (simp (length-append, id, whole)) 2 0 _ refl (omega arith)
 
-    pub nego-content : contentOf nego (encoded h (ofNego o)) ≡ contentRead (ofNego o)
-    unfolding contentOf elementsAt
-    nego-content = simp (nego-random, nego-version, nego-offset, nego-count, nego-extensions, nego-no-extension)
+    nego-scheme-vector : schemeVector (encoded h (ofNego o)) ≡ behindHeader 16 96 (length (o .schemes) / 16)
+    nego-scheme-vector = simp (nego-offset, nego-count)
 
     pub nego-pads : padsZero (encoded h (ofNego o)) (padsOf nego) ≡ true
     unfolding padsZero
@@ -78,17 +91,41 @@ module _ (h : Heading) (id : length (h .conversation) ≡ 16) where
     counted : length (o .schemes) / 16 * 16 ≡ length (o .schemes)
     counted = omega arith
 
-    pub nego-rules : allKeepRule 96 (sizeOf (ofNego o)) (vectorsOf (contentRead (ofNego o))) ≡ true
-    unfolding allKeepRule vectorsOf keepsRule
-    nego-rules = rw (payload-rule 16 96 (length (o .schemes) / 16) (o .schemes) counted)
+    nego-schemes-rule : keepsRule 96 (sizeOf (ofNego o)) (behindHeader 16 96 (length (o .schemes) / 16)) ≡ true
+    nego-schemes-rule = inside-rule _ _ _ (record { behind = omega arith; before = omega arith })
 
-    pub nego-shows : Shows (ofNego o) (encoded h (ofNego o))
+    -- the schemes show whatever the extensions' types are
+    pub nego-listed : (shown 96 (encoded h (ofNego o)) (schemeVector (encoded h (ofNego o))) ≡ o .schemes) × (schemesIn (encoded h (ofNego o)) ≡ idsOf (o .schemes))
     unfolding schemesIn
-    nego-shows =
-        let v : schemeVector (encoded h (ofNego o)) ≡ behindHeader 16 96 (length (o .schemes) / 16) = simp (nego-offset, nego-count) in
+    nego-listed =
         let e : shown 96 (encoded h (ofNego o)) (schemeVector (encoded h (ofNego o))) ≡ o .schemes =
-        rw v (payload-shown 16 96 (length (o .schemes) / 16) (o .schemes) counted (encoded h (ofNego o)) (length-encoded h id (ofNego o) whole) nego-schemes) in
+        rw nego-scheme-vector (shown-field 96 (encoded h (ofNego o)) (o .schemes) (behindHeader 16 96 (length (o .schemes) / 16)) (rw nego-length nego-schemes-rule) (rw counted nego-schemes)) in
         (e, ap idsOf e)
+
+    module _ (types : TypesFit (o .extensions)) where
+      nego-reads : Reads 96 (encoded h (ofNego o)) (96 + length (o .schemes)) (o .extensions)
+      nego-reads =
+          let k = fit-small (o .extensions) fit .size in
+          let n = nego-length in
+          array-reads 96 (encoded h (ofNego o)) (96 + length (o .schemes)) (o .extensions) (omega arith) nego-behind n (omega arith) types
+
+      pub nego-content : contentOf nego (encoded h (ofNego o)) ≡ contentRead (ofNego o)
+      unfolding contentOf
+      nego-content =
+          let a = nego-random in
+          let b = nego-version in
+          let s = nego-scheme-vector in
+          let v = nego-vector in
+          let e = ap (λ (v : Vector). elementsOf (part (encoded h (ofNego o)) v)) nego-vector ∙ nego-reads .elements in
+          cc
+
+      pub nego-rules : allKeepRule 96 (sizeOf (ofNego o)) (vectorsOf (contentRead (ofNego o))) ≡ true
+      unfolding allKeepRule vectorsOf
+      nego-rules =
+          rw (nego-schemes-rule, ← nego-length, nego-reads .array) (nego-reads .rules)
+
+      pub nego-shows : Shows (ofNego o) (encoded h (ofNego o))
+      nego-shows = (nego-listed .0, (nego-listed .1, rw nego-vector (nego-reads .shows)))
 
   -- the messages of header 64
   module _ (p : Payload) (whole : length (p .scheme) ≡ 16) (size : length (p .value) ≤ 4294967231) where
@@ -174,8 +211,8 @@ module _ (h : Heading) (id : length (h .conversation) ≡ 16) where
         let v : checksumVector (encoded h (ofVerify k)) ≡ behindHeader 1 80 (length (k .value)) = simp (verify-offset, verify-length) in
         (rw v (payload-shown 1 80 (length (k .value)) (k .value) (omega arith) (encoded h (ofVerify k)) (length-encoded h id (ofVerify k) whole) verify-value), signed-shown 80 _ 64 (k .type) (omega (arith, length-encoded h id (ofVerify k) whole)) verify-type range)
 
-  -- ALERT, whose array and value are the same in every message
-  module _ (p : Pulse) (whole : length (p .scheme) ≡ 16) (range : mag (p .code) < 2147483648) where
+  -- ALERT
+  module _ (p : Alarm) (whole : length (p .scheme) ≡ 16) (range : mag (p .code) < 2147483648) (fit : itemsFit (p .alerts) ≡ true) (types : TypesFit (p .alerts)) where
     alert-scheme : octets 16 (encoded h (ofAlert p)) 40 ≡ p .scheme
     alert-scheme = first-field (ofAlert p) (p .scheme) _ refl 16 whole
 
@@ -183,13 +220,13 @@ module _ (h : Heading) (id : length (h .conversation) ≡ 16) where
     unfolding encoded
     alert-code = number-at 7 56 (fields (ofAlert p)) (simp (length-append, id, whole)) 4 (unsigned32 (p .code)) _ refl (unsigned-small (p .code) range)
 
-    alert-offset : le 4 (encoded h (ofAlert p)) 60 ≡ 72
+    alert-offset : le 4 (encoded h (ofAlert p)) 60 ≡ offsetOf (length (p .alerts)) 72
     unfolding encoded
-    alert-offset = number-at 8 60 (fields (ofAlert p)) (simp (length-append, id, whole)) 4 72 _ refl (omega arith)
+    alert-offset = number-at 8 60 (fields (ofAlert p)) (simp (length-append, id, whole)) 4 (offsetOf (length (p .alerts)) 72) _ refl (offset-small _ _ (omega arith))
 
-    alert-count : le 2 (encoded h (ofAlert p)) 64 ≡ 1
+    alert-count : le 2 (encoded h (ofAlert p)) 64 ≡ length (p .alerts)
     unfolding encoded
-    alert-count = number-at 9 64 (fields (ofAlert p)) (simp (length-append, id, whole)) 2 1 _ refl (omega arith)
+    alert-count = let k = fit-small (p .alerts) fit .few in number-at 9 64 (fields (ofAlert p)) (simp (length-append, id, whole)) 2 (length (p .alerts)) _ refl (omega arith)
 
     alert-pad : le 2 (encoded h (ofAlert p)) 66 ≡ 0
     unfolding encoded
@@ -199,38 +236,38 @@ module _ (h : Heading) (id : length (h .conversation) ≡ 16) where
     unfolding encoded
     alert-pad-2 = number-at 11 68 (fields (ofAlert p)) (simp (length-append, id, whole)) 4 0 _ refl (omega arith)
 
-    alert-array : octets 12 (encoded h (ofAlert p)) 72 ≡ joined (octetsOf 4 1 ∷ octetVectorFields 84 8)
+    alert-behind : drop 72 (encoded h (ofAlert p)) ≡ itemOctets 72 (p .alerts)
     unfolding encoded
-    alert-array = ap (take 12) (drop-joined 12 (fields (ofAlert p)) 72 (simp (length-append, id, whole)))
+    alert-behind = drop-joined 12 (fields (ofAlert p)) 72 (simp (length-append, id, whole)) ∙ append-nil _
 
-    alert-value : octets 8 (encoded h (ofAlert p)) 84 ≡ joined (octetsOf 4 8 ∷ octetsOf 4 1 ∷ [])
-    unfolding encoded
-    alert-value = ap (take 8) (drop-joined 15 (fields (ofAlert p)) 84 (simp (length-append, id, whole)))
+    alert-length : length (encoded h (ofAlert p)) ≡ sizeOf (ofAlert p)
+    alert-length = length-encoded h id (ofAlert p) whole
 
-    alert-vector : alertVector (encoded h (ofAlert p)) ≡ record { size = 12; offset = record { 0 = 72 }; count = 1 }
+    alert-reads : Reads 72 (encoded h (ofAlert p)) 72 (p .alerts)
+    alert-reads =
+        let k = fit-small (p .alerts) fit .size in
+        let n = alert-length in
+        array-reads 72 (encoded h (ofAlert p)) 72 (p .alerts) (omega arith) alert-behind n (omega arith) types
+
+    alert-vector : alertVector (encoded h (ofAlert p)) ≡ placedVector 12 72 (length (p .alerts))
     alert-vector = simp (alert-offset, alert-count)
-
-    alert-elements : elementsOf (part (encoded h (ofAlert p)) (alertVector (encoded h (ofAlert p)))) ≡ record { type = 1; value = record { size = 1; offset = record { 0 = 84 }; count = 8 } } ∷ []
-    alert-elements = ap (λ (v : Vector). elementsOf (part (encoded h (ofAlert p)) v)) alert-vector ∙ ap elementsOf alert-array ∙ read-array where
-      read-array : elementsOf (joined (octetsOf 4 1 ∷ octetVectorFields 84 8)) ≡ record { type = 1; value = record { size = 1; offset = record { 0 = 84 }; count = 8 } } ∷ []
-      read-array = unfold elementsAt le in refl
 
     pub alert-content : contentOf alert (encoded h (ofAlert p)) ≡ contentRead (ofAlert p)
     unfolding contentOf
-    alert-content = let a = alert-scheme in let b = alert-code in let v = alert-vector in let e = alert-elements in cc
+    alert-content =
+        let a = alert-scheme in
+        let b = alert-code in
+        let v = alert-vector in
+        let e = ap (λ (v : Vector). elementsOf (part (encoded h (ofAlert p)) v)) alert-vector ∙ alert-reads .elements in
+        cc
 
     pub alert-pads : padsZero (encoded h (ofAlert p)) (padsOf alert) ≡ true
     unfolding padsZero
     alert-pads = simp (zeros-le 2 (encoded h (ofAlert p)) 66, zeros-le 4 (encoded h (ofAlert p)) 68, alert-pad, alert-pad-2)
 
     pub alert-rules : allKeepRule 72 (sizeOf (ofAlert p)) (vectorsOf (contentRead (ofAlert p))) ≡ true
-    unfolding allKeepRule vectorsOf keepsRule
-    alert-rules = refl
+    unfolding allKeepRule vectorsOf
+    alert-rules = rw (← alert-length, alert-reads .array) (alert-reads .rules)
 
     pub alert-shows : Shows (ofAlert p) (encoded h (ofAlert p))
-    unfolding nestedOf keepsRule le
-    alert-shows =
-        let n = length-encoded h id (ofAlert p) whole in
-        let e : shown 72 (encoded h (ofAlert p)) (alertVector (encoded h (ofAlert p))) ≡ joined (octetsOf 4 1 ∷ octetVectorFields 84 8) =
-        rw alert-vector (shown-field 72 (encoded h (ofAlert p)) _ _ (rw n) alert-array) in
-        (e, (simp e (shown-field 72 (encoded h (ofAlert p)) _ _ (rw n) alert-value), signed-shown 72 _ 56 (p .code) (omega (arith, n)) alert-code range))
+    alert-shows = (rw alert-vector (alert-reads .shows), signed-shown 72 _ 56 (p .code) (omega (arith, alert-length)) alert-code range)

@@ -1,3 +1,4 @@
 pub mod Places
 pub mod Ids
 pub mod Lines
+pub mod Items

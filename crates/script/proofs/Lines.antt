@@ -10,14 +10,16 @@ use lib.Dec.{eqb}
 use borrow.Author.Tests.{eq-eqb, ne-eqb}
 use Rattle.octets.specs.Octets.{sameOctets}
 use Rattle.text.specs.Text.{quoted}
+use Rattle.elements.specs.declared.Elements.{Elements}
+use Rattle.elements.specs.Elements.{noElements}
 use Rattle.script.specs.declared.Command.{Command}
 use Rattle.fields.specs.declared.hex.Decoded.{Decoded}
 use Rattle.fields.specs.declared.hex.Decoded.the-variants as decoded
 use Rattle.fields.specs.declared.hex.IdText.{IdText}
 use Rattle.fields.specs.declared.number.Number.{Number}
 use Rattle.fields.specs.declared.number.Number.the-variants as number
-use Rattle.fields.specs.Fields.{numberOf, decodedAs, Decodes, idAs, Numeral, is, hexadecimalOf, roomOf, Octets, of, Front, front, bad, fit, octetsOf, randomOf, idOf}
-use Rattle.script.specs.Grammar.{fieldsOf, first, others, only, idsOf, Form, forms, form, formOf, past, numberIn, hasId, idIn, restIn, Line, lineAs, line, badLine, numberThen, idThen, frontThen, rested, named, numbered, called, chosen, ends, verbs, speeches, speechVerb, placeFrom, placeOf, verbOf, fieldsLine, commandOf}
+use Rattle.fields.specs.Fields.{numberOf, decodedAs, Decodes, idAs, Numeral, is, hexadecimalOf, roomOf, Octets, of, Front, front, bad, fit, octetsOf, idOf}
+use Rattle.script.specs.Grammar.{fieldsOf, first, others, only, idsOf, Form, forms, form, formOf, past, numberIn, hasId, idIn, restIn, Line, lineAs, line, badLine, numberThen, octetsThen, frontThen, itemsIn, itemsThen, extended, rested, named, numbered, called, chosen, ends, verbs, speeches, speechVerb, placeFrom, placeOf, verbOf, fieldsLine, commandOf}
 use Rattle.script.specs.Steps.{fieldsFrom}
 use Rattle.script.proofs.Places.{past-none, from-start, field-there}
 use Rattle.fields.proofs.Decoding.{fits}
@@ -73,23 +75,19 @@ module _ (s : List ℕ) (from room kind : ℕ) where
   unfolding restIn
   rest-ids h x e = rw (eq-eqb _ _ h) e
 
-  module _ (no-ids : kind ≡ 8 → ⊥) (no-octets : kind ≡ 7 → ⊥) (no-random : kind ≡ 6 → ⊥) where
+  module _ (no-ids : kind ≡ 8 → ⊥) (no-octets : kind ≡ 7 → ⊥) where
     pub rest-more : from ≤ length s → bad ≡ fit room (restIn kind (fieldsFrom s from))
     unfolding restIn
-    rest-more h = rw (ne-eqb _ _ no-ids, ne-eqb _ _ no-octets, ne-eqb _ _ no-random, field-there s from h)
+    rest-more h = rw (ne-eqb _ _ no-ids, ne-eqb _ _ no-octets, field-there s from h)
 
     pub rest-none : length s < from → front 0 [] ≡ fit room (restIn kind (fieldsFrom s from))
     unfolding restIn
-    rest-none h = rw (ne-eqb _ _ no-ids, ne-eqb _ _ no-octets, ne-eqb _ _ no-random, past-none s from h) (fits room 0 (of []) [] refl refl (omega arith))
+    rest-none h = rw (ne-eqb _ _ no-ids, ne-eqb _ _ no-octets, past-none s from h) (fits room 0 (of []) [] refl refl (omega arith))
 
 module _ (s : List ℕ) (from kind : ℕ) (no-ids : kind ≡ 8 → ⊥) (f : List ℕ) (f-is : f ≡ only (fieldsFrom s from)) (d : List ℕ) (r : Decoded) (d' : List ℕ) where
   pub rest-octets : kind ≡ 7 → Decodes f d (octetsOf f) r d' → decodedAs r d' ≡ fit (length d) (restIn kind (fieldsFrom s from))
   unfolding restIn
   rest-octets h e = rw (ne-eqb _ _ no-ids, eq-eqb _ _ h, ← f-is) (e .says)
-
-  pub rest-random : (kind ≡ 7 → ⊥) → kind ≡ 6 → Decodes f d (randomOf f) r d' → decodedAs r d' ≡ fit (length d) (restIn kind (fieldsFrom s from))
-  unfolding restIn
-  rest-random g h e = rw (ne-eqb _ _ no-ids, ne-eqb _ _ g, eq-eqb _ _ h, ← f-is) (e .says)
 
 -- the columns of the table, as the code has them
 abbrev column : (Form → ℕ) → List ℕ
@@ -100,22 +98,39 @@ unfolding formOf
 of-form f verb = List·getD-map f forms verb (form 0 0 0)
 
 -- a line that is none of the calls
-bad-line : (c : Command) (d : List ℕ) → c ≡ badLine .command → lineAs c d ≡ badLine
+pub bad-line : (c : Command) (d : List ℕ) → c ≡ badLine .command → lineAs c d ≡ badLine
 bad-line c d e = rw e
 
-module _ (verb : ℕ) (acceptor : Bool) (marks n : ℕ) (i : List ℕ) (fs : List (List ℕ)) (room kind : ℕ) (kind-is : kind ≡ getD (column (λ f. f .rest)) verb 0) (r : Decoded) (d : List ℕ) (says : decodedAs r d ≡ fit room (restIn kind fs)) where
-  rested-is : rested verb acceptor marks n i fs room ≡ frontThen (decodedAs r d) (line verb acceptor marks n i)
+module _ (verb : ℕ) (acceptor : Bool) (marks n : ℕ) (i : List ℕ) (fs : List (List ℕ)) (room kind : ℕ) (kind-is : kind ≡ getD (column (λ f. f .rest)) verb 0) where
+  abbrev byKind : ℕ → Line
+  byKind k =
+      cond (eqb k 6) (extended fs room (line verb acceptor marks n i))
+      (cond (eqb k 9) (itemsThen room [] (itemsIn fs) (line verb acceptor marks n i false))
+      (frontThen (fit room (restIn k fs)) (line verb acceptor marks n i false noElements)))
+
+  rested-is : rested verb acceptor marks n i fs room ≡ byKind kind
   unfolding rested
-  rested-is = rw (← of-form (λ f. f .rest) verb, ← kind-is, ← says)
+  rested-is = ap byKind (sym (kind-is ∙ of-form (λ f. f .rest) verb))
 
-  pub rested-bad : r ≡ decoded.Bad → (c : Command) → c ≡ badLine .command → lineAs c d ≡ rested verb acceptor marks n i fs room
-  rested-bad h c e = bad-line c d e ∙ sym (rested-is ∙ rw h)
+  pub rested-extensions : kind ≡ 6 → (x : Line) → x ≡ extended fs room (line verb acceptor marks n i) → x ≡ rested verb acceptor marks n i fs room
+  rested-extensions h x e = e ∙ sym (rested-is ∙ rw (eq-eqb _ _ h))
 
-  pub rested-good : (k : ℕ) → r ≡ decoded.Octets k → lineAs (line verb acceptor marks n i k [] .command) d ≡ rested verb acceptor marks n i fs room
-  rested-good k h = sym (rested-is ∙ rw h)
+  module _ (no-random : kind ≡ 6 → ⊥) where
+    pub rested-alerts : kind ≡ 9 → (x : Line) → x ≡ itemsThen room [] (itemsIn fs) (line verb acceptor marks n i false) → x ≡ rested verb acceptor marks n i fs room
+    rested-alerts h x e = e ∙ sym (rested-is ∙ rw (ne-eqb _ _ no-random, eq-eqb _ _ h))
+
+    module _ (no-alerts : kind ≡ 9 → ⊥) (r : Decoded) (d : List ℕ) (says : decodedAs r d ≡ fit room (restIn kind fs)) where
+      rested-octets : rested verb acceptor marks n i fs room ≡ frontThen (decodedAs r d) (line verb acceptor marks n i false noElements)
+      rested-octets = rested-is ∙ rw (ne-eqb _ _ no-random, ne-eqb _ _ no-alerts, ← says)
+
+      pub rested-bad : r ≡ decoded.Bad → (c : Command) → c ≡ badLine .command → lineAs c d ≡ rested verb acceptor marks n i fs room
+      rested-bad h c e = bad-line c d e ∙ sym (rested-octets ∙ rw h)
+
+      pub rested-good : (k : ℕ) → r ≡ decoded.Octets k → (e : Elements) → e ≡ noElements → lineAs (line verb acceptor marks n i false e k [] .command) d ≡ rested verb acceptor marks n i fs room
+      rested-good k h e e-is = rw e-is (sym (rested-octets ∙ rw h))
 
 module _ (verb : ℕ) (acceptor : Bool) (marks n : ℕ) (fs : List (List ℕ)) (room kind : ℕ) (kind-is : kind ≡ getD (column (λ f. f .id)) verb 0) (b : Bool) (b-is : b ≡ hasId kind acceptor) (r : IdText) (says : idAs r ≡ idIn b fs) where
-  named-is : named verb acceptor marks n fs room ≡ idThen (idAs r) (λ i. rested verb acceptor marks n i (past b fs) room)
+  named-is : named verb acceptor marks n fs room ≡ octetsThen (idAs r) (λ i. rested verb acceptor marks n i (past b fs) room)
   unfolding named
   named-is = simp (sym (of-form (λ f. f .id) verb), sym kind-is, sym b-is, sym says)
 
@@ -253,9 +268,9 @@ pub ruleset numbers = (number-none, number-room, number-marks, number-code)
 
 pub ruleset named-ids = (has-own, has-conversation, has-none, id-some, id-none)
 
-pub ruleset rests = (rest-ids, rest-octets, rest-random, rest-more, rest-none)
+pub ruleset rests = (rest-ids, rest-octets, rest-more, rest-none)
 
-pub ruleset resteds = (rested-bad, rested-good)
+pub ruleset resteds = (rested-extensions, rested-alerts, rested-bad)
 
 pub ruleset nameds = (named-bad, named-good)
 

@@ -1,31 +1,41 @@
 // The text of a script: a line read into one command.
 ghost use mathlib.Core.Path.{_≡_};
-ghost use lib.ListN.{length};
+ghost use Prim.Native.Nat.{_≤_};
+ghost use lib.ListN.{length, take};
 ghost use Rattle.script.specs.Steps.{fieldsFrom};
-ghost use Rattle.script.specs.Grammar.{verbs, ends, speeches, placeOf, verbOf, speechVerb, hasId, lineAs, badLine, rested, named, numbered, called, chosen, commandOf};
+ghost use Rattle.script.specs.Grammar.{verbs, ends, speeches, placeOf, verbOf, speechVerb, hasId, itemsIn, lineAs, line as Grammar·line, badLine, itemsThen, extended, rested, named, numbered, called, chosen, commandOf};
+use elements::Elements;
 use field::behind;
 use field::field as field_at;
 use field::past;
 use field::place;
 use fields::hex::Decoded;
+use fields::hex::random;
 use fields::is_word;
 use fields::number::Number;
 use fields::octet;
+use item::added;
+use item::is_test;
+use item::item;
 use value::id_in;
 use value::number_in;
 use value::rest_in;
 
 mod field;
+mod item;
 mod value;
 
-// What a line says: the call, its end, the MARKS of a choice, its number (ROOM, a reply's MARKS, TYPE or CODE), its id (CONVERSATION or ID), and how many
-// octets it is given (RANDOM, OCTETS, or the ids of a list). A field that a call does not have is zero.
+// What a line says: the call, its end, the MARKS of a choice, its number (ROOM, a reply's MARKS, TYPE or CODE), its id (CONVERSATION or ID), whether it is a
+// test call, its extensions or alerts, and how many octets it is given (RANDOM and the values of the extensions, the values of the alerts, OCTETS, or the
+// ids of a list). A field that a call does not have is zero.
 pub struct Command {
     pub verb: usize,
     pub acceptor: bool,
     pub marks: u32,
     pub number: u32,
     pub id: [u8; 16],
+    pub test: bool,
+    pub elements: Elements,
     pub length: usize,
 }
 
@@ -74,11 +84,13 @@ const ID: u8 = 4;
 
 const CONVERSATION: u8 = 5;
 
-const RANDOM: u8 = 6;
+const EXTENSIONS: u8 = 6;
 
 const OCTETS: u8 = 7;
 
 const IDS: u8 = 8;
+
+const ALERTS: u8 = 9;
 
 // By verb: which number a call has, which id, and what the rest of its line is.
 const NUMBERS: [u8; 14] = [
@@ -117,44 +129,95 @@ const NAMES: [u8; 14] = [
 
 const RESTS: [u8; 14] = [
     NONE,
-    RANDOM,
-    RANDOM,
+    EXTENSIONS,
+    EXTENSIONS,
     OCTETS,
     OCTETS,
     OCTETS,
-    NONE,
+    ALERTS,
     OCTETS,
     NONE,
     NONE,
     IDS,
     OCTETS,
     OCTETS,
-    NONE,
+    ALERTS,
 ];
 
 // A line that is none of the calls.
 fn bad() -> Command
     ensures { λ r. ⌜ r ≡ badLine .command ⌝ }
 {
+    let elements = Elements::none();
     Command {
         verb: 0,
         acceptor: false,
         marks: 0,
         number: 0,
         id: [0u8; 16],
+        test: false,
+        elements,
         length: 0,
     }
+}
+
+// A command with extensions or alerts, whose values are put one behind the other, from `start` on.
+fn with_items(c: Command, line: &[u8], from: usize, start: usize, lent: &mut [u8]) -> Command
+    requires { ⌜ start ≤ length (now lent) ⌝ }
+    ensures { λ r. ⌜ lineAs r (now (lent .exit)) ≡ itemsThen (length (now (lent .entry))) (take start (now (lent .entry))) (itemsIn (fieldsFrom (now (line .entry)) from)) (Grammar·line (c .verb) (c .acceptor) (c .marks) (c .number) (c .id) (c .test)) ⌝ }
+{
+    let mut elements = Elements::none();
+    let mut at = from;
+    let mut n = start;
+    while at <= line.len() {
+        let next = item(field_at(line, at), &mut lent[n..]);
+        if next.ok {} else {
+            return bad();
+        }
+        elements = added(elements, next.kind, next.size);
+        n += next.size;
+        at = behind(line, at);
+    }
+    let mut given = c;
+    given.elements = elements;
+    given.length = n;
+    given
+}
+
+// A command with RANDOM and extensions.
+fn with_random(c: Command, line: &[u8], from: usize, lent: &mut [u8]) -> Command
+    ensures { λ r. ⌜ lineAs r (now (lent .exit)) ≡ extended (fieldsFrom (now (line .entry)) from) (length (now (lent .entry))) (Grammar·line (c .verb) (c .acceptor) (c .marks) (c .number) (c .id)) ⌝ }
+{
+    let value = random(field_at(line, from), lent);
+    let Decoded::Octets(n) = value else {
+        return bad();
+    };
+    let at = behind(line, from);
+    let test = is_test(line, at);
+    let mut next = c;
+    next.test = test;
+    with_items(next, line, past(line, at, test), n, lent)
 }
 
 // A command with the rest of its line.
 fn with_rest(c: Command, line: &[u8], from: usize, lent: &mut [u8]) -> Command
     ensures { λ r. ⌜ lineAs r (now (lent .exit)) ≡ rested (c .verb) (c .acceptor) (c .marks) (c .number) (c .id) (fieldsFrom (now (line .entry)) from) (length (now (lent .entry))) ⌝ }
 {
-    let rest = rest_in(line, from, octet(&RESTS, c.verb), lent);
+    let kind = octet(&RESTS, c.verb);
+    if kind == EXTENSIONS {
+        return with_random(c, line, from, lent);
+    }
+    let none = Elements::none();
+    let mut next = c;
+    next.test = false;
+    next.elements = none;
+    if kind == ALERTS {
+        return with_items(next, line, from, 0, lent);
+    }
+    let rest = rest_in(line, from, kind, lent);
     let Decoded::Octets(length) = rest else {
         return bad();
     };
-    let mut next = c;
     next.length = length;
     next
 }
@@ -203,12 +266,15 @@ fn with_number(
     let Number::Is(number) = n else {
         return bad();
     };
+    let elements = Elements::none();
     let c = Command {
         verb,
         acceptor,
         marks,
         number,
         id: [0u8; 16],
+        test: false,
+        elements,
         length: 0,
     };
     with_id(c, line, past(line, from, kind != NONE), lent)

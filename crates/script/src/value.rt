@@ -8,7 +8,6 @@ use super::IDS;
 use super::MARKS;
 use super::NONE;
 use super::OCTETS;
-use super::RANDOM;
 use super::ROOM;
 use super::field::behind;
 use super::field::field;
@@ -17,7 +16,6 @@ use fields::hex::Decoded;
 use fields::hex::IdText;
 use fields::hex::id;
 use fields::hex::octets;
-use fields::hex::random;
 use fields::number::Number;
 use fields::number::hexadecimal;
 use fields::number::room;
@@ -74,7 +72,7 @@ fn ids(line: &[u8], from: usize, d: &mut [u8]) -> Decoded
     Decoded::Octets(n)
 }
 
-// The rest of a line, from the field that starts at `from`: its octets at the front of d.
+// The rest of a line that is octets alone, from the field that starts at `from`: they are put at the front of d.
 pub(crate) fn rest_in(line: &[u8], from: usize, kind: u8, d: &mut [u8]) -> Decoded
     ensures { λ r. ⌜ decodedAs r (now (d .exit)) ≡ fit (length (now (d .entry))) (restIn kind (fieldsFrom (now (line .entry)) from)) ⌝ }
 {
@@ -84,9 +82,6 @@ pub(crate) fn rest_in(line: &[u8], from: usize, kind: u8, d: &mut [u8]) -> Decod
     let s = last(line, from);
     if kind == OCTETS {
         return octets(s, d);
-    }
-    if kind == RANDOM {
-        return random(s, d);
     }
     if from <= line.len() {
         return Decoded::Bad;

@@ -59,13 +59,16 @@ pub fn scheme_id(r: Record) -> [u8; 16]
     id_of(list, place as u32)
 }
 
-// The first refusal of a message of n octets behind its header, or 0.
-pub fn named_refusal(r: Record, kind: u8, header: usize, n: usize, len: usize) -> u32
-    ensures { λ a. ⌜ a ≡ writeRefusal r kind (namedRows r) (header + n) len ⌝ }
+// The first refusal of a message of n octets behind its header, whose content keeps its limits or doesn't, or 0.
+pub fn named_refusal(r: Record, kind: u8, fit: bool, header: usize, n: usize, len: usize) -> u32
+    ensures { λ a. ⌜ a ≡ writeRefusal r kind (namedRows r fit) (header + n) len ⌝ }
 {
     let stage = stage_refusal(r, kind);
     if stage != 0 {
         return stage;
+    }
+    if fit {} else {
+        return 25;
     }
     if scheme_allowed(r) {} else {
         return 15;

@@ -1,6 +1,8 @@
 // ALERT.
 ghost use mathlib.Core.Path.{_≡_};
-ghost use Rattle.encode.specs.Encode.{ofAlert};
+ghost use mathlib.Core.Bool.{true};
+ghost use Rattle.elements.specs.Elements.{itemsOf, elementsFit};
+ghost use Rattle.encode.specs.Encode.{alertOf};
 ghost use Rattle.conversation.specs.Turns.{ALERT};
 ghost use Rattle.conversation.specs.Outcomes.{Outcome};
 ghost use Rattle.conversation.specs.Writing.{alarm, speaking};
@@ -12,6 +14,9 @@ use calls::next::after_message;
 use calls::next::heading_of;
 use conversation::Answer;
 use conversation::Record;
+use elements::Elements;
+use elements::fits;
+use elements::size_of;
 use encode_alert::write;
 use message::Kind;
 use negotiating::choice::choice_refusal;
@@ -21,47 +26,65 @@ use sending::named_refusal;
 use sending::scheme_id;
 use vector::TokenPlace;
 
-// An alert: its type, and the vector of its value.
-const ELEMENT: usize = 12;
-
-// A pulse's value: its length, and its reason.
-const PULSE: usize = 8;
-
-// A written ALERT has one alert, a pulse.
-const LENGTH: usize = Kind::ALERT_HEADER as usize + ELEMENT + PULSE;
+// The header of an ALERT.
+const HEADER: usize = Kind::ALERT_HEADER_LEN;
 
 // An ALERT at the transcript's end.
-fn append_alert(r: Record, transcript: &mut [u8], id: [u8; 16], code: i32) -> Record
-    requires { ⌜ Ready r (now transcript) ALERT (ofAlert (record { scheme = id; code = code })) ⌝ }
-    ensures { λ a. ⌜ Appended r (now (transcript .entry)) ALERT (ofAlert (record { scheme = id; code = code })) (now (transcript .exit)) a ⌝ }
+fn append_alert(
+    r: Record,
+    transcript: &mut [u8],
+    id: [u8; 16],
+    code: i32,
+    alerts: Elements,
+    values: &[u8],
+) -> Record
+    requires { ⌜ (elementsFit alerts (now values) ≡ true) × Ready r (now transcript) ALERT (alertOf id code (itemsOf alerts (now values))) ⌝ }
+    ensures { λ a. ⌜ Appended r (now (transcript .entry)) ALERT (alertOf id code (itemsOf alerts (now (values .entry)))) (now (transcript .exit)) a ⌝ }
 {
     let heading = heading_of(r, ALERT);
-    write(transcript, r.used, heading, id, code);
-    after_message(r, ALERT, LENGTH)
+    let size = size_of(alerts, values);
+    write(transcript, r.used, heading, id, code, alerts, values);
+    after_message(r, ALERT, HEADER + size)
 }
 
-// Writes an ALERT of the chosen scheme: an error code, with a pulse.
-pub fn write_alert(r: Record, transcript: &mut [u8], code: i32) -> Answer
-    ensures { λ a. ⌜ _≡_ {A = Outcome} (record { answer = a; transcript = now (transcript .exit) }) (speaking r (now (transcript .entry)) (alarm code)) ⌝ }
+// Writes an ALERT of the chosen scheme: an error code, with alerts.
+pub fn write_alert(
+    r: Record,
+    transcript: &mut [u8],
+    code: i32,
+    alerts: Elements,
+    values: &[u8],
+) -> Answer
+    ensures { λ a. ⌜ _≡_ {A = Outcome} (record { answer = a; transcript = now (transcript .exit) }) (speaking r (now (transcript .entry)) (alarm (record { code = code; alerts = alerts; values = now (values .entry) }))) ⌝ }
 {
-    let n = named_refusal(r, ALERT, LENGTH, 0, transcript.len());
+    let fit = fits(alerts, values);
+    let size = size_of(alerts, values);
+    let n = named_refusal(r, ALERT, fit, HEADER, size, transcript.len());
     if n != 0 {
         return answer(n, TokenPlace(0), r);
     }
     let id = scheme_id(r);
-    let next = append_alert(r, transcript, id, code);
+    let next = append_alert(r, transcript, id, code, alerts, values);
     answer(0, TokenPlace(0), next)
 }
 
 // Chooses, and writes an ALERT of the chosen scheme. Where it is refused, nothing is chosen and nothing written.
-pub fn choose_alert(r: Record, transcript: &mut [u8], marks: u16, code: i32) -> Answer
-    ensures { λ a. ⌜ _≡_ {A = Outcome} (record { answer = a; transcript = now (transcript .exit) }) (choosing r (now (transcript .entry)) marks (alarm code)) ⌝ }
+pub fn choose_alert(
+    r: Record,
+    transcript: &mut [u8],
+    marks: u16,
+    code: i32,
+    alerts: Elements,
+    values: &[u8],
+) -> Answer
+    ensures { λ a. ⌜ _≡_ {A = Outcome} (record { answer = a; transcript = now (transcript .exit) }) (choosing r (now (transcript .entry)) marks (alarm (record { code = code; alerts = alerts; values = now (values .entry) }))) ⌝ }
 {
-    let n = choice_refusal(r, ALERT, marks);
+    let fit = fits(alerts, values);
+    let n = choice_refusal(r, ALERT, marks, fit);
     if n != 0 {
         return answer(n, TokenPlace(0), r);
     }
     let next = chosen_record(r, marks);
-    let a = write_alert(next, transcript, code);
+    let a = write_alert(next, transcript, code, alerts, values);
     name_choice(r, marks, a)
 }

@@ -2,6 +2,7 @@
 -- Assumes nothing.
 use Prim.Native.Nat.{ℕ, _+_}
 use mathlib.Core.Path.{_≡_, refl, _∙_}
+use mathlib.Core.Bool.{true}
 use mathlib.Core.List.{List}
 use lib.ListN.{length}
 use borrow.Author.Tests.{ne-eqb}
@@ -27,18 +28,18 @@ module _ (r : Record) (t : ℕ) (t-is : t ≡ writing (r .acceptor) (r .stage)) 
 pub ruleset askeds = (asked-first, asked-later)
 
 -- ---- the call, by its refusal
-module _ (r : Record) (arrays : Arrays r) (d value : List ℕ) (n : ℕ) (n-is : n ≡ writeRefusal r 3 (namedRows r) (64 + length value) (length d)) where
+module _ (r : Record) (arrays : Arrays r) (d value : List ℕ) (n : ℕ) (n-is : n ≡ writeRefusal r 3 (namedRows r true) (64 + length value) (length d)) where
   abbrev exchange : List ℕ → Contents
   exchange s = ofExchange (record { scheme = s; value = value })
 
   pub exchange-refused : (n ≡ 0 → ⊥) → (a : Answer) → a ≡ answered n 0 r → _≡_ {A = Outcome} (record { answer = a; transcript = d }) (speaking r d (request value))
   unfolding speaking
-  exchange-refused h a a-is = named-refused r arrays d 3 exchange (λ s l. l) n n-is h a a-is _
+  exchange-refused h a a-is = named-refused r arrays d 3 true exchange (λ s l. l) (64 + length value) (λ t. refl) n n-is h a a-is _
 
   module _ (z : n ≡ 0) where
     pub exchange-ready : (s : List ℕ) → Ready r d 3 (exchange s)
     unfolding typeOf
-    exchange-ready s = write-ready r d 3 (namedRows r) (64 + length value) n n-is z refl (exchange s) refl tt refl refl
+    exchange-ready s = write-ready r d 3 (namedRows r true) (64 + length value) n n-is z refl (exchange s) refl tt refl refl
 
     module _ (s : List ℕ) (s-is : s ≡ schemeAt r (schemeNow r)) where
       pub exchange-written : (k : ℕ) → k ≡ askedBy r → (d' : List ℕ) (next : Record) → Appended r d 3 (exchange s) d' next → (a : Answer)
@@ -46,4 +47,4 @@ module _ (r : Record) (arrays : Arrays r) (d value : List ℕ) (n : ℕ) (n-is :
           → _≡_ {A = Outcome} (record { answer = a; transcript = d' }) (speaking r d (request value))
       unfolding speaking
       exchange-written k k-is d' next y a a-is =
-          named-written r arrays d 3 exchange (λ s l. l) n n-is z (λ q. record { marks = q .marks; told = q .told; asked = askedBy r; verified = q .verified }) s s-is (exchange s) refl d' next y a (a-is ∙ rw k-is)
+          named-written r arrays d 3 true exchange (λ s l. l) (64 + length value) (λ t. refl) n n-is z (λ q. record { marks = q .marks; told = q .told; asked = askedBy r; verified = q .verified }) s s-is (exchange s) refl d' next y a (a-is ∙ rw k-is)

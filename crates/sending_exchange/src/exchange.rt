@@ -55,7 +55,7 @@ fn asked_by(r: Record) -> usize
 pub fn write_exchange(r: Record, transcript: &mut [u8], value: &[u8]) -> Answer
     ensures { λ a. ⌜ _≡_ {A = Outcome} (record { answer = a; transcript = now (transcript .exit) }) (speaking r (now (transcript .entry)) (request (now (value .entry)))) ⌝ }
 {
-    let n = named_refusal(r, EXCHANGE, HEADER, value.len(), transcript.len());
+    let n = named_refusal(r, EXCHANGE, true, HEADER, value.len(), transcript.len());
     if n != 0 {
         return answer(n, TokenPlace(0), r);
     }
@@ -70,7 +70,7 @@ pub fn write_exchange(r: Record, transcript: &mut [u8], value: &[u8]) -> Answer
 pub fn choose_exchange(r: Record, transcript: &mut [u8], marks: u16, value: &[u8]) -> Answer
     ensures { λ a. ⌜ _≡_ {A = Outcome} (record { answer = a; transcript = now (transcript .exit) }) (choosing r (now (transcript .entry)) marks (request (now (value .entry)))) ⌝ }
 {
-    let n = choice_refusal(r, EXCHANGE, marks);
+    let n = choice_refusal(r, EXCHANGE, marks, true);
     if n != 0 {
         return answer(n, TokenPlace(0), r);
     }

@@ -1,6 +1,6 @@
 -- The acceptor's NEGO and its choice, in the words of the code.
 -- Assumes nothing.
-use Prim.Native.Nat.{ℕ, _+_, _*_, _-_, _≤_, _<_}
+use Prim.Native.Nat.{ℕ, _+_, _*_, _-_, _%_, _≤_, _<_}
 use mathlib.Core.Path.{_≡_, refl, sym, ap, _∙_}
 use mathlib.Core.Bool.{Bool, true, false}
 use mathlib.Core.List.{List, [], _∷_, _++_}
@@ -9,10 +9,13 @@ use lib.ListN.{length, take, replicate, length-append}
 use lib.Seq.{length-take-le}
 use lib.Bits.{bitAnd}
 use Rattle.octets.specs.Octets.{octets}
-use Rattle.message.specs.Check.{firstFailing}
+use Rattle.message.specs.Check.{Row, firstFailing}
 use Rattle.message.proofs.Tables.{AllTrue}
 use Rattle.message.proofs.Ids.{length-ids}
-use Rattle.encode.specs.Encode.{Contents, Whole, ofNego, sizeOf}
+use Rattle.elements.specs.declared.Elements.{Elements}
+use Rattle.elements.specs.Elements.{itemsOf, elementsFit, handedSize}
+use Rattle.elements.proofs.Views.{handed, handed-size}
+use Rattle.encode.specs.Encode.{Contents, Whole, negoOf, sizeOf}
 use Rattle.schemes.specs.Lists.{Id, joinIds}
 use Rattle.schemes.specs.Sets.{left, below, padTo}
 use Rattle.schemes.specs.Answers.{leftPlaces, leftOf, schemesOf}
@@ -24,16 +27,21 @@ use Rattle.conversation.specs.declared.Answer.{Answer}
 use Rattle.conversation.specs.State.{ownOf}
 use Rattle.conversation.specs.Turns.{typeOf, placeAfter}
 use Rattle.conversation.specs.Outcomes.{Outcome, answered, row, appended}
-use Rattle.conversation.specs.Writing.{someLeft, replyMessage, replyRows, naming, replying}
+use Rattle.conversation.specs.Writing.{NegoContent, negoIn, extensionRows, messageOf, someLeft, replyRows, naming, replying}
+use Rattle.conversation.proofs.Decides.{first-none, first-stop}
 use Rattle.calls.specs.Calls.{roomFor, stageRefusal, writeRefusal, Inside, Ready, Appended}
 use Rattle.calls.proofs.Refusals.{stage-inside, write-stage, write-on, passed-inside, passed-own}
 use Rattle.conversation.specs.Claims.{Arrays}
 use Rattle.calls.proofs.Writes.{changed, write-refused, write-ready, write-passed}
 use Rattle.calls.proofs.Lefts.{own-count, own-none, own-some, own-place, own-first, left-less}
-use Rattle.sending_nego.specs.Ready.{ReplyReady}
+use Rattle.sending_nego.specs.Ready.{NegoReady, ReplyReady}
 
 abbrev listed : Record → ℕ → List Id
 listed r m = left (ownOf r) (r .common) m
+
+-- the message's length, where the extensions keep their limits
+abbrev replySize : Record → ℕ → NegoContent → ℕ
+replySize r m g = 96 + 16 * length (listed r m) + handedSize (g .extensions) (g .values)
 
 module _ (r : Record) (n : ℕ) (n-is : n ≡ stageRefusal r 1) (z : n ≡ 0) where
   limits : Inside r
@@ -42,12 +50,19 @@ module _ (r : Record) (n : ℕ) (n-is : n ≡ stageRefusal r 1) (z : n ≡ 0) wh
   pub reply-few : r .count ≤ 16
   reply-few = limits .few
 
-  module _ (m len : ℕ) where
-    abbrev refusal : ℕ
-    refusal = writeRefusal r 1 (replyRows r m) (96 + 16 * length (listed r m)) len
+module _ (r : Record) (m : ℕ) (g : NegoContent) (len n : ℕ) (n-is : n ≡ stageRefusal r 1) where
+  abbrev refusal : ℕ
+  refusal = writeRefusal r 1 (replyRows r m g) (replySize r m g) len
 
-    behind : (x : ℕ) → x ≡ firstFailing (replyRows r m ++ (row 16 (roomFor (r .used) (96 + 16 * length (listed r m)) len) ∷ [])) → x ≡ refusal
-    behind = write-on r 1 (replyRows r m) (96 + 16 * length (listed r m)) len n n-is z
+  pub reply-stage : (n ≡ 0 → ⊥) → n ≡ refusal
+  reply-stage = write-stage r 1 (replyRows r m g) (replySize r m g) len n n-is
+
+  module _ (z : n ≡ 0) where
+    abbrev last : List Row
+    last = row 17 (someLeft (listed r m)) ∷ row 16 (roomFor (r .used) (replySize r m g) len) ∷ []
+
+    behind : (x : ℕ) → x ≡ firstFailing (row 18 (r .acceptor) ∷ row 19 (below (r .count) m) ∷ (extensionRows g ++ last)) → x ≡ refusal
+    behind = write-on r 1 (replyRows r m g) (replySize r m g) len n n-is z
 
     pub reply-role : r .acceptor ≡ false → 18 ≡ refusal
     reply-role e = behind 18 (rw e)
@@ -56,24 +71,34 @@ module _ (r : Record) (n : ℕ) (n-is : n ≡ stageRefusal r 1) (z : n ≡ 0) wh
       pub reply-marks : b ≡ false → 19 ≡ refusal
       reply-marks e = behind 19 (rw (i, ← b-is, e))
 
-      module _ (t : b ≡ true) (l : Left) (l-is : l ≡ leftOf (leftPlaces 16 (r .common) m)) where
-        pub reply-none : l .left ≡ 0 → 17 ≡ refusal
-        reply-none e = behind 17 (rw (i, ← b-is, t, ← own-none (r .list) (r .count) l (limits .few) (r .common) m (limits .bound) l-is e))
+      module _ (t : b ≡ true) (x : ℕ) (x-is : x ≡ firstFailing (extensionRows g)) where
+        pub reply-extensions : (x ≡ 0 → ⊥) → x ≡ refusal
+        reply-extensions h = behind x (rw (i, ← b-is, t) (x-is ∙ first-stop (extensionRows g) last (λ e. h (x-is ∙ e))))
 
-        module _ (s : l .left ≡ 0 → ⊥) (f : Bool) (f-is : f ≡ roomFor (r .used) (96 + 16 * l .left) len) where
-          some : someLeft (listed r m) ≡ true
-          some = sym (own-some (r .list) (r .count) l (limits .few) (r .common) m (limits .bound) l-is s)
+        module _ (w : x ≡ 0) (l : Left) (l-is : l ≡ leftOf (leftPlaces 16 (r .common) m)) where
+          within : Inside r
+          within = limits r n n-is z
 
-          room : roomFor (r .used) (96 + 16 * length (listed r m)) len ≡ f
-          room = ap (λ (k : ℕ). roomFor (r .used) (96 + 16 * k) len) (sym (own-count (r .list) (r .count) l (limits .few) (r .common) m (limits .bound) l-is)) ∙ sym f-is
+          passed : AllTrue (extensionRows g)
+          passed = first-none (extensionRows g) refl (sym x-is ∙ w)
 
-          pub reply-crowded : f ≡ false → 16 ≡ refusal
-          reply-crowded e = behind 16 (rw (i, ← b-is, t, some, room, e))
+          pub reply-none : l .left ≡ 0 → 17 ≡ refusal
+          reply-none e = behind 17 (rw (i, ← b-is, t, passed .0, passed .1 .0, ← own-none (r .list) (r .count) l (within .few) (r .common) m (within .bound) l-is e))
 
-          pub reply-fits : f ≡ true → 0 ≡ refusal
-          reply-fits e = behind 0 (rw (i, ← b-is, t, some, room, e))
+          module _ (s : l .left ≡ 0 → ⊥) (k : ℕ) (k-is : k ≡ handedSize (g .extensions) (g .values)) (f : Bool) (f-is : f ≡ roomFor (r .used) (96 + 16 * l .left + k) len) where
+            some : someLeft (listed r m) ≡ true
+            some = sym (own-some (r .list) (r .count) l (within .few) (r .common) m (within .bound) l-is s)
 
-pub ruleset reply-refusals = (write-stage, reply-role, reply-marks, reply-none, reply-crowded, reply-fits)
+            room : roomFor (r .used) (replySize r m g) len ≡ f
+            room =
+                ap (λ (j : ℕ). roomFor (r .used) (96 + 16 * j + handedSize (g .extensions) (g .values)) len) (sym (own-count (r .list) (r .count) l (within .few) (r .common) m (within .bound) l-is))
+                ∙ ap (λ (j : ℕ). roomFor (r .used) (96 + 16 * l .left + j) len) (sym k-is) ∙ sym f-is
+
+            pub reply-crowded : f ≡ false → 16 ≡ refusal
+            reply-crowded e = behind 16 (rw (i, ← b-is, t, passed .0, passed .1 .0, some, room, e))
+
+            pub reply-fits : f ≡ true → 0 ≡ refusal
+            reply-fits e = behind 0 (rw (i, ← b-is, t, passed .0, passed .1 .0, some, room, e))
 
 -- ---- what is gathered of a set stands inside its array
 module _ (r : Record) (arrays : Arrays r) (few : r .count ≤ 16) (set : ℕ) (s : Schemes) (s-is : s ≡ schemesOf (left (ownOf r) set 0)) where
@@ -92,9 +117,9 @@ module _ (r : Record) (arrays : Arrays r) (few : r .count ≤ 16) (set : ℕ) (s
   reply-part = sym (length-take-le (16 * s .count) (s .octets) reply-inside)
 
 -- ---- the reply with its choice
-module _ (r : Record) (d : List ℕ) (m : ℕ) (random : List ℕ) (y : ReplyReady r d m random) where
+module _ (r : Record) (d : List ℕ) (m : ℕ) (random : List ℕ) (e : Elements) (v : List ℕ) (y : ReplyReady r d m random e v) where
   inside : Inside r
-  inside = y .ready .inside
+  inside = y .nego .ready .inside
 
   pub reply-place : (l : Left) → l ≡ leftOf (leftPlaces 16 (r .common) m) → l .place < 16
   reply-place l l-is = omega (arith, own-place (r .list) (r .count) l (inside .few) (r .common) m (inside .bound) l-is (y .some), inside .few)
@@ -103,46 +128,55 @@ module _ (r : Record) (d : List ℕ) (m : ℕ) (random : List ℕ) (y : ReplyRea
   module _ (arrays : Arrays r) (small : m < 65536) (s : Schemes) (s-is : s ≡ schemesOf (left (ownOf r) (bitAnd (r .common) (65535 - m)) 0)) where
     reply-octets : take (16 * s .count) (s .octets) ≡ joinIds (listed r m)
     reply-octets =
-        let e : s ≡ schemesOf (listed r m) = s-is ∙ ap schemesOf (left-less 16 (ownOf r) (r .common) m (rw length-ids (inside .few)) small) in
-        rw e (gathered-octets (r .count) (r .list) (r .common) m (omega (arith, arrays .list, inside .few)))
+        let q : s ≡ schemesOf (listed r m) = s-is ∙ ap schemesOf (left-less 16 (ownOf r) (r .common) m (rw length-ids (inside .few)) small) in
+        rw q (gathered-octets (r .count) (r .list) (r .common) m (omega (arith, arrays .list, inside .few)))
 
-    pub reply-nego : Ready r d 1 (ofNego (record { random = random; schemes = take (16 * s .count) (s .octets) }))
-    reply-nego = rw reply-octets (y .ready)
+    pub reply-nego : NegoReady r d random (take (16 * s .count) (s .octets)) e v
+    reply-nego = rw reply-octets (y .nego)
 
     pub reply-named : (l : Left) → l ≡ leftOf (leftPlaces 16 (r .common) m) → (d' : List ℕ) (next : Record)
-        → Appended r d 1 (ofNego (record { random = random; schemes = take (16 * s .count) (s .octets) })) d' next
+        → Appended r d 1 (negoOf random (take (16 * s .count) (s .octets)) (itemsOf e v)) d' next
         → (id : List ℕ) → id ≡ octets 16 (r .list) (16 * l .place) → (a : Answer)
         → a ≡ record { refusal = 0; place = record { 0 = 0 }; messages = 0; choice = id; left = l .left; next = changed next (record { marks = m; told = next .told; asked = next .asked; verified = next .verified }) }
-        → _≡_ {A = Outcome} (record { answer = a; transcript = d' }) (naming (listed r m) (appended r d (placeAfter r 1) (replyMessage r m random) (record { marks = m; told = r .told; asked = r .asked; verified = r .verified })))
+        → _≡_ {A = Outcome} (record { answer = a; transcript = d' }) (naming (listed r m) (appended r d (placeAfter r 1) (messageOf r 1 (negoOf random (joinIds (listed r m)) (itemsOf e v))) (record { marks = m; told = r .told; asked = r .asked; verified = r .verified })))
     reply-named l l-is d' next w id id-is a a-is =
-        let v : Appended r d 1 (ofNego (record { random = random; schemes = joinIds (listed r m) })) d' next = rw reply-octets at w in
-        rw (a-is, v .counted, v .holds, id-is, own-first (r .list) (r .count) l (inside .few) (r .common) m (inside .bound) l-is (y .some), own-count (r .list) (r .count) l (inside .few) (r .common) m (inside .bound) l-is)
+        let x : Appended r d 1 (negoOf random (joinIds (listed r m)) (itemsOf e v)) d' next = rw reply-octets at w in
+        rw (a-is, x .counted, x .holds, id-is, own-first (r .list) (r .count) l (inside .few) (r .common) m (inside .bound) l-is (y .some), own-count (r .list) (r .count) l (inside .few) (r .common) m (inside .bound) l-is)
 
 -- ---- the call, by its refusal
-module _ (r : Record) (arrays : Arrays r) (d : List ℕ) (m : ℕ) (random : List ℕ) (full : length random ≡ 32) (n : ℕ) (n-is : n ≡ writeRefusal r 1 (replyRows r m) (96 + 16 * length (listed r m)) (length d)) where
+module _ (r : Record) (arrays : Arrays r) (d : List ℕ) (m : ℕ) (g : NegoContent) (full : length (g .random) ≡ 32) (n : ℕ) (n-is : n ≡ writeRefusal r 1 (replyRows r m g) (replySize r m g) (length d)) where
   abbrev answer : Contents
-  answer = ofNego (record { random = random; schemes = joinIds (listed r m) })
+  answer = negoIn g (joinIds (listed r m))
 
   joined : r .count ≤ 16 → length (joinIds (listed r m)) ≡ 16 * length (listed r m)
   joined few = join-length (r .count) (r .list) (r .common) m (omega (arith, arrays .list))
 
-  whole : Inside r → AllTrue (replyRows r m) → Whole answer × (sizeOf answer ≡ 96 + 16 * length (listed r m))
-  whole i t = (full, ap (λ (k : ℕ). 96 + k) (joined (i .few)))
+  measure : r .count ≤ 16 → elementsFit (g .extensions) (g .values) ≡ true → sizeOf answer ≡ replySize r m g
+  measure few t = let a = joined few in let b = handed-size (g .extensions) (g .values) t in omega arith
 
-  pub reply-refused : (n ≡ 0 → ⊥) → (a : Answer) → a ≡ answered n 0 r → _≡_ {A = Outcome} (record { answer = a; transcript = d }) (replying r d m random)
+  whole : Inside r → AllTrue (replyRows r m g) → Whole answer × (sizeOf answer ≡ replySize r m g)
+  whole i t = (full, measure (i .few) (t .1 .1 .0))
+
+  pub reply-refused : (n ≡ 0 → ⊥) → (a : Answer) → a ≡ answered n 0 r → _≡_ {A = Outcome} (record { answer = a; transcript = d }) (replying r d m g)
   unfolding replying
-  reply-refused h a a-is = write-refused r arrays d 1 (replyRows r m) answer (96 + 16 * length (listed r m)) whole n n-is h a a-is _
+  reply-refused h a a-is = write-refused r arrays d 1 (replyRows r m g) answer (replySize r m g) whole n n-is h a a-is _
 
   module _ (z : n ≡ 0) where
-    pub reply-ready : ReplyReady r d m random
+    pub reply-ready : ReplyReady r d m (g .random) (g .extensions) (g .values)
     unfolding typeOf
     reply-ready =
-        let e = joined (passed-inside r 1 (replyRows r m) (96 + 16 * length (listed r m)) (length d) n n-is z refl .few) in
+        let few = passed-inside r 1 (replyRows r m g) (replySize r m g) (length d) n n-is z refl .few in
+        let own = passed-own r 1 (replyRows r m g) (replySize r m g) (length d) n n-is z refl in
+        let keeps : elementsFit (g .extensions) (g .values) ≡ true = own .1 .1 .0 in
+        let p : length (joinIds (listed r m)) % 16 ≡ 0 = (let q = joined few in omega arith) in
         record {
-          ready = write-ready r d 1 (replyRows r m) (96 + 16 * length (listed r m)) n n-is z refl answer (ap (λ (k : ℕ). 96 + k) e) (omega (arith, e)) refl refl;
-          some = passed-own r 1 (replyRows r m) (96 + 16 * length (listed r m)) (length d) n n-is z refl .1 .1 .0;
+          nego = record {
+            ready = write-ready r d 1 (replyRows r m g) (replySize r m g) n n-is z refl answer (measure few keeps) (p, handed (g .extensions) (g .values) keeps .fit) refl refl;
+            keeps = keeps;
+          };
+          some = own .1 .1 .1 .1 .0;
         }
 
-    pub reply-written : (o : Outcome) → o ≡ naming (listed r m) (appended r d (placeAfter r 1) (replyMessage r m random) (record { marks = m; told = r .told; asked = r .asked; verified = r .verified })) → o ≡ replying r d m random
+    pub reply-written : (o : Outcome) → o ≡ naming (listed r m) (appended r d (placeAfter r 1) (messageOf r 1 answer) (record { marks = m; told = r .told; asked = r .asked; verified = r .verified })) → o ≡ replying r d m g
     unfolding replying
-    reply-written o e = e ∙ write-passed r arrays d 1 (replyRows r m) answer (96 + 16 * length (listed r m)) whole n n-is z refl _
+    reply-written o e = e ∙ write-passed r arrays d 1 (replyRows r m g) answer (replySize r m g) whole n n-is z refl _

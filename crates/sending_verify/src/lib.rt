@@ -45,7 +45,7 @@ fn append_verify(
 pub fn write_verify(r: Record, transcript: &mut [u8], checksum: i32, value: &[u8]) -> Answer
     ensures { λ a. ⌜ _≡_ {A = Outcome} (record { answer = a; transcript = now (transcript .exit) }) (speaking r (now (transcript .entry)) (Speech·checksum checksum (now (value .entry)))) ⌝ }
 {
-    let n = named_refusal(r, VERIFY, HEADER, value.len(), transcript.len());
+    let n = named_refusal(r, VERIFY, true, HEADER, value.len(), transcript.len());
     if n != 0 {
         return answer(n, TokenPlace(0), r);
     }
@@ -65,7 +65,7 @@ pub fn choose_verify(
 ) -> Answer
     ensures { λ a. ⌜ _≡_ {A = Outcome} (record { answer = a; transcript = now (transcript .exit) }) (choosing r (now (transcript .entry)) marks (Speech·checksum checksum (now (value .entry)))) ⌝ }
 {
-    let n = choice_refusal(r, VERIFY, marks);
+    let n = choice_refusal(r, VERIFY, marks, true);
     if n != 0 {
         return answer(n, TokenPlace(0), r);
     }

@@ -4,6 +4,9 @@ use borrow.Author.Needs.{needs}
 use Rattle.commands.proofs.write_nego.Statement.{statement}
 use Rattle.commands.proofs.write_nego.Tie as tie
 
+values-requires : tie.Need-values-requires
+values-requires c κs = search needs
+
 random-requires : tie.Need-random-requires
 random-requires c κs = search needs
 
@@ -41,6 +44,7 @@ pub write-nego-spec : {M : Type 1} → statement M
 write-nego-spec =
     tie.close
     (tie.spec
+    values-requires
     random-requires
     write-offer-requires
     same-length

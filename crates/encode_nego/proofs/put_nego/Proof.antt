@@ -1,99 +1,95 @@
--- The fields, one behind the other. Assumes nothing.
-use Prim.Native.Nat.{_+_, _/_}
+-- Assumes nothing.
 use mathlib.Core.Path.{_≡_}
-use native.Mathlib.Omega.{arith}
 use lib.ListN.{length}
-use Rattle.put.proofs.Laws.{wrote, room-behind, step, group, done}
-use Rattle.encode.specs.Encode.{encoded, Offer, ofNego, headFields, vectorFields}
-use Rattle.encode.proofs.Sizes.{length-encoded}
+use Rattle.encode_nego.proofs.Storing.{nego-written}
 use borrow.Author.Needs.{needs}
 use Rattle.encode_nego.proofs.put_nego.Statement.{statement}
 use Rattle.encode_nego.proofs.put_nego.Tie as tie
+use Rattle.encode_nego.proofs.put_nego.Reads as reads
 
-id : (s : tie.Start) → length (s .args .heading .conversation) ≡ 16
-id s = search needs
+-- src/lib.rt:64:32
+add-t15 : tie.Need-add-t15
+add-t15 c = search needs
 
-whole : (s : tie.Start) → length (s .args .t4) ≡ 32
-whole s = search needs
+-- src/lib.rt:64:31
+cast-t16 : tie.Need-cast-t16
+cast-t16 c = search needs
 
-cast-count : tie.Need-cast-count
-cast-count c = search needs
+-- src/lib.rt:65:17
+add-size : tie.Need-add-size
+add-size c = search needs
 
-add-put-head : tie.Need-add-put-head
-add-put-head c = search needs
+-- src/lib.rt:65:46
+mul-size : tie.Need-mul-size
+mul-size c = search needs
 
-cast-put-head : tie.Need-cast-put-head
-cast-put-head c = search needs
+-- src/lib.rt:65:46
+add-size-2 : tie.Need-add-size-2
+add-size-2 c = search needs
 
-put-head-requires : tie.Need-put-head-requires
-put-head-requires c κs = search needs
+-- src/lib.rt:65:17
+add-size-3 : tie.Need-add-size-3
+add-size-3 c = search needs
 
-slice-aggregate-put-octets : tie.Need-slice-aggregate-put-octets
-slice-aggregate-put-octets c = search needs
+-- src/lib.rt:65:16
+cast-size : tie.Need-cast-size
+cast-size c = search needs
 
+-- src/lib.rt:66:9
+offset-of-requires : tie.Need-offset-of-requires
+offset-of-requires c κs = search needs
+
+-- src/lib.rt:73:9
+cast-put-header : tie.Need-cast-put-header
+cast-put-header c = search needs
+
+-- src/lib.rt:75:9
+cast-put-header-2 : tie.Need-cast-put-header-2
+cast-put-header-2 c = search needs
+
+-- src/lib.rt:67:9
+put-header-requires : tie.Need-put-header-requires
+put-header-requires c κs = search needs
+
+-- src/lib.rt:77:9
 put-octets-requires : tie.Need-put-octets-requires
 put-octets-requires c κs = search needs
 
-slice-aggregate-put-octets-2 : tie.Need-slice-aggregate-put-octets-2
-slice-aggregate-put-octets-2 c = search needs
+-- src/lib.rt:78:5
+put-elements-requires : tie.Need-put-elements-requires
+put-elements-requires c κs = search needs
 
-put-octets-requires-2 : tie.Need-put-octets-requires-2
-put-octets-requires-2 c κs = search needs
-
-put-vector-requires : tie.Need-put-vector-requires
-put-vector-requires c κs = search needs
-
-put-vector-requires-2 : tie.Need-put-vector-requires-2
-put-vector-requires-2 c κs = search needs
-
-put-octets-requires-3 : tie.Need-put-octets-requires-3
-put-octets-requires-3 c κs =
-    let c5 = c .before .before .before in
-    let c4 = c5 .before .before .before .before in
-    let c3 = c4 .before .before .before .before in
-    let c2 = c3 .before .before .before .before .before in
-    let c1 = c2 .before .before .before .before .before in
-    let s = c1 .before .before .before .before in
-    let n = length (s .args .schemes .now) in
-    room-behind n (c5 .put-vector2 .ensures) (room-behind (8 + n) (c4 .put-vector .ensures) (room-behind (16 + n) (c3 .put-octets2 .ensures) (room-behind (24 + n) (c2 .put-octets .ensures) (room-behind (56 + n) (c1 .put-head .ensures) (s .pre .0) (omega arith)) (omega (arith, whole s))) (omega arith)) (omega arith)) (omega arith)
-
+-- src/lib.rt:50:1
 same-length : tie.Need-same-length
 same-length c = search needs
 
+-- src/lib.rt:50:1
 returns : tie.Need-returns
-unfolding encoded
 returns c =
-    let c6 = c .before .before in
-    let c5 = c6 .before .before .before .before in
-    let c4 = c5 .before .before .before .before in
-    let c3 = c4 .before .before .before .before in
-    let c2 = c3 .before .before .before .before .before in
-    let c1 = c2 .before .before .before .before .before in
-    let s = c1 .before .before .before .before in
-    let n = length (s .args .schemes .now) in
-    let o : Offer = record { random = s .args .t4; schemes = s .args .schemes .now } in
-    wrote (96 + n)
-    (group (headFields (s .args .heading) (96 + n)) (c1 .put-head .ensures)
-    (step (c2 .put-octets .ensures)
-    (step (c3 .put-octets2 .ensures)
-    (group (vectorFields 96 (n / 16)) (c4 .put-vector .ensures) (group (vectorFields 0 0) (c5 .put-vector2 .ensures) (step (c6 .put-octets3 .ensures) done))))))
-    (length-encoded (s .args .heading) (id s) (ofNego o) (whole s))
-    (s .pre .0)
+    let s = c .before .before .before .before .before .before .before .before .before .before .before .before .before .before .before .before in
+    let id : length (s .args .heading .conversation) ≡ 16 = search needs in
+    let whole : length (s .args .random) ≡ 32 = search needs in
+    let c3 = c .before .before in
+    let c2 = c3 .before .before .before .before in
+    let c1 = c2 .before .before .before .before in
+    nego-written (s .args .heading) (s .args .random) (s .args .schemes .now) (s .args .extensions) (s .args .values .now) (s .pre .0) id whole _ _ (s .pre .1 .0) _ (c1 .before .before .offset-of .ensures) _ _ (c1 .put-header .ensures) _ _ (c2 .put-octets .ensures) _ _ (c3 .put-elements .ensures)
 
 pub put-nego-spec : {M : Type 1} → statement M
 put-nego-spec =
     tie.close
     (tie.spec
-    cast-count
-    add-put-head
-    cast-put-head
-    put-head-requires
-    slice-aggregate-put-octets
+    add-t15
+    cast-t16
+    add-size
+    mul-size
+    add-size-2
+    add-size-3
+    cast-size
+    offset-of-requires
+    cast-put-header
+    cast-put-header-2
+    put-header-requires
     put-octets-requires
-    slice-aggregate-put-octets-2
-    put-octets-requires-2
-    put-vector-requires
-    put-vector-requires-2
-    put-octets-requires-3
+    put-elements-requires
     same-length
     returns)

@@ -25,6 +25,9 @@ bad-requires c κs = search needs
 returns : tie.Need-returns
 returns c = search numbereds
 
+none-requires : tie.Need-none-requires
+none-requires c κs = search needs
+
 past-requires : tie.Need-past-requires
 past-requires c κs = search needs
 
@@ -48,6 +51,7 @@ with-number-spec =
     enum-told
     bad-requires
     returns
+    none-requires
     past-requires
     with-id-requires
     same-length

@@ -1,5 +1,5 @@
 -- Assumes nothing.
-use Rattle.script.proofs.Lines.{resteds}
+use Rattle.script.proofs.Lines.{resteds, rested-good}
 use borrow.Author.Needs.{needs}
 use Rattle.script.proofs.with_rest.Statement.{statement}
 use Rattle.script.proofs.with_rest.Tie as tie
@@ -9,6 +9,27 @@ slice-aggregate-octet c = search needs
 
 octet-requires : tie.Need-octet-requires
 octet-requires c κs = search needs
+
+with-random-requires : tie.Need-with-random-requires
+with-random-requires c κs = search needs
+
+same-length : tie.Need-same-length
+same-length c = search needs
+
+returns : tie.Need-returns
+returns c = search resteds
+
+none-requires : tie.Need-none-requires
+none-requires c κs = search needs
+
+with-items-requires : tie.Need-with-items-requires
+with-items-requires c κs = search needs
+
+same-length-2 : tie.Need-same-length-2
+same-length-2 c = search needs
+
+returns-2 : tie.Need-returns-2
+returns-2 c = search resteds
 
 rest-in-requires : tie.Need-rest-in-requires
 rest-in-requires c κs = search needs
@@ -22,17 +43,20 @@ enum-told c = search needs
 bad-requires : tie.Need-bad-requires
 bad-requires c κs = search needs
 
-same-length : tie.Need-same-length
-same-length c = search needs
+same-length-3 : tie.Need-same-length-3
+same-length-3 c = search needs
 
-returns : tie.Need-returns
-returns c = search resteds
+returns-3 : tie.Need-returns-3
+returns-3 c = search resteds
 
-same-length-2 : tie.Need-same-length-2
-same-length-2 c = search needs
+same-length-4 : tie.Need-same-length-4
+same-length-4 c = search needs
 
-returns-2 : tie.Need-returns-2
-returns-2 c = search resteds
+returns-4 : tie.Need-returns-4
+returns-4 c =
+    rested-good _ _ _ _ _ _ _ _ (c .before .before .before .before .before .before .before .before .before .before .octet .ensures) (c .before .before .before .before .before .before .before .before .before .if1 .left) (c .before .before .before .before .before .before .before .if2 .left) (c .before .before .before .before .before .rest-in .result) _
+    (c .before .before .before .before .before .rest-in .ensures) (c .before .rest .given .0 .0) (search needs) _
+    (c .before .before .before .before .before .before .before .before .none .ensures)
 
 pub with-rest-spec : {M : Type 1} → statement M
 with-rest-spec =
@@ -40,11 +64,18 @@ with-rest-spec =
     (tie.spec
     slice-aggregate-octet
     octet-requires
+    with-random-requires
+    same-length
+    returns
+    none-requires
+    with-items-requires
+    same-length-2
+    returns-2
     rest-in-requires
     enum-known-rest
     enum-told
     bad-requires
-    same-length
-    returns
-    same-length-2
-    returns-2)
+    same-length-3
+    returns-3
+    same-length-4
+    returns-4)

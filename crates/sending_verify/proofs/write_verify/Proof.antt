@@ -21,7 +21,7 @@ returns c =
     verify-refused _ (sized _ _ (s .good .0)) _ _ _ _ (c .before .before .named-refusal .ensures) (c .before .if1 .taken) _ (c .answer .ensures)
 
 scheme-id-requires : tie.Need-scheme-id-requires
-scheme-id-requires c κs = named-inside _ _ _ _ _ (c .before .named-refusal .ensures) (c .if1 .left)
+scheme-id-requires c κs = named-inside _ _ _ _ _ _ (c .before .named-refusal .ensures) (c .if1 .left)
 
 append-verify-requires : tie.Need-append-verify-requires
 append-verify-requires c κs =

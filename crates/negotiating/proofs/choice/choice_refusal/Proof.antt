@@ -19,7 +19,7 @@ returns-3 : tie.Need-returns-3
 returns-3 c = search choice-refusals
 
 cast-within : tie.Need-cast-within
-cast-within c = let h : c .before .before .before .before .before .before .args .r .count ≤ 16 = choice-few (c .before .before .before .before .before .before .args .r) (c .before .before .before .before .before .before .args .marks) (c .before .before .before .before .before .before .args .kind) _ (c .before .before .before .before .before .outside .ensures) (c .before .before .before .before .if1 .left) in omega arith
+cast-within c = let h : c .before .before .before .before .before .before .args .r .count ≤ 16 = choice-few (c .before .before .before .before .before .before .args .r) (c .before .before .before .before .before .before .args .marks) (c .before .before .before .before .before .before .args .fit) (c .before .before .before .before .before .before .args .kind) _ (c .before .before .before .before .before .outside .ensures) (c .before .before .before .before .if1 .left) in omega arith
 
 within-requires : tie.Need-within-requires
 within-requires c κs = search needs
@@ -27,11 +27,14 @@ within-requires c κs = search needs
 returns-4 : tie.Need-returns-4
 returns-4 c = search choice-refusals
 
+returns-5 : tie.Need-returns-5
+returns-5 c = search choice-refusals
+
 choose-kept-requires : tie.Need-choose-kept-requires
 choose-kept-requires c κs = search needs
 
-returns-5 : tie.Need-returns-5
-returns-5 c = search choice-refusals
+returns-6 : tie.Need-returns-6
+returns-6 c = search choice-refusals
 
 cast-counts-for : tie.Need-cast-counts-for
 cast-counts-for c = search needs
@@ -42,11 +45,11 @@ counts-for-requires c κs = search needs
 place-behind-requires : tie.Need-place-behind-requires
 place-behind-requires c κs = search needs
 
-returns-6 : tie.Need-returns-6
-returns-6 c = search choice-refusals
-
 returns-7 : tie.Need-returns-7
 returns-7 c = search choice-refusals
+
+returns-8 : tie.Need-returns-8
+returns-8 c = search choice-refusals
 
 pub choice-refusal-spec : {M : Type 1} → statement M
 choice-refusal-spec =
@@ -59,10 +62,11 @@ choice-refusal-spec =
     cast-within
     within-requires
     returns-4
-    choose-kept-requires
     returns-5
+    choose-kept-requires
+    returns-6
     cast-counts-for
     counts-for-requires
     place-behind-requires
-    returns-6
-    returns-7)
+    returns-7
+    returns-8)

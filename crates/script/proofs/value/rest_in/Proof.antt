@@ -25,20 +25,11 @@ same-length-2 c = search needs
 returns-2 : tie.Need-returns-2
 returns-2 c = search rests
 
-random-requires : tie.Need-random-requires
-random-requires c κs = search needs
-
-same-length-3 : tie.Need-same-length-3
-same-length-3 c = search needs
-
 returns-3 : tie.Need-returns-3
 returns-3 c = search rests
 
 returns-4 : tie.Need-returns-4
 returns-4 c = search rests
-
-returns-5 : tie.Need-returns-5
-returns-5 c = search rests
 
 pub rest-in-spec : {M : Type 1} → statement M
 rest-in-spec =
@@ -51,8 +42,5 @@ rest-in-spec =
     octets-requires
     same-length-2
     returns-2
-    random-requires
-    same-length-3
     returns-3
-    returns-4
-    returns-5)
+    returns-4)

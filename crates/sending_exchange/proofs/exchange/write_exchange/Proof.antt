@@ -18,7 +18,7 @@ returns c =
     exchange-refused _ (sized _ _ (s .good .0)) _ _ _ (c .before .before .named-refusal .ensures) (c .before .if1 .taken) _ (c .answer .ensures)
 
 scheme-id-requires : tie.Need-scheme-id-requires
-scheme-id-requires c κs = named-inside _ _ _ _ _ (c .before .named-refusal .ensures) (c .if1 .left)
+scheme-id-requires c κs = named-inside _ _ _ _ _ _ (c .before .named-refusal .ensures) (c .if1 .left)
 
 asked-by-requires : tie.Need-asked-by-requires
 asked-by-requires c κs = search needs

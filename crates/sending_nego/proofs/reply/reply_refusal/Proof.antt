@@ -1,6 +1,8 @@
 -- Assumes nothing.
-use Rattle.sending_nego.proofs.Replying.{reply-refusals, reply-few}
+use mathlib.Core.List.{[]}
 use native.Mathlib.Omega.{arith}
+use Rattle.conversation.specs.Writing.{NegoContent}
+use Rattle.sending_nego.proofs.Replying.{reply-few, reply-stage, reply-role, reply-marks, reply-extensions, reply-none, reply-crowded, reply-fits}
 use borrow.Author.Needs.{needs}
 use Rattle.sending_nego.proofs.reply.reply_refusal.Statement.{statement}
 use Rattle.sending_nego.proofs.reply.reply_refusal.Tie as tie
@@ -9,10 +11,16 @@ stage-refusal-requires : tie.Need-stage-refusal-requires
 stage-refusal-requires c κs = search needs
 
 returns : tie.Need-returns
-returns c = search reply-refusals
+returns c =
+    let s = c .before .before .before in
+    let g : NegoContent = record { random = []; test = s .args .test; extensions = s .args .extensions; values = s .args .values .now } in
+    reply-stage _ _ g _ _ (c .before .stage-refusal .ensures) (c .if1 .taken)
 
 returns-2 : tie.Need-returns-2
-returns-2 c = search reply-refusals
+returns-2 c =
+    let s = c .before .before .before .before in
+    let g : NegoContent = record { random = []; test = s .args .test; extensions = s .args .extensions; values = s .args .values .now } in
+    reply-role _ _ g _ _ (c .before .before .stage-refusal .ensures) (c .before .if1 .left) (c .if2 .left)
 
 cast-within : tie.Need-cast-within
 cast-within c = let h = reply-few _ _ (c .before .before .before .stage-refusal .ensures) (c .before .before .if1 .left) in omega arith
@@ -21,13 +29,31 @@ within-requires : tie.Need-within-requires
 within-requires c κs = search needs
 
 returns-3 : tie.Need-returns-3
-returns-3 c = search reply-refusals
+returns-3 c =
+    let s = c .before .before .before .before .before .before .before in
+    let g : NegoContent = record { random = []; test = s .args .test; extensions = s .args .extensions; values = s .args .values .now } in
+    reply-marks _ _ g _ _ (c .before .before .before .before .before .stage-refusal .ensures) (c .before .before .before .before .if1 .left) (c .before .before .before .if2 .taken) _ (c .before .within .ensures) (c .if3 .left)
+
+extension-refusal-requires : tie.Need-extension-refusal-requires
+extension-refusal-requires c κs = search needs
+
+returns-4 : tie.Need-returns-4
+returns-4 c =
+    let s = c .before .before .before .before .before .before .before .before .before in
+    let g : NegoContent = record { random = []; test = s .args .test; extensions = s .args .extensions; values = s .args .values .now } in
+    reply-extensions _ _ g _ _ (c .before .before .before .before .before .before .before .stage-refusal .ensures) (c .before .before .before .before .before .before .if1 .left) (c .before .before .before .before .before .if2 .taken) _ (c .before .before .before .within .ensures) (c .before .before .if3 .taken) _ (c .before .extension-refusal .ensures) (c .if4 .taken)
 
 choose-own-requires : tie.Need-choose-own-requires
 choose-own-requires c κs = search needs
 
-returns-4 : tie.Need-returns-4
-returns-4 c = search reply-refusals
+returns-5 : tie.Need-returns-5
+returns-5 c =
+    let s = c .before .before .before .before .before .before .before .before .before .before .before .before in
+    let g : NegoContent = record { random = []; test = s .args .test; extensions = s .args .extensions; values = s .args .values .now } in
+    reply-none _ _ g _ _ (c .before .before .before .before .before .before .before .before .before .before .stage-refusal .ensures) (c .before .before .before .before .before .before .before .before .before .if1 .left) (c .before .before .before .before .before .before .before .before .if2 .taken) _ (c .before .before .before .before .before .before .within .ensures) (c .before .before .before .before .before .if3 .taken) _ (c .before .before .before .before .extension-refusal .ensures) (c .before .before .before .if4 .left) _ (c .before .before .choose-own .ensures) (c .if5 .taken)
+
+size-of-requires : tie.Need-size-of-requires
+size-of-requires c κs = search needs
 
 cast-has-room : tie.Need-cast-has-room
 cast-has-room c = search needs
@@ -35,14 +61,23 @@ cast-has-room c = search needs
 mul-has-room : tie.Need-mul-has-room
 mul-has-room c = search needs
 
+add-has-room : tie.Need-add-has-room
+add-has-room c = search needs
+
 has-room-requires : tie.Need-has-room-requires
 has-room-requires c κs = search needs
 
-returns-5 : tie.Need-returns-5
-returns-5 c = search reply-refusals
-
 returns-6 : tie.Need-returns-6
-returns-6 c = search reply-refusals
+returns-6 c =
+    let s = c .before .before .before .before .before .before .before .before .before .before .before .before .before .before .before .before in
+    let g : NegoContent = record { random = []; test = s .args .test; extensions = s .args .extensions; values = s .args .values .now } in
+    reply-crowded _ _ g _ _ (c .before .before .before .before .before .before .before .before .before .before .before .before .before .before .stage-refusal .ensures) (c .before .before .before .before .before .before .before .before .before .before .before .before .before .if1 .left) (c .before .before .before .before .before .before .before .before .before .before .before .before .if2 .taken) _ (c .before .before .before .before .before .before .before .before .before .before .within .ensures) (c .before .before .before .before .before .before .before .before .before .if3 .taken) _ (c .before .before .before .before .before .before .before .before .extension-refusal .ensures) (c .before .before .before .before .before .before .before .if4 .left) _ (c .before .before .before .before .before .before .choose-own .ensures) (c .before .before .before .before .if5 .left) _ (c .before .before .before .size-of .ensures) _ (c .before .has-room .ensures) (c .if6 .left)
+
+returns-7 : tie.Need-returns-7
+returns-7 c =
+    let s = c .before .before .before .before .before .before .before .before .before .before .before .before .before .before .before .before in
+    let g : NegoContent = record { random = []; test = s .args .test; extensions = s .args .extensions; values = s .args .values .now } in
+    reply-fits _ _ g _ _ (c .before .before .before .before .before .before .before .before .before .before .before .before .before .before .stage-refusal .ensures) (c .before .before .before .before .before .before .before .before .before .before .before .before .before .if1 .left) (c .before .before .before .before .before .before .before .before .before .before .before .before .if2 .taken) _ (c .before .before .before .before .before .before .before .before .before .before .within .ensures) (c .before .before .before .before .before .before .before .before .before .if3 .taken) _ (c .before .before .before .before .before .before .before .before .extension-refusal .ensures) (c .before .before .before .before .before .before .before .if4 .left) _ (c .before .before .before .before .before .before .choose-own .ensures) (c .before .before .before .before .if5 .left) _ (c .before .before .before .size-of .ensures) _ (c .before .has-room .ensures) (c .if6 .taken)
 
 pub reply-refusal-spec : {M : Type 1} → statement M
 reply-refusal-spec =
@@ -54,10 +89,14 @@ reply-refusal-spec =
     cast-within
     within-requires
     returns-3
-    choose-own-requires
+    extension-refusal-requires
     returns-4
+    choose-own-requires
+    returns-5
+    size-of-requires
     cast-has-room
     mul-has-room
+    add-has-room
     has-room-requires
-    returns-5
-    returns-6)
+    returns-6
+    returns-7)
