@@ -1,31 +1,16 @@
--- What is proved of replays. Document 02, C-19.
+-- What is proved of files merged into turns. Document 02, C-19.
 --
 -- Glossary
 --   numbersOf ms       the numbers of messages
 --   Rising ns          no number stands behind a higher one, nor twice
 --   InRow i a          the numbers of two files are 0 to the highest, each once, and rise in each file
 --   InRowExactly       24 is given exactly where they are not
---   AllRead o cs       in the run every message that is written is read
---   MarksAre           every accepted call with marks of an end had these
---   caseOf             the case of a run: its lists, marks, and a file of what each end wrote
---   SameEnd s e        a side ends a replay as an end ends a run: with the same octets read and written
---   SameEnds           a replay ends without refusal, with the choice of a run, and both sides as its ends
---   ReplaysRun         a run whose messages are all read is replayed without refusal, to the same choice and the same transcripts
 use Prim.Native.Nat.{ℕ, _<_, _≤_}
 use mathlib.Core.Path.{_≡_}
-use mathlib.Core.Bool.{Bool, true, false}
-use mathlib.Core.Logic.{_⊎_}
+use mathlib.Core.Bool.{true}
 use mathlib.Core.List.{List, [], _∷_, _++_, map, List·Memᴰ}
-use mathlib.Core.Option.{some}
-use lib.ListN.{length, take}
 use Rattle.message.specs.Layout.{headOf}
-use Rattle.token.specs.Split.{join}
-use Rattle.schemes.specs.Lists.{joinIds}
-use Rattle.schemes.specs.Sets.{below}
-use Rattle.conversation.specs.Runs.{Call, End, Opening, world, ends, Replied, ChoseWith}
-use Rattle.conversation.specs.Claims.{writtenIn, readIn}
 use Rattle.sides.specs.Merging.{inRow}
-use Rattle.sides.specs.Replay.{Case, Side, finished, choiceOf, replayOf, Played}
 
 abbrev pub numbersOf : List (List ℕ) → List ℕ
 numbersOf ms = map (λ m. headOf m .sequence) ms
@@ -45,40 +30,3 @@ abbrev pub InRowExactly : Type 0
 InRowExactly =
     (i a : List (List ℕ))
     → (inRow i a ≡ true → InRow (numbersOf i) (numbersOf a)) × (InRow (numbersOf i) (numbersOf a) → inRow i a ≡ true)
-
--- "every message read": what an end writes is what the other reads, in order
-pub record AllRead (o : Opening) (cs : List (Bool × Call)) : Type 0 where
-  pub by-acceptor : writtenIn false (world o) cs ≡ readIn true (world o) cs
-  pub by-initiator : writtenIn true (world o) cs ≡ readIn false (world o) cs
-
--- "with the same lists and marks": an end has at most one such call (`MarksOnce`); without one, any marks that the list has places for
-pub record MarksAre (o : Opening) (cs : List (Bool × Call)) (mi ma : ℕ) : Type 0 where
-  pub chosen : (m : ℕ) → ChoseWith o cs m → m ≡ mi
-  pub replied : (m : ℕ) → Replied o cs m → m ≡ ma
-  pub initiator-below : below (length (o .initiator)) mi ≡ true
-  pub acceptor-below : below (length (o .acceptor)) ma ≡ true
-
--- "both files come from our two ends": "one file per direction, each holding that side's messages in order"
-abbrev pub caseOf : Opening → List (Bool × Call) → ℕ → ℕ → Case
-caseOf o cs mi ma = record {
-  i = record { list = joinIds (o .initiator); marks = mi; file = some (join (writtenIn false (world o) cs)) };
-  a = record { list = joinIds (o .acceptor); marks = ma; file = some (join (writtenIn true (world o) cs)) };
-}
-
-pub record SameEnd (s : Side) (e : End) : Type 0 where
-  pub used : s .record-of .used ≡ e .record-of .used
-  pub transcript : take (s .record-of .used) (s .transcript) ≡ take (e .record-of .used) (e .transcript)
-
--- "the replay ends with the same choice and the same transcript"
-pub record SameEnds (o : Opening) (cs : List (Bool × Call)) (p : Played) : Type 0 where
-  pub unrefused : p .ending ≡ finished
-  pub choice : choiceOf (p .sides .i .record-of) ≡ choiceOf (ends (world o) cs .i .record-of)
-  pub initiator : SameEnd (p .sides .i) (ends (world o) cs .i)
-  pub acceptor : SameEnd (p .sides .a) (ends (world o) cs .a)
-
--- "If both files come from our two ends with the same lists and marks, every message read", the replay's transcripts having all the room there is
-abbrev pub ReplaysRun : Type 0
-ReplaysRun =
-    (o : Opening) (cs : List (Bool × Call)) (mi ma : ℕ) → AllRead o cs → MarksAre o cs mi ma
-    → (di da : List ℕ) → 65535 ≤ length di → 65535 ≤ length da
-    → SameEnds o cs (replayOf (caseOf o cs mi ma) di da)
