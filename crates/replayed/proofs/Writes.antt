@@ -127,6 +127,23 @@ Marked marks (speak s) = Unit {0}
 Marked marks read = Unit {0}
 Marked marks (choose m s) = m ≡ marks
 
+-- its own marks
+abbrev pub marksIn : Call → ℕ
+marksIn (offer random) = 0
+marksIn (reply m random) = m
+marksIn (metadata id value) = 0
+marksIn (speak s) = 0
+marksIn read = 0
+marksIn (choose m s) = m
+
+pub marked-in : (k : Call) → Marked (marksIn k) k
+marked-in (offer random) = tt
+marked-in (reply m random) = refl
+marked-in (metadata id value) = tt
+marked-in (speak s) = tt
+marked-in read = tt
+marked-in (choose m s) = refl
+
 module _ (marks : ℕ) (r : Record) where
   begun-same : mayChoose r ≡ false → eqb (writes r) ANSWER ≡ false → begun marks r ≡ r
   unfolding begun
@@ -172,6 +189,7 @@ module _ (e : End) (peer : List ℕ) (log : List (List ℕ)) (ok : Sound (e .rec
     pub adds : added e peer k ≡ message ∷ []
     pub turns : turnAfter e k ≡ e .turn ++ message
     pub next : act e peer k .answer .next ≡ said base message
+    pub counts : said base message .sequence ≡ r .sequence + 1
     pub position : 1 ≤ said base message .position
     pub on : writes (said base message) ≡ 3 → ⊥
     pub begins : r .position ≡ 0 → (base ≡ begun marks r) × ((rest : List ℕ) → owed marks r (message ++ rest) ≡ true)
@@ -214,6 +232,7 @@ module _ (e : End) (peer : List ℕ) (log : List (List ℕ)) (ok : Sound (e .rec
         adds = adds;
         turns = turns;
         next = next ∙ sym same;
+        counts = ap (λ (n : ℕ). n + 1) sequence;
         position = subst (λ (q : Record). 1 ≤ q .position) (sym same) (positive (placeAfter base kind) may);
         on = λ z. writes-some base kind may z;
         begins = s .begins;
