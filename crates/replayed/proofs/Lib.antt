@@ -3,3 +3,4 @@ pub mod Writes
 pub mod Heard
 pub mod Played
 pub mod Steps
+pub mod Replayed

@@ -36,10 +36,11 @@ least (ofAlert p) = omega arith
 
 -- 1. the head
 
-pub record Headed (type q : ℕ) (m : List ℕ) : Type 0 where
+pub record Headed (type q : ℕ) (v m : List ℕ) : Type 0 where
   pub long : 64 ≤ length m
   pub exact : (rest : List ℕ) → size (m ++ rest) ≡ length m
   pub number : (rest : List ℕ) → headOf (m ++ rest) .sequence ≡ q
+  pub talk : (rest : List ℕ) → headOf (m ++ rest) .conversation ≡ v
   pub kind : headOf m .kind ≡ type
 
 module _ (r : Record) (kind : ℕ) (c : Contents) (number : r .sequence ≤ 1023) (id : length (r .conversation) ≡ 16) (w : Whole c) (short : length (messageOf r kind c) ≤ 65535) where
@@ -52,13 +53,14 @@ module _ (r : Record) (kind : ℕ) (c : Contents) (number : r .sequence ≤ 1023
       ap headOf (sym (joined-append fs (rest ∷ []) ∙ ap (λ (l : List ℕ). joined fs ++ l) (append-nil rest)))
       ∙ head-fields h (sizeOf c) (bodyFields c ++ (rest ∷ [])) (type-known (r .acceptor) kind) (omega arith) (omega arith) id
 
-  pub headed : Headed (typeOf (r .acceptor) kind) (r .sequence) (messageOf r kind c)
+  pub headed : Headed (typeOf (r .acceptor) kind) (r .sequence) (r .conversation) (messageOf r kind c)
   headed =
       let n : length (messageOf r kind c) ≡ sizeOf c = length-encoded (heading r kind) id c w in
       record {
         long = omega (arith, least c);
         exact = λ rest. ap (λ (g : Head). g .length) (head-written rest) ∙ sym n;
         number = λ rest. ap (λ (g : Head). g .sequence) (head-written rest);
+        talk = λ rest. ap (λ (g : Head). g .conversation) (head-written rest);
         kind = ap (λ (s : List ℕ). headOf s .kind) (sym (append-nil (messageOf r kind c))) ∙ ap (λ (g : Head). g .kind) (head-written []);
       }
 

@@ -21,7 +21,7 @@ use Rattle.conversation.specs.Runs.{Call, offer, reply, metadata, speak, read, 
 use Rattle.conversation.specs.Logs.{messagesIn, added}
 use Rattle.conversation.proofs.Messages.{join-one}
 use Rattle.conversation.proofs.Logs.{Sound}
-use Rattle.sides.specs.Merging.{Turn}
+use Rattle.sides.specs.Merging.{Turn, token}
 use Rattle.sides.specs.Turning.{begun, owed, heardTurn, said, saidAll, spoke}
 use Rattle.sides.specs.Replay.{Case, Side, Sides, sideOf, other, withSides, marksOf, outcomeOf, soPlayed}
 use Rattle.sides.proofs.Cutting.{Pieces, pieces-append}
@@ -59,7 +59,7 @@ accepted-reads e peer a = a
 -- an end behind an accepted call that writes
 record Wrote (e e′ : End) (message : List ℕ) : Type 0 where
   type : ℕ
-  head : Headed type (e .record-of .sequence) message
+  head : Headed type (e .record-of .sequence) (e .record-of .conversation) message
   turn : e′ .turn ≡ e .turn ++ message
   counts : e′ .record-of .sequence ≡ e .record-of .sequence + 1
 
@@ -98,7 +98,7 @@ parted-swap e f we wf re rf p = record { here = p .there; there = p .here; unrea
 pub parted-on : (e f : End) (log we wf re rf : List (List ℕ)) (ok : Sound (e .record-of) (e .transcript) log) → Parted e f we wf re rf
     → (k : Call) → (k ≡ read → ⊥) → isAccepted (act e (f .turn) k .answer) ≡ true → Parted (moved e k (act e (f .turn) k)) f (we ++ added e (f .turn) k) wf re rf
 parted-on e f log we wf re rf ok p k n a =
-    let w = writes-call e (f .turn) log ok (marksIn k) k (marked-in k) n a in
+    let w = writes-call e (f .turn) log ok (marksIn k) k (marked-in _ k) n a in
     let v = wrote-by (marksIn k) e (f .turn) log ok k a w in
     let e′ : End = moved e k (act e (f .turn) k) in
     record {
@@ -112,7 +112,7 @@ parted-unread e f we wf re rf p a = past-unread e f (p .here) (accepted-reads e 
 
 -- 2. ends in step with a replay
 
-abbrev spokenBy : ℕ → Record → List (List ℕ) → Record
+abbrev pub spokenBy : ℕ → Record → List (List ℕ) → Record
 spokenBy m w [] = w
 spokenBy m w (k ∷ ks) = spoke m w (k ∷ ks)
 
@@ -137,7 +137,13 @@ abbrev Begins : ℕ → List (List ℕ) → Type 0
 Begins q [] = Unit {0}
 Begins q (m ∷ ms) = (rest : List ℕ) → headOf (m ++ rest) .sequence ≡ q
 
-module _ (c : Case) (s₀ : Sides) where
+-- the first message's conversation
+abbrev pub Talks : List ℕ → Record → List Turn → List (List ℕ) → Type 0
+Talks v r [] [] = r .conversation ≡ v
+Talks v r [] (m ∷ ms) = (r .conversation ≡ v) × ((rest : List ℕ) → headOf (m ++ rest) .conversation ≡ v)
+Talks v r (t ∷ ts) ms = headOf (token t) .conversation ≡ v
+
+module _ (c : Case) (s₀ : Sides) (v : List ℕ) where
   pub record Good (x : Bool) (e f : End) (le lf we wf re rf : List (List ℕ)) : Type 0 where
     pub turns : List Turn
     pub own : List (List ℕ)
@@ -147,6 +153,9 @@ module _ (c : Case) (s₀ : Sides) where
     pub levels : (y : Bool) → Level (sideOf y (sidesAfter c s₀ turns)) (allOf turns)
     pub writer : e .record-of ≡ spokenBy (marksOf x c) (sideOf x (sidesAfter c s₀ turns) .record-of) own
     pub reader : f .record-of ≡ sideOf (not x) (sidesAfter c s₀ turns) .record-of
+    pub role-e : e .record-of .acceptor ≡ x
+    pub role-f : f .record-of .acceptor ≡ not x
+    pub talks : Talks v (e .record-of) turns own
     pub turn : e .turn ≡ join own
     pub exact : AllExact own
     pub begins : Begins (length (allOf turns)) own
@@ -184,11 +193,11 @@ module _ (c : Case) (s₀ : Sides) where
 
     -- 3. the writer writes
 
-    pub good-writes : Sound (e .record-of) (e .transcript) le → (k : Call) → Marked marks k → (k ≡ read → ⊥) → isAccepted (act e (f .turn) k .answer) ≡ true
+    pub good-writes : Sound (e .record-of) (e .transcript) le → (k : Call) → Marked x marks k → (k ≡ read → ⊥) → isAccepted (act e (f .turn) k .answer) ≡ true
         → Good x (moved e k (act e (f .turn) k)) f (le ++ added e (f .turn) k) lf (we ++ added e (f .turn) k) wf re rf
     good-writes ok k m n a =
-        let w = writes-call e (f .turn) le ok marks k m n a in
-        let v = wrote-by marks e (f .turn) le ok k a w in
+        let w = writes-call e (f .turn) le ok marks k (subst (λ (y : Bool). Marked y marks k) (sym (g .role-e)) m) n a in
+        let z = wrote-by marks e (f .turn) le ok k a w in
         let e′ : End = moved e k (act e (f .turn) k) in
         let there : added e (f .turn) k ≡ w .message ∷ [] = w .adds in
         record {
@@ -200,11 +209,14 @@ module _ (c : Case) (s₀ : Sides) where
           levels = g .levels;
           writer = w .next ∙ then-said w (g .own) (g .writer) (g .underway);
           reader = g .reader;
-          turn = v .turn ∙ ap (λ (l : List ℕ). l ++ w .message) (g .turn) ∙ sym (join-one (g .own) (w .message));
+          role-e = ap (λ (r : Record). r .acceptor) (w .next) ∙ w .role ∙ g .role-e;
+          role-f = g .role-f;
+          talks = then-talks w (g .turns) (g .own) (g .talks);
+          turn = z .turn ∙ ap (λ (l : List ℕ). l ++ w .message) (g .turn) ∙ sym (join-one (g .own) (w .message));
           exact = exact-append (g .own) (w .message ∷ []) (g .exact) (record { long = w .head .long; exact = w .head .exact }, tt);
           begins = then-begins w (g .own) refl (g .begins);
           underway = then-underway w (g .own) (g .writer) (g .underway);
-          stale = then-stale e′ (w .message) v (g .stale);
+          stale = then-stale e′ (w .message) z (g .stale);
           log-e = grown le (allOf (g .turns)) (g .own) (w .message) (added e (f .turn) k) (g .log-e) there;
           log-f = g .log-f;
           wrote-e = grown we (ofSide x (g .turns)) (g .own) (w .message) (added e (f .turn) k) (g .wrote-e) there;
@@ -224,6 +236,11 @@ module _ (c : Case) (s₀ : Sides) where
               let b = w .goes-on (u .0) (u .1 .0) in
               ap (λ (r : Record). said r (w .message)) (b ∙ is) ∙ sym (said-snoc (begun marks (sideOf x s .record-of)) (h ∷ hs) (w .message))
 
+          then-talks : (w : Writes e (f .turn) le ok marks k) (ts : List Turn) (own : List (List ℕ)) → Talks v (e .record-of) ts own → Talks v (moved e k (act e (f .turn) k) .record-of) ts (own ++ (w .message ∷ []))
+          then-talks w [] [] h = (ap (λ (r : Record). r .conversation) (w .next) ∙ w .talk ∙ h, λ rest. w .head .talk rest ∙ h)
+          then-talks w [] (m ∷ ms) h = (ap (λ (r : Record). r .conversation) (w .next) ∙ w .talk ∙ h .0, h .1)
+          then-talks w (t ∷ ts) own h = h
+
           then-begins : (w : Writes e (f .turn) le ok marks k) (own : List (List ℕ)) → g .own ≡ own → Begins (length (allOf (g .turns))) own → Begins (length (allOf (g .turns))) (own ++ (w .message ∷ []))
           then-begins w [] is b = λ rest. w .head .number rest ∙ sequence-e ∙ (let z : length (g .own) ≡ 0 = ap length is in omega arith)
           then-begins w (h ∷ hs) is b = b
@@ -231,8 +248,7 @@ module _ (c : Case) (s₀ : Sides) where
           then-underway : (w : Writes e (f .turn) le ok marks k) (own : List (List ℕ)) → e .record-of ≡ spokenBy marks (sideOf x s .record-of) own → Underway marks (sideOf x s .record-of) (e .record-of) own
               → Underway marks (sideOf x s .record-of) (moved e k (act e (f .turn) k) .record-of) (own ++ (w .message ∷ []))
           then-underway w [] is u =
-              let b = w .begins (ap (λ (r : Record). r .position) is ∙ u) .1 in
-              (
+              let b = w .begins (ap (λ (r : Record). r .position) is ∙ u) .1 in (
                 subst (λ (r : Record). 1 ≤ r .position) (sym (w .next)) (w .position),
                 (subst (λ (r : Record). writes r ≡ 3 → ⊥) (sym (w .next)) (w .on), λ rest. subst (λ (r : Record). owed marks r (w .message ++ rest) ≡ true) is (b rest)),
               )
@@ -262,7 +278,7 @@ module _ (c : Case) (s₀ : Sides) where
     pub good-parts : Sound (f .record-of) (f .transcript) lf → (k : Call) → (k ≡ read → ⊥) → isAccepted (act f (e .turn) k .answer) ≡ true
         → Parted (moved f k (act f (e .turn) k)) e (wf ++ added f (e .turn) k) we rf re
     good-parts ok k n a =
-        let w = writes-call f (e .turn) lf ok (marksIn k) k (marked-in k) n a in
+        let w = writes-call f (e .turn) lf ok (marksIn k) k (marked-in _ k) n a in
         let v = wrote-by (marksIn k) f (e .turn) lf ok k a w in
         go w v (g .stale) where
           go : (w : Writes f (e .turn) lf ok (marksIn k) k) → Wrote f (moved f k (act f (e .turn) k)) (w .message) → Stale e f → Parted (moved f k (act f (e .turn) k)) e (wf ++ added f (e .turn) k) we rf re
@@ -351,6 +367,9 @@ module _ (c : Case) (s₀ : Sides) where
             levels = either x (λ y. Level (sideOf y s′) (allOf (g .turns ++ (t ∷ [])))) writer-level reader-level;
             writer = then;
             reader = g .writer ∙ spoken-some (g .own) (through .some) ∙ sym (ap (λ (y : Side). y .record-of) writer-side) ∙ ap (λ (y : Bool). sideOf y s′ .record-of) (sym (not-not x));
+            role-e = ap (λ (y : Record). y .acceptor) (rec ∙ h .next) ∙ sym (ap (λ (y : Record). y .acceptor) (g .reader)) ∙ g .role-f;
+            role-f = g .role-e ∙ sym (not-not x);
+            talks = then-talks (g .turns) (g .own) (through .some) (f′ .record-of) (g .talks);
             turn = none;
             exact = tt;
             begins = tt;
@@ -363,6 +382,11 @@ module _ (c : Case) (s₀ : Sides) where
             read-e = ap (λ (l : List (List ℕ)). l ++ more) (g .read-f) ∙ ap (λ (l : List (List ℕ)). ofSide x (g .turns) ++ l) is ∙ sym back;
             read-f = g .read-e ∙ sym there;
           } where
+            then-talks : (ts : List Turn) (own : List (List ℕ)) → 0 < length own → (y : Record) → Talks v (e .record-of) ts own → Talks v y (ts ++ (record { acceptor = x; messages = own } ∷ [])) []
+            then-talks [] [] some y q = absurd (omega arith)
+            then-talks [] (m ∷ ms) some y q = q .1 (join ms)
+            then-talks (u ∷ ts) own some y q = q
+
             first-below : (f′ : End) → f′ .record-of ≡ taken r (join (g .own)) (h .n) (h .scan) → headOf (e .turn) .sequence < f′ .record-of .sequence
             first-below f′ is =
                 let q : headOf (join (g .own)) .sequence ≡ r .sequence = first-number r (join (g .own)) (h .n) (h .scan) (h .is) .1 in

@@ -118,14 +118,14 @@ whole-speech (alarm code) id h = h
 
 -- 2. a call at an end
 
--- its marks, where it has some
-abbrev pub Marked : ℕ → Call → Type 0
-Marked marks (offer random) = Unit {0}
-Marked marks (reply m random) = m ≡ marks
-Marked marks (metadata id value) = Unit {0}
-Marked marks (speak s) = Unit {0}
-Marked marks read = Unit {0}
-Marked marks (choose m s) = m ≡ marks
+-- its marks, where it has some: an acceptor's reply, an initiator's choice
+abbrev pub Marked : Bool → ℕ → Call → Type 0
+Marked role marks (offer random) = Unit {0}
+Marked role marks (reply m random) = role ≡ true → m ≡ marks
+Marked role marks (metadata id value) = Unit {0}
+Marked role marks (speak s) = Unit {0}
+Marked role marks read = Unit {0}
+Marked role marks (choose m s) = role ≡ false → m ≡ marks
 
 -- its own marks
 abbrev pub marksIn : Call → ℕ
@@ -136,13 +136,13 @@ marksIn (speak s) = 0
 marksIn read = 0
 marksIn (choose m s) = m
 
-pub marked-in : (k : Call) → Marked (marksIn k) k
-marked-in (offer random) = tt
-marked-in (reply m random) = refl
-marked-in (metadata id value) = tt
-marked-in (speak s) = tt
-marked-in read = tt
-marked-in (choose m s) = refl
+pub marked-in : (role : Bool) (k : Call) → Marked role (marksIn k) k
+marked-in role (offer random) = tt
+marked-in role (reply m random) = λ z. refl
+marked-in role (metadata id value) = tt
+marked-in role (speak s) = tt
+marked-in role read = tt
+marked-in role (choose m s) = λ z. refl
 
 module _ (marks : ℕ) (r : Record) where
   begun-same : mayChoose r ≡ false → eqb (writes r) ANSWER ≡ false → begun marks r ≡ r
@@ -185,11 +185,13 @@ module _ (e : End) (peer : List ℕ) (log : List (List ℕ)) (ok : Sound (e .rec
     pub message : List ℕ
     pub base : Record
     pub type : ℕ
-    pub head : Headed type (r .sequence) message
+    pub head : Headed type (r .sequence) (r .conversation) message
     pub adds : added e peer k ≡ message ∷ []
     pub turns : turnAfter e k ≡ e .turn ++ message
     pub next : act e peer k .answer .next ≡ said base message
     pub counts : said base message .sequence ≡ r .sequence + 1
+    pub role : said base message .acceptor ≡ r .acceptor
+    pub talk : said base message .conversation ≡ r .conversation
     pub position : 1 ≤ said base message .position
     pub on : writes (said base message) ≡ 3 → ⊥
     pub begins : r .position ≡ 0 → (base ≡ begun marks r) × ((rest : List ℕ) → owed marks r (message ++ rest) ≡ true)
@@ -207,19 +209,20 @@ module _ (e : End) (peer : List ℕ) (log : List (List ℕ)) (ok : Sound (e .rec
       (λ g a. g)
 
   made : (k : Call) (base : Record) (kind : ℕ) (c : Contents) (w : WrittenAs)
-      → kindOf (base .acceptor) (typeOf (base .acceptor) kind) ≡ kind → base .sequence ≡ r .sequence → base .used ≡ r .used → length (base .conversation) ≡ 16 → Whole c
+      → kindOf (base .acceptor) (typeOf (base .acceptor) kind) ≡ kind → base .acceptor ≡ r .acceptor → base .sequence ≡ r .sequence → base .conversation ≡ r .conversation → Whole c
       → leb (r .used + length (messageOf base kind c)) (room d) ≡ true
       → saidAs base kind (schemeIn (messageOf base kind c)) ≡ w → mayWrite base kind ≡ true
       → added e peer k ≡ messageOf base kind c ∷ [] → turnAfter e k ≡ e .turn ++ messageOf base kind c
       → act e peer k .answer .next ≡ wrote base (placeAfter base kind) (length (messageOf base kind c)) w
-      → (Headed (typeOf (base .acceptor) kind) (r .sequence) (messageOf base kind c) → Start base (messageOf base kind c)) → Writes k
+      → (Headed (typeOf (base .acceptor) kind) (r .sequence) (r .conversation) (messageOf base kind c) → Start base (messageOf base kind c)) → Writes k
   unfolding said
-  made k base kind c w known sequence used talk whole fit says may adds turns next start =
+  made k base kind c w known role sequence talk whole fit says may adds turns next start =
       let x : List ℕ = messageOf base kind c in
       let low : r .used + length x ≤ room d = leb-true _ _ fit in
       let counts = limits-counts r (ok .limits) in
-      let h : Headed (typeOf (base .acceptor) kind) (base .sequence) x = headed base kind c (omega (arith, counts)) talk whole (omega arith) in
-      let h′ : Headed (typeOf (base .acceptor) kind) (r .sequence) x = subst (λ (q : ℕ). Headed (typeOf (base .acceptor) kind) q x) sequence h in
+      let h : Headed (typeOf (base .acceptor) kind) (base .sequence) (base .conversation) x = headed base kind c (omega (arith, counts)) (ap length talk ∙ ok .talk) whole (omega arith) in
+      let h′ : Headed (typeOf (base .acceptor) kind) (r .sequence) (r .conversation) x =
+      subst (λ (v : List ℕ). Headed (typeOf (base .acceptor) kind) (r .sequence) v x) talk (subst (λ (q : ℕ). Headed (typeOf (base .acceptor) kind) q (base .conversation) x) sequence h) in
       let is : kindOf (base .acceptor) (headOf x .kind) ≡ kind = ap (kindOf (base .acceptor)) (h .kind) ∙ known in
       let same : said base x ≡ wrote base (placeAfter base kind) (length x) w =
       ap (λ (j : ℕ). wrote base (placeAfter base j) (length x) (saidAs base j (schemeIn x))) is ∙ ap (wrote base (placeAfter base kind) (length x)) says in
@@ -233,6 +236,8 @@ module _ (e : End) (peer : List ℕ) (log : List (List ℕ)) (ok : Sound (e .rec
         turns = turns;
         next = next ∙ sym same;
         counts = ap (λ (n : ℕ). n + 1) sequence;
+        role = role;
+        talk = talk;
         position = subst (λ (q : Record). 1 ≤ q .position) (sym same) (positive (placeAfter base kind) may);
         on = λ z. writes-some base kind may z;
         begins = s .begins;
@@ -261,7 +266,7 @@ module _ (e : End) (peer : List ℕ) (log : List (List ℕ)) (ok : Sound (e .rec
       let heads : Heads (typeOf (r .acceptor) NEGO) (ownOf r) x = heads-written r random (ownOf r) sized few (ok .talk) (ok .limits) (take (16 * r .count) (r .list)) (own-joined r (ok .ids)) in
       let f : eqb (writes r) FIRST ≡ true = eq-eqb _ _ (first .0) in
       let n : eqb (writes r) ANSWER ≡ false = rw (first .0) in
-      made (offer random) r NEGO c (unchanged r) (kind-type (r .acceptor) NEGO refl refl) refl refl (ok .talk) (random .1) fit refl may refl refl (next-is rows action g)
+      made (offer random) r NEGO c (unchanged r) (kind-type (r .acceptor) NEGO refl refl) refl refl refl (random .1) fit refl may refl refl (next-is rows action g)
       (λ h. record {
         begins = λ p. (sym (begun-same marks r (and-false (not (r .acceptor)) (first .1)) n), λ more. owed-first marks r (x ++ more) f (heads more .1));
         goes-on = λ p q. absurd (let z = start .1 in omega arith);
@@ -290,7 +295,7 @@ module _ (e : End) (peer : List ℕ) (log : List (List ℕ)) (ok : Sound (e .rec
       let f : eqb (writes r) FIRST ≡ false = rw answers in
       let n : eqb (writes r) ANSWER ≡ true = rw answers in
       let no : mayChoose r ≡ false = rw role in
-      made (reply marks random) (withMarks marks r) NEGO c w (kind-type (r .acceptor) NEGO refl refl) refl refl (ok .talk) (random .1) fit refl may refl refl (next-is rows action g)
+      made (reply marks random) (withMarks marks r) NEGO c w (kind-type (r .acceptor) NEGO refl refl) refl refl refl (random .1) fit refl may refl refl (next-is rows action g)
       (λ h. record {
         begins = λ p. (sym (begun-answer marks r no n), λ more. owed-answer marks r (x ++ more) f n some (heads more .1));
         goes-on = λ p q. absurd (let z = start .1 in omega arith);
@@ -309,7 +314,7 @@ module _ (e : End) (peer : List ℕ) (log : List (List ℕ)) (ok : Sound (e .rec
       let allowed : metadataAllowed r (id .0) ≡ true = true-behind (stageRows r METADATA ++ (row 19 (leb 1 (length value)) ∷ [])) (row 15 (metadataAllowed r (id .0))) (fits r d (length x) ∷ []) g in
       let fit = true-behind (stageRows r METADATA ++ metadataRows r (id .0) (length value)) (fits r d (length x)) [] g in
       let scheme : schemeIn x ≡ id .0 = scheme-exchange r METADATA (id .0) value (ok .talk) (id .1) in
-      made (metadata id value) r METADATA c w (kind-type (r .acceptor) METADATA refl refl) refl refl (ok .talk) (id .1) fit
+      made (metadata id value) r METADATA c w (kind-type (r .acceptor) METADATA refl refl) refl refl refl (id .1) fit
       (ap (saidAs r METADATA) scheme ∙ told-is (id .0) allowed) may refl refl (next-is rows action g)
       (λ h. record {
         begins = λ p. absurd (none p may);
@@ -334,7 +339,7 @@ module _ (e : End) (peer : List ℕ) (log : List (List ℕ)) (ok : Sound (e .rec
       let allowed : schemeAllowed r ≡ true = true-behind (stageRows r (kindIn s)) (row 15 (schemeAllowed r)) (fits r d (length x) ∷ []) g in
       let fit = true-behind (stageRows r (kindIn s) ++ namedRows r) (fits r d (length x)) [] g in
       let whole : length id ≡ 16 = ok .ids (schemeNow r) (now-below r allowed) in
-      made (speak s) r (kindIn s) c (spokenAs r s) (kind-speech (r .acceptor) s) refl refl (ok .talk) (whole-speech s id whole) fit (said-spoken r s (schemeIn x)) may refl refl (next-is rows action g)
+      made (speak s) r (kindIn s) c (spokenAs r s) (kind-speech (r .acceptor) s) refl refl refl (whole-speech s id whole) fit (said-spoken r s (schemeIn x)) may refl refl (next-is rows action g)
       (λ h. record {
         begins = λ p.
             let later : writes r ≡ 2 = speech-first s (writes r) (r .verified) (rw p at may) in
@@ -361,17 +366,30 @@ module _ (e : End) (peer : List ℕ) (log : List (List ℕ)) (ok : Sound (e .rec
       let whole : length id ≡ 16 = ap (λ (k : ℕ). length (schemeAt q k)) (now-chosen r marks) ∙ ok .ids _ (chosen-below r marks (rw role at l7) (p .left)) in
       let f : eqb (writes r) FIRST ≡ false = rw none in
       let n : eqb (writes r) ANSWER ≡ false = rw none in
-      made (choose marks s) q (kindIn s) (contentsIn id s) (spokenAs q s) (kind-speech (r .acceptor) s) refl refl (ok .talk) (whole-speech s id whole) (p .fitting) (said-spoken q s (schemeIn x)) (p .speaks) refl refl (next-is (choiceTable r d marks s) action g)
+      made (choose marks s) q (kindIn s) (contentsIn id s) (spokenAs q s) (kind-speech (r .acceptor) s) refl refl refl (whole-speech s id whole) (p .fitting) (said-spoken q s (schemeIn x)) (p .speaks) refl refl (next-is (choiceTable r d marks s) action g)
       (λ h. record {
         begins = λ z. (sym (begun-choice marks r (p .may)), λ more. owed-choice marks r (x ++ more) f n (p .may) (p .left) (scheme-front x more (h .long) ∙ scheme-spoken q id s (ok .talk) whole ∙ scheme-chosen r marks (p .left)));
         goes-on = λ z y. absurd (y none);
       })
 
-  -- whichever call it is
-  pub writes-call : (k : Call) → Marked marks k → (k ≡ read → ⊥) → isAccepted (act e peer k .answer) ≡ true → Writes k
+  -- whose call it is
+  reply-role : (m : ℕ) (random : Sized 32) → isAccepted (act e peer (reply m random) .answer) ≡ true → r .acceptor ≡ true
+  unfolding act replying
+  reply-role m random a =
+      let x : List ℕ = replyMessage r m (random .0) in
+      let rest : List Row = row 19 (below (r .count) m) ∷ row 17 (someLeft (left (ownOf r) (r .common) m)) ∷ fits r d (length x) ∷ [] in
+      true-behind (stageRows r NEGO) (row 18 (r .acceptor)) rest (passed-by (stageRows r NEGO ++ (row 18 (r .acceptor) ∷ rest)) _ refl a)
+
+  choice-role : (m : ℕ) (s : Speech) → isAccepted (act e peer (choose m s) .answer) ≡ true → r .acceptor ≡ false
+  unfolding act choosing
+  choice-role m s a = not-true _ (and-l (not (r .acceptor)) (eqb (r .stage) 2) (choice-passed r d m s (passed-by (choiceTable r d m s) _ refl a) .may))
+
+  pub writes-call : (k : Call) → Marked (r .acceptor) marks k → (k ≡ read → ⊥) → isAccepted (act e peer k .answer) ≡ true → Writes k
   writes-call (offer random) m z a = writes-offer random a
-  writes-call (reply n random) m z a = subst (λ (j : ℕ). isAccepted (act e peer (reply j random) .answer) ≡ true → Writes (reply j random)) (sym m) (writes-reply random) a
+  writes-call (reply n random) m z a =
+      subst (λ (j : ℕ). isAccepted (act e peer (reply j random) .answer) ≡ true → Writes (reply j random)) (sym (m (reply-role n random a))) (writes-reply random) a
   writes-call (metadata id value) m z a = writes-metadata id value a
   writes-call (speak s) m z a = writes-speech s a
   writes-call read m z a = absurd (z refl)
-  writes-call (choose n s) m z a = subst (λ (j : ℕ). isAccepted (act e peer (choose j s) .answer) ≡ true → Writes (choose j s)) (sym m) (writes-choice s) a
+  writes-call (choose n s) m z a =
+      subst (λ (j : ℕ). isAccepted (act e peer (choose j s) .answer) ≡ true → Writes (choose j s)) (sym (m (choice-role n s a))) (writes-choice s) a
