@@ -19,7 +19,7 @@ use Rattle.conversation.specs.Runs.{isAccepted}
 use Rattle.conversation.proofs.Messages.{join-append}
 use Rattle.sides.specs.Merging.{Turn}
 use Rattle.sides.specs.Turning.{withMarks, begun, said, saidAll, spoke}
-use Rattle.sides.specs.Replay.{Case, Side, Sides, Played, sideOf, withSides, finished, outcomeOf, soPlayed, playFrom}
+use Rattle.sides.specs.Replay.{Case, Sides, Played, sideOf, withSides, finished, outcomeOf, soPlayed, playFrom}
 use Rattle.sides.proofs.Turns.{allOf, ofSide, Alternate}
 
 -- 1. the writer's record
@@ -53,30 +53,33 @@ put-end d used x h =
     let n : length (take used d ++ x) ≡ used + length x = length-append (take used d) x ∙ ap (λ (k : ℕ). k + length x) (length-take-le used d h) in
     take-at (take used d ++ x) (drop (used + length x) d) (used + length x) n
 
--- a side has read and written these messages
-pub record Level (s : Side) (ms : List (List ℕ)) : Type 0 where
-  pub used : s .record-of .used ≡ length (join ms)
-  pub sequence : s .record-of .sequence ≡ length ms
-  pub transcript : take (length (join ms)) (s .transcript) ≡ join ms
-  pub wide : 65535 ≤ length (s .transcript)
+-- a record has read and written these messages
+pub record Level (r : Record) (ms : List (List ℕ)) : Type 0 where
+  pub used : r .used ≡ length (join ms)
+  pub sequence : r .sequence ≡ length ms
 
--- and then these, with the record behind them
-pub level-on : (s : Side) (ms ns : List (List ℕ)) (r : Record) → Level s ms → r .used ≡ s .record-of .used + length (join ns) → r .sequence ≡ s .record-of .sequence + length ns
-    → s .record-of .used + length (join ns) ≤ 65535 → Level (record { record-of = r; transcript = put (s .transcript) (s .record-of .used) (join ns) }) (ms ++ ns)
-level-on s ms ns r l used sequence short =
+pub level-on : (r : Record) (ms ns : List (List ℕ)) (s : Record) → Level r ms → s .used ≡ r .used + length (join ns) → s .sequence ≡ r .sequence + length ns → Level s (ms ++ ns)
+level-on r ms ns s l used sequence =
     let j : length (join (ms ++ ns)) ≡ length (join ms) + length (join ns) = ap length (join-append ms ns) ∙ length-append (join ms) (join ns) in
-    let w = l .wide in
-    let u : s .record-of .used ≡ length (join ms) = l .used in
+    record { used = omega (arith, l .used); sequence = omega (arith, l .sequence, length-append ms ns) }
+
+-- and a transcript begins with them
+pub record Holds (d : List ℕ) (ms : List (List ℕ)) : Type 0 where
+  pub begins : take (length (join ms)) d ≡ join ms
+  pub wide : 65535 ≤ length d
+
+pub holds-on : (d : List ℕ) (used : ℕ) (ms ns : List (List ℕ)) → Holds d ms → used ≡ length (join ms) → used + length (join ns) ≤ 65535 → Holds (put d used (join ns)) (ms ++ ns)
+holds-on d used ms ns h u short =
+    let j : length (join (ms ++ ns)) ≡ length (join ms) + length (join ns) = ap length (join-append ms ns) ∙ length-append (join ms) (join ns) in
+    let w = h .wide in
     record {
-      used = omega arith;
-      sequence = omega (arith, l .sequence, length-append ms ns);
-      transcript =
-          ap (λ (k : ℕ). take k (put (s .transcript) (s .record-of .used) (join ns))) (let z : length (join (ms ++ ns)) ≡ s .record-of .used + length (join ns) = omega arith in z)
-          ∙ put-end (s .transcript) (s .record-of .used) (join ns) (omega arith)
-          ∙ ap (λ (k : ℕ). take k (s .transcript) ++ join ns) u
-          ∙ ap (λ (k : List ℕ). k ++ join ns) (l .transcript)
+      begins =
+          ap (λ (k : ℕ). take k (put d used (join ns))) (let z : length (join (ms ++ ns)) ≡ used + length (join ns) = omega arith in z)
+          ∙ put-end d used (join ns) (omega arith)
+          ∙ ap (λ (k : ℕ). take k d ++ join ns) u
+          ∙ ap (λ (k : List ℕ). k ++ join ns) (h .begins)
           ∙ sym (join-append ms ns);
-      wide = (let z = length-put (s .transcript) (s .record-of .used) (join ns) (omega arith) in omega arith);
+      wide = (let z = length-put d used (join ns) (omega arith) in omega arith);
     }
 
 -- 3. one more turn
@@ -151,10 +154,14 @@ pub not-not : (x : Bool) → not (not x) ≡ x
 not-not true = refl
 not-not false = refl
 
-pub side-writer : (x : Bool) (a b : Side) → sideOf x (withSides x a b) ≡ a
-side-writer true a b = refl
-side-writer false a b = refl
+pub side-writer : (x : Bool) (a b : Record) (d : List ℕ) → sideOf x (withSides x a b d) ≡ a
+side-writer true a b d = refl
+side-writer false a b d = refl
 
-pub side-reader : (x : Bool) (a b : Side) → sideOf (not x) (withSides x a b) ≡ b
-side-reader true a b = refl
-side-reader false a b = refl
+pub side-reader : (x : Bool) (a b : Record) (d : List ℕ) → sideOf (not x) (withSides x a b d) ≡ b
+side-reader true a b d = refl
+side-reader false a b d = refl
+
+pub side-transcript : (x : Bool) (a b : Record) (d : List ℕ) → withSides x a b d .transcript ≡ d
+side-transcript true a b d = refl
+side-transcript false a b d = refl

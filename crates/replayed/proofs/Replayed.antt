@@ -34,12 +34,12 @@ use Rattle.conversation.proofs.Inside.{limits-counts}
 use Rattle.conversation.proofs.Messages.{join-append}
 use Rattle.conversation.proofs.Logs.{Both, both-next, both-opened, every-run}
 use Rattle.sides.specs.Merging.{Turn, token, messagesOf, turnsOf, inRow}
-use Rattle.sides.specs.Replay.{Case, Side, Sides, Played, Ending, Whose, finished, initiator, acceptor, sideOf, marksOf, givenOk, fileEnding, before, choiceOf, playFrom, conversationIn, opened, endedBy, turnsIn, replayOf}
+use Rattle.sides.specs.Replay.{Case, Sides, Played, Ending, Whose, finished, initiator, acceptor, sideOf, marksOf, givenOk, fileEnding, before, choiceOf, playFrom, conversationIn, opened, endedBy, turnsIn, replayOf}
 use Rattle.sides.proofs.Cutting.{Pieces, messages-join, ends-join}
 use Rattle.sides.proofs.Turns.{allOf, ofSide, turns-of-sides, sides-in-row}
-use Rattle.replayed.specs.Claims.{AllRead, MarksAre, caseOf, SameEnd, SameEnds, ReplaysRun}
+use Rattle.replayed.specs.Claims.{AllRead, MarksAre, caseOf, SameTranscript, SameEnds, ReplaysRun}
 use Rattle.replayed.proofs.Writes.{Marked}
-use Rattle.replayed.proofs.Played.{Level, sidesAfter, AllHeard, played-all, AlternateTo, alternates}
+use Rattle.replayed.proofs.Played.{Level, Holds, sidesAfter, AllHeard, played-all, AlternateTo, alternates}
 use Rattle.replayed.proofs.Steps.{Talks, spokenBy, Parted, parted-swap, parted-on, parted-unread, fresh-reader, Good, good-unread, good-writes, good-parts, good-reads}
 
 -- 1. one call of a run
@@ -216,8 +216,9 @@ module _ (c : Case) (s₀ : Sides) (v : List ℕ) where
     alternate : AlternateTo false turns last
     pieces : (y : Bool) → Pieces (ofSide y turns)
     levels : (y : Bool) → Level (sideOf y (sidesAfter c s₀ turns)) (allOf turns)
-    i-record : w .i .record-of ≡ sidesAfter c s₀ turns .i .record-of
-    a-record : w .a .record-of ≡ sidesAfter c s₀ turns .a .record-of
+    holds : Holds (sidesAfter c s₀ turns .transcript) (allOf turns)
+    i-record : w .i .record-of ≡ sidesAfter c s₀ turns .i
+    a-record : w .a .record-of ≡ sidesAfter c s₀ turns .a
     i-file : wi ≡ ofSide false turns
     a-file : wa ≡ ofSide true turns
     i-log : l .i ≡ allOf turns
@@ -240,9 +241,9 @@ module _ (c : Case) (s₀ : Sides) (v : List ℕ) where
       go [] h = tt
       go (t ∷ ts) h = h
 
-    good-record : e .record-of ≡ sideOf x (sidesAfter c s₀ (g .turns)) .record-of
+    good-record : e .record-of ≡ sideOf x (sidesAfter c s₀ (g .turns))
     good-record = go (g .own) none-left (g .writer) where
-      go : (own : List (List ℕ)) → own ≡ [] → e .record-of ≡ spokenBy (marksOf x c) (sideOf x (sidesAfter c s₀ (g .turns)) .record-of) own → e .record-of ≡ sideOf x (sidesAfter c s₀ (g .turns)) .record-of
+      go : (own : List (List ℕ)) → own ≡ [] → e .record-of ≡ spokenBy (marksOf x c) (sideOf x (sidesAfter c s₀ (g .turns))) own → e .record-of ≡ sideOf x (sidesAfter c s₀ (g .turns))
       go [] i h = h
       go (m ∷ ms) i h = absurd (omega (arith, ap length i))
 
@@ -254,6 +255,7 @@ module _ (c : Case) (s₀ : Sides) (v : List ℕ) where
     alternate = g .alternate;
     pieces = g .pieces;
     levels = g .levels;
+    holds = g .holds;
     i-record = good-record false (w .i) (w .a) (l .i) (l .a) wi wa ri ra g p;
     a-record = g .reader;
     i-file = g .wrote-e ∙ no-own false (w .i) (w .a) (l .i) (l .a) wi wa ri ra g p (ofSide false (g .turns));
@@ -269,6 +271,7 @@ module _ (c : Case) (s₀ : Sides) (v : List ℕ) where
     alternate = g .alternate;
     pieces = g .pieces;
     levels = g .levels;
+    holds = g .holds;
     i-record = g .reader;
     a-record = good-record true (w .a) (w .i) (l .a) (l .i) wa wi ra ri g q;
     i-file = g .wrote-f;
@@ -316,16 +319,13 @@ shorter x (t ∷ ts) = go x (t .acceptor) refl (shorter x ts) where
   go false true e ih = rw e (omega (arith, whole))
   go false false e ih = rw e (omega (arith, whole, part false))
 
-module _ (o : Opening) (cs : List (Bool × Call)) (mi ma : ℕ) (all : AllRead o cs) (marks : MarksAre o cs mi ma) (di da : List ℕ) (wide-i : 65535 ≤ length di) (wide-a : 65535 ≤ length da) where
+module _ (o : Opening) (cs : List (Bool × Call)) (mi ma : ℕ) (all : AllRead o cs) (marks : MarksAre o cs mi ma) (d : List ℕ) (wide : 65535 ≤ length d) where
   abbrev c : Case
   c = caseOf o cs mi ma
 
   -- the sides before the first turn, with the run's conversation
   abbrev s₀ : Sides
-  s₀ = record {
-    i = record { record-of = fresh false (joinIds (o .initiator)) (o .conversation .0); transcript = di };
-    a = record { record-of = fresh true (joinIds (o .acceptor)) zeroId; transcript = da };
-  }
+  s₀ = record { i = fresh false (joinIds (o .initiator)) (o .conversation .0); a = fresh true (joinIds (o .acceptor)) zeroId; transcript = d }
 
   start : Inv c s₀ (o .conversation .0) (world o) (record { i = []; a = [] }) [] [] [] []
   start = inl (record {
@@ -335,6 +335,7 @@ module _ (o : Opening) (cs : List (Bool × Call)) (mi ma : ℕ) (all : AllRead o
     alternate = refl;
     pieces = none;
     levels = level;
+    holds = record { begins = refl; wide = wide };
     writer = refl;
     reader = refl;
     role-e = refl;
@@ -357,8 +358,8 @@ module _ (o : Opening) (cs : List (Bool × Call)) (mi ma : ℕ) (all : AllRead o
     none false = tt
 
     level : (y : Bool) → Level (sideOf y s₀) []
-    level true = record { used = refl; sequence = refl; transcript = refl; wide = wide-a }
-    level false = record { used = refl; sequence = refl; transcript = refl; wide = wide-i }
+    level true = record { used = refl; sequence = refl }
+    level false = record { used = refl; sequence = refl }
 
   its-marks : (y : Bool) (k : Call) (a : Answer) → List·Memᴰ (record { acceptor = y; call = k; said = a }) (run (world o) cs) → isAccepted a ≡ true → Marked y (marksOf y c) k
   its-marks y (offer random) a m h = tt
@@ -423,58 +424,50 @@ module _ (o : Opening) (cs : List (Bool × Call)) (mi ma : ℕ) (all : AllRead o
       ∙ turns-of-sides false ts (alternates false (done .last) ts (done .alternate)) ordered
 
   -- the sides that the replay opens are those of before, but for a conversation that no message has
-  opened-is : (us : List Turn) → opened c us di da ≡ record {
-    i = record { record-of = fresh false (joinIds (o .initiator)) (conversationIn us); transcript = di };
-    a = record { record-of = fresh true (joinIds (o .acceptor)) zeroId; transcript = da };
-  }
+  opened-is : (us : List Turn) → opened c us d ≡ record { i = fresh false (joinIds (o .initiator)) (conversationIn us); a = fresh true (joinIds (o .acceptor)) zeroId; transcript = d }
   opened-is us =
       let i = opening-fresh false (o .initiator) (conversationIn us) (o .initiator-whole) (o .initiator-ok) in
       let a = opening-fresh true (o .acceptor) zeroId (o .acceptor-whole) (o .acceptor-ok) in
       rw (i, a)
 
-  replay-is : replayOf c di da ≡ playFrom c (opened c ts di da) ts
+  replay-is : replayOf c d ≡ playFrom c (opened c ts d) ts
   unfolding replayOf
   replay-is = rw (nothing-before, turns-are)
 
-  same-end : (s : Side) (e : End) (log : List (List ℕ)) → Level s (allOf ts) → Counted (e .record-of) (e .transcript) log → log ≡ allOf ts → SameEnd s e
-  same-end s e log l k is =
-      let used : s .record-of .used ≡ e .record-of .used = l .used ∙ ap (λ (m : List (List ℕ)). length (join m)) (sym is) ∙ sym (k .used) in
-      record {
-        used = used;
-        transcript = ap (λ (n : ℕ). take n (s .transcript)) (l .used) ∙ l .transcript ∙ ap join (sym is) ∙ sym (k .transcript);
-      }
+  same-transcript : (r : Record) (t : List ℕ) (e : End) (log : List (List ℕ)) → Level r (allOf ts) → Holds t (allOf ts) → Counted (e .record-of) (e .transcript) log → log ≡ allOf ts → SameTranscript r t e
+  same-transcript r t e log l h k is = ap (λ (n : ℕ). take n t) (l .used) ∙ h .begins ∙ ap join (sym is) ∙ sym (k .transcript)
 
-  same-ends : (p : Played) → p .ending ≡ finished → choiceOf (p .sides .i .record-of) ≡ choiceOf (ends (world o) cs .i .record-of) → Level (p .sides .i) (allOf ts) → Level (p .sides .a) (allOf ts) → SameEnds o cs p
-  same-ends p e ch i a = record {
+  same-ends : (p : Played) → p .ending ≡ finished → choiceOf (p .sides .i) ≡ choiceOf (ends (world o) cs .i .record-of) → Level (p .sides .i) (allOf ts) → Level (p .sides .a) (allOf ts) → Holds (p .sides .transcript) (allOf ts) → SameEnds o cs p
+  same-ends p e ch i a h = record {
     unrefused = e;
     choice = ch;
-    initiator = same-end (p .sides .i) (ends (world o) cs .i) (logsOf o cs .i) i counted-i (done .i-log);
-    acceptor = same-end (p .sides .a) (ends (world o) cs .a) (logsOf o cs .a) a counted-a (done .a-log);
+    initiator = same-transcript (p .sides .i) (p .sides .transcript) (ends (world o) cs .i) (logsOf o cs .i) i h counted-i (done .i-log);
+    acceptor = same-transcript (p .sides .a) (p .sides .transcript) (ends (world o) cs .a) (logsOf o cs .a) a h counted-a (done .a-log);
   }
 
   -- with a message, and without any
-  ended : (us : List Turn) → ts ≡ us → TalksOf c s₀ (o .conversation .0) us → SameEnds o cs (playFrom c (opened c us di da) us)
+  ended : (us : List Turn) → ts ≡ us → TalksOf c s₀ (o .conversation .0) us → SameEnds o cs (playFrom c (opened c us d) us)
   unfolding headOf playFrom choiceOf
   ended (t ∷ us) is talk =
-      let at-start : opened c (t ∷ us) di da ≡ s₀ = opened-is (t ∷ us) ∙ ap (λ (v : List ℕ). record { i = record { record-of = fresh false (joinIds (o .initiator)) v; transcript = di }; a = s₀ .a }) talk in
+      let at-start : opened c (t ∷ us) d ≡ s₀ = opened-is (t ∷ us) ∙ ap (λ (v : List ℕ). record { i = fresh false (joinIds (o .initiator)) v; a = s₀ .a; transcript = d }) talk in
       let k = played-all c s₀ (t ∷ us) (subst (AllHeard c s₀) is (done .heard)) in
-      let sides : playFrom c (opened c (t ∷ us) di da) (t ∷ us) .sides ≡ sidesAfter c s₀ ts = ap (λ (s : Sides). playFrom c s (t ∷ us) .sides) at-start ∙ k .1 ∙ ap (sidesAfter c s₀) (sym is) in
-      same-ends (playFrom c (opened c (t ∷ us) di da) (t ∷ us))
+      let sides : playFrom c (opened c (t ∷ us) d) (t ∷ us) .sides ≡ sidesAfter c s₀ ts = ap (λ (s : Sides). playFrom c s (t ∷ us) .sides) at-start ∙ k .1 ∙ ap (sidesAfter c s₀) (sym is) in
+      same-ends (playFrom c (opened c (t ∷ us) d) (t ∷ us))
       (ap (λ (s : Sides). playFrom c s (t ∷ us) .ending) at-start ∙ k .0)
-      (ap (λ (s : Sides). choiceOf (s .i .record-of)) sides ∙ ap choiceOf (sym (done .i-record)))
+      (ap (λ (s : Sides). choiceOf (s .i)) sides ∙ ap choiceOf (sym (done .i-record)))
       (subst (λ (s : Sides). Level (s .i) (allOf ts)) (sym sides) (done .levels false))
       (subst (λ (s : Sides). Level (s .a) (allOf ts)) (sym sides) (done .levels true))
+      (subst (λ (s : Sides). Holds (s .transcript) (allOf ts)) (sym sides) (done .holds))
   ended [] is talk =
       let at-start = opened-is [] in
-      let run-i : ends (world o) cs .i .record-of ≡ s₀ .i .record-of = done .i-record ∙ ap (λ (us : List Turn). sidesAfter c s₀ us .i .record-of) is in
-      let none : (s : Side) → s .record-of .used ≡ 0 → s .record-of .sequence ≡ 0 → 65535 ≤ length (s .transcript) → Level s (allOf ts) =
-      λ s u q w. subst (λ (us : List Turn). Level s (allOf us)) (sym is) (record { used = u; sequence = q; transcript = refl; wide = w }) in
-      same-ends (playFrom c (opened c [] di da) []) refl
-      (ap (λ (s : Sides). choiceOf (s .i .record-of)) at-start ∙ ap choiceOf (sym run-i))
-      (none (opened c [] di da .i) (ap (λ (s : Sides). s .i .record-of .used) at-start) (ap (λ (s : Sides). s .i .record-of .sequence) at-start) wide-i)
-      (none (opened c [] di da .a) (ap (λ (s : Sides). s .a .record-of .used) at-start) (ap (λ (s : Sides). s .a .record-of .sequence) at-start) wide-a)
+      let run-i : ends (world o) cs .i .record-of ≡ s₀ .i = done .i-record ∙ ap (λ (us : List Turn). sidesAfter c s₀ us .i) is in
+      let none : (r : Record) → r .used ≡ 0 → r .sequence ≡ 0 → Level r (allOf ts) = λ r u q. subst (λ (us : List Turn). Level r (allOf us)) (sym is) (record { used = u; sequence = q }) in
+      same-ends (playFrom c (opened c [] d) []) refl
+      (ap (λ (s : Sides). choiceOf (s .i)) at-start ∙ ap choiceOf (sym run-i))
+      (none (opened c [] d .i) (ap (λ (s : Sides). s .i .used) at-start) (ap (λ (s : Sides). s .i .sequence) at-start))
+      (none (opened c [] d .a) (ap (λ (s : Sides). s .a .used) at-start) (ap (λ (s : Sides). s .a .sequence) at-start))
+      (subst (λ (us : List Turn). Holds d (allOf us)) (sym is) (record { begins = refl; wide = wide }))
 
 pub replays-run : ReplaysRun
-replays-run o cs mi ma all marks di da wi wa =
-    subst (SameEnds o cs) (sym (replay-is o cs mi ma all marks di da wi wa))
-    (ended o cs mi ma all marks di da wi wa (ts o cs mi ma all marks di da wi wa) refl (done o cs mi ma all marks di da wi wa .talks))
+replays-run o cs mi ma all marks d wide =
+    subst (SameEnds o cs) (sym (replay-is o cs mi ma all marks d wide)) (ended o cs mi ma all marks d wide (ts o cs mi ma all marks d wide) refl (done o cs mi ma all marks d wide .talks))

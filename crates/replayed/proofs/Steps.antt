@@ -23,13 +23,13 @@ use Rattle.conversation.proofs.Messages.{join-one}
 use Rattle.conversation.proofs.Logs.{Sound}
 use Rattle.sides.specs.Merging.{Turn, token}
 use Rattle.sides.specs.Turning.{begun, owed, heardTurn, said, saidAll, spoke}
-use Rattle.sides.specs.Replay.{Case, Side, Sides, sideOf, other, withSides, marksOf, outcomeOf, soPlayed}
+use Rattle.sides.specs.Replay.{Case, Sides, sideOf, withSides, marksOf, outcomeOf, soPlayed}
 use Rattle.sides.proofs.Cutting.{Pieces, pieces-append}
 use Rattle.sides.proofs.Turns.{allOf, ofSide}
 use Rattle.replayed.proofs.Messages.{Headed}
 use Rattle.replayed.proofs.Writes.{Marked, marksIn, marked-in, Writes, writes-call}
 use Rattle.replayed.proofs.Heard.{Heard, heard-by, heard-again, Exact, AllExact, exact-append, Gone, gone-through, first-number}
-use Rattle.replayed.proofs.Played.{said-snoc, spoke-counts, Level, level-on, sidesAfter, AllHeard, after-snoc, heard-snoc, AlternateTo, alternate-snoc, all-snoc, side-here, side-there, not-not, side-writer, side-reader}
+use Rattle.replayed.proofs.Played.{said-snoc, spoke-counts, Level, level-on, Holds, holds-on, sidesAfter, AllHeard, after-snoc, heard-snoc, AlternateTo, alternate-snoc, all-snoc, side-here, side-there, not-not, side-writer, side-reader, side-transcript}
 
 -- 1. ends that have parted
 
@@ -151,15 +151,16 @@ module _ (c : Case) (s₀ : Sides) (v : List ℕ) where
     pub alternate : AlternateTo false turns x
     pub pieces : (y : Bool) → Pieces (ofSide y turns)
     pub levels : (y : Bool) → Level (sideOf y (sidesAfter c s₀ turns)) (allOf turns)
-    pub writer : e .record-of ≡ spokenBy (marksOf x c) (sideOf x (sidesAfter c s₀ turns) .record-of) own
-    pub reader : f .record-of ≡ sideOf (not x) (sidesAfter c s₀ turns) .record-of
+    pub holds : Holds (sidesAfter c s₀ turns .transcript) (allOf turns)
+    pub writer : e .record-of ≡ spokenBy (marksOf x c) (sideOf x (sidesAfter c s₀ turns)) own
+    pub reader : f .record-of ≡ sideOf (not x) (sidesAfter c s₀ turns)
     pub role-e : e .record-of .acceptor ≡ x
     pub role-f : f .record-of .acceptor ≡ not x
     pub talks : Talks v (e .record-of) turns own
     pub turn : e .turn ≡ join own
     pub exact : AllExact own
     pub begins : Begins (length (allOf turns)) own
-    pub underway : Underway (marksOf x c) (sideOf x (sidesAfter c s₀ turns) .record-of) (e .record-of) own
+    pub underway : Underway (marksOf x c) (sideOf x (sidesAfter c s₀ turns)) (e .record-of) own
     pub stale : Stale e f
     pub log-e : le ≡ allOf turns ++ own
     pub log-f : lf ≡ allOf turns
@@ -187,9 +188,9 @@ module _ (c : Case) (s₀ : Sides) (v : List ℕ) where
 
     sequence-e : e .record-of .sequence ≡ length (allOf (g .turns)) + length (g .own)
     sequence-e = ap (λ (r : Record). r .sequence) (g .writer) ∙ go (g .own) where
-      go : (own : List (List ℕ)) → spokenBy marks (sideOf x s .record-of) own .sequence ≡ length (allOf (g .turns)) + length own
+      go : (own : List (List ℕ)) → spokenBy marks (sideOf x s) own .sequence ≡ length (allOf (g .turns)) + length own
       go [] = let z = g .levels x .sequence in omega arith
-      go (m ∷ ms) = let z = g .levels x .sequence in let y = spoke-counts marks (sideOf x s .record-of) (m ∷ ms) .1 in omega arith
+      go (m ∷ ms) = let z = g .levels x .sequence in let y = spoke-counts marks (sideOf x s) (m ∷ ms) .1 in omega arith
 
     -- 3. the writer writes
 
@@ -207,6 +208,7 @@ module _ (c : Case) (s₀ : Sides) (v : List ℕ) where
           alternate = g .alternate;
           pieces = g .pieces;
           levels = g .levels;
+          holds = g .holds;
           writer = w .next ∙ then-said w (g .own) (g .writer) (g .underway);
           reader = g .reader;
           role-e = ap (λ (r : Record). r .acceptor) (w .next) ∙ w .role ∙ g .role-e;
@@ -227,14 +229,14 @@ module _ (c : Case) (s₀ : Sides) (v : List ℕ) where
           grown : (l a own : List (List ℕ)) (m : List ℕ) (b : List (List ℕ)) → l ≡ a ++ own → b ≡ m ∷ [] → l ++ b ≡ a ++ (own ++ (m ∷ []))
           grown l a own m b i j = ap (λ (k : List (List ℕ)). k ++ b) i ∙ ap (λ (k : List (List ℕ)). (a ++ own) ++ k) j ∙ append-assoc a own (m ∷ [])
 
-          then-said : (w : Writes e (f .turn) le ok marks k) (own : List (List ℕ)) → e .record-of ≡ spokenBy marks (sideOf x s .record-of) own → Underway marks (sideOf x s .record-of) (e .record-of) own
-              → said (w .base) (w .message) ≡ spokenBy marks (sideOf x s .record-of) (own ++ (w .message ∷ []))
+          then-said : (w : Writes e (f .turn) le ok marks k) (own : List (List ℕ)) → e .record-of ≡ spokenBy marks (sideOf x s) own → Underway marks (sideOf x s) (e .record-of) own
+              → said (w .base) (w .message) ≡ spokenBy marks (sideOf x s) (own ++ (w .message ∷ []))
           then-said w [] is u =
               let b = w .begins (ap (λ (r : Record). r .position) is ∙ u) .0 in
               ap (λ (r : Record). said r (w .message)) (b ∙ ap (begun marks) is) ∙ (unfold saidAll in refl)
           then-said w (h ∷ hs) is u =
               let b = w .goes-on (u .0) (u .1 .0) in
-              ap (λ (r : Record). said r (w .message)) (b ∙ is) ∙ sym (said-snoc (begun marks (sideOf x s .record-of)) (h ∷ hs) (w .message))
+              ap (λ (r : Record). said r (w .message)) (b ∙ is) ∙ sym (said-snoc (begun marks (sideOf x s)) (h ∷ hs) (w .message))
 
           then-talks : (w : Writes e (f .turn) le ok marks k) (ts : List Turn) (own : List (List ℕ)) → Talks v (e .record-of) ts own → Talks v (moved e k (act e (f .turn) k) .record-of) ts (own ++ (w .message ∷ []))
           then-talks w [] [] h = (ap (λ (r : Record). r .conversation) (w .next) ∙ w .talk ∙ h, λ rest. w .head .talk rest ∙ h)
@@ -245,8 +247,8 @@ module _ (c : Case) (s₀ : Sides) (v : List ℕ) where
           then-begins w [] is b = λ rest. w .head .number rest ∙ sequence-e ∙ (let z : length (g .own) ≡ 0 = ap length is in omega arith)
           then-begins w (h ∷ hs) is b = b
 
-          then-underway : (w : Writes e (f .turn) le ok marks k) (own : List (List ℕ)) → e .record-of ≡ spokenBy marks (sideOf x s .record-of) own → Underway marks (sideOf x s .record-of) (e .record-of) own
-              → Underway marks (sideOf x s .record-of) (moved e k (act e (f .turn) k) .record-of) (own ++ (w .message ∷ []))
+          then-underway : (w : Writes e (f .turn) le ok marks k) (own : List (List ℕ)) → e .record-of ≡ spokenBy marks (sideOf x s) own → Underway marks (sideOf x s) (e .record-of) own
+              → Underway marks (sideOf x s) (moved e k (act e (f .turn) k) .record-of) (own ++ (w .message ∷ []))
           then-underway w [] is u =
               let b = w .begins (ap (λ (r : Record). r .position) is ∙ u) .1 in (
                 subst (λ (r : Record). 1 ≤ r .position) (sym (w .next)) (w .position),
@@ -291,11 +293,11 @@ module _ (c : Case) (s₀ : Sides) (v : List ℕ) where
 
     -- 5. the reader reads
 
-    own-owed : (own : List (List ℕ)) → 0 < length own → Underway marks (sideOf x s .record-of) (e .record-of) own → owed marks (sideOf x s .record-of) (join own) ≡ true
+    own-owed : (own : List (List ℕ)) → 0 < length own → Underway marks (sideOf x s) (e .record-of) own → owed marks (sideOf x s) (join own) ≡ true
     own-owed [] some u = absurd (omega arith)
     own-owed (m ∷ ms) some u = u .1 .1 (join ms)
 
-    spoken-some : (own : List (List ℕ)) → 0 < length own → spokenBy marks (sideOf x s .record-of) own ≡ spoke marks (sideOf x s .record-of) own
+    spoken-some : (own : List (List ℕ)) → 0 < length own → spokenBy marks (sideOf x s) own ≡ spoke marks (sideOf x s) own
     spoken-some [] some = absurd (omega arith)
     spoken-some (m ∷ ms) some = refl
 
@@ -303,12 +305,12 @@ module _ (c : Case) (s₀ : Sides) (v : List ℕ) where
     own-long [] some a = absurd (omega arith)
     own-long (m ∷ ms) some a = let z = a .0 .long in omega (arith, length-append m (join ms))
 
-    module _ (next : Record) (h : Heard (sideOf (not x) s .record-of) (join (g .own)) next) where
+    module _ (next : Record) (h : Heard (sideOf (not x) s) (join (g .own)) next) where
       abbrev r : Record
-      r = sideOf (not x) s .record-of
+      r = sideOf (not x) s
 
       abbrev d : List ℕ
-      d = sideOf (not x) s .transcript
+      d = s .transcript
 
       abbrev t : Turn
       t = record { acceptor = x; messages = g .own }
@@ -319,7 +321,7 @@ module _ (c : Case) (s₀ : Sides) (v : List ℕ) where
       out : outcomeOf c s t ≡ accepted r d (join (g .own)) (h .n) (h .scan)
       out =
           ap (λ (b : Bool). heardTurn b r d (join (g .own))) (own-owed (g .own) (through .some) (g .underway))
-          ∙ heard-again r (join (g .own)) next h d (g .levels (not x) .wide)
+          ∙ heard-again r (join (g .own)) next h d (g .holds .wide)
 
       abbrev s′ : Sides
       s′ = sidesAfter c s₀ (g .turns ++ (t ∷ []))
@@ -327,34 +329,40 @@ module _ (c : Case) (s₀ : Sides) (v : List ℕ) where
       after : s′ ≡ soPlayed c s t
       after = after-snoc c s₀ (g .turns) t
 
-      writer-side : sideOf x s′ ≡ record { record-of = spoke marks (sideOf x s .record-of) (g .own); transcript = put (sideOf x s .transcript) (sideOf x s .record-of .used) (join (g .own)) }
-      writer-side = ap (sideOf x) after ∙ side-writer x _ _
+      writer-side : sideOf x s′ ≡ spoke marks (sideOf x s) (g .own)
+      writer-side = ap (sideOf x) after ∙ side-writer x _ _ _
 
-      reader-side : sideOf (not x) s′ ≡ record { record-of = taken r (join (g .own)) (h .n) (h .scan); transcript = put d (r .used) (join (g .own)) }
-      reader-side = ap (sideOf (not x)) after ∙ side-reader x _ _ ∙ ap (λ (o : Outcome). record { record-of = o .answer .next; transcript = o .transcript }) out
+      reader-side : sideOf (not x) s′ ≡ taken r (join (g .own)) (h .n) (h .scan)
+      reader-side = ap (sideOf (not x)) after ∙ side-reader x _ _ _ ∙ ap (λ (o : Outcome). o .answer .next) out
 
-      short : sideOf x s .record-of .used + length (join (g .own)) ≤ 65535
-      short = omega (arith, h .short, g .levels x .used, g .levels (not x) .used)
+      transcript-is : s′ .transcript ≡ put d (r .used) (join (g .own))
+      transcript-is = ap (λ (y : Sides). y .transcript) after ∙ side-transcript x _ _ _ ∙ ap (λ (o : Outcome). o .transcript) out
 
       all-then : allOf (g .turns ++ (t ∷ [])) ≡ allOf (g .turns) ++ g .own
       all-then = all-snoc (g .turns) t
 
       writer-level : Level (sideOf x s′) (allOf (g .turns ++ (t ∷ [])))
       writer-level =
-          let n = spoke-counts marks (sideOf x s .record-of) (g .own) in
+          let n = spoke-counts marks (sideOf x s) (g .own) in
           subst (λ (l : List (List ℕ)). Level (sideOf x s′) l) (sym all-then)
-          (subst (λ (y : Side). Level y (allOf (g .turns) ++ g .own)) (sym writer-side)
-          (level-on (sideOf x s) (allOf (g .turns)) (g .own) (spoke marks (sideOf x s .record-of) (g .own)) (g .levels x) (n .0) (n .1) short))
+          (subst (λ (y : Record). Level y (allOf (g .turns) ++ g .own)) (sym writer-side)
+          (level-on (sideOf x s) (allOf (g .turns)) (g .own) (spoke marks (sideOf x s) (g .own)) (g .levels x) (n .0) (n .1)))
 
       reader-level : Level (sideOf (not x) s′) (allOf (g .turns ++ (t ∷ [])))
       reader-level =
           subst (λ (l : List (List ℕ)). Level (sideOf (not x) s′) l) (sym all-then)
-          (subst (λ (y : Side). Level y (allOf (g .turns) ++ g .own)) (sym reader-side)
-          (level-on (sideOf (not x) s) (allOf (g .turns)) (g .own) (taken r (join (g .own)) (h .n) (h .scan)) (g .levels (not x)) refl (ap (λ (k : ℕ). r .sequence + k) (through .count)) (h .short)))
+          (subst (λ (y : Record). Level y (allOf (g .turns) ++ g .own)) (sym reader-side)
+          (level-on r (allOf (g .turns)) (g .own) (taken r (join (g .own)) (h .n) (h .scan)) (g .levels (not x)) refl (ap (λ (k : ℕ). r .sequence + k) (through .count))))
+
+      then-holds : Holds (s′ .transcript) (allOf (g .turns ++ (t ∷ [])))
+      then-holds =
+          subst (λ (l : List (List ℕ)). Holds (s′ .transcript) l) (sym all-then)
+          (subst (λ (y : List ℕ). Holds y (allOf (g .turns) ++ g .own)) (sym transcript-is)
+          (holds-on d (r .used) (allOf (g .turns)) (g .own) (g .holds) (g .levels (not x) .used) (h .short)))
 
       pub flipped : (f′ : End) → f′ .record-of ≡ next → f′ .turn ≡ [] → (more : List (List ℕ)) → more ≡ g .own → Good (not x) f′ e (lf ++ more) le wf we (rf ++ more) re
       flipped f′ rec none more is =
-          let then : f′ .record-of ≡ sideOf (not x) s′ .record-of = rec ∙ h .next ∙ sym (ap (λ (y : Side). y .record-of) reader-side) in
+          let then : f′ .record-of ≡ sideOf (not x) s′ = rec ∙ h .next ∙ sym reader-side in
           let here : ofSide x (g .turns ++ (t ∷ [])) ≡ ofSide x (g .turns) ++ g .own = side-here x (g .turns) (g .own) in
           let there : ofSide (not x) (g .turns ++ (t ∷ [])) ≡ ofSide (not x) (g .turns) = side-there x (g .turns) (g .own) in
           let back : ofSide (not (not x)) (g .turns ++ (t ∷ [])) ≡ ofSide x (g .turns) ++ g .own = ap (λ (y : Bool). ofSide y (g .turns ++ (t ∷ []))) (not-not x) ∙ here in
@@ -365,15 +373,16 @@ module _ (c : Case) (s₀ : Sides) (v : List ℕ) where
             alternate = alternate-snoc false x (g .turns) (g .own) (g .alternate) (through .some);
             pieces = either x (λ y. Pieces (ofSide y (g .turns ++ (t ∷ [])))) (subst Pieces (sym here) (pieces-append (ofSide x (g .turns)) (g .own) (g .pieces x) (through .pieces))) (subst Pieces (sym there) (g .pieces (not x)));
             levels = either x (λ y. Level (sideOf y s′) (allOf (g .turns ++ (t ∷ [])))) writer-level reader-level;
+            holds = then-holds;
             writer = then;
-            reader = g .writer ∙ spoken-some (g .own) (through .some) ∙ sym (ap (λ (y : Side). y .record-of) writer-side) ∙ ap (λ (y : Bool). sideOf y s′ .record-of) (sym (not-not x));
+            reader = g .writer ∙ spoken-some (g .own) (through .some) ∙ sym writer-side ∙ ap (λ (y : Bool). sideOf y s′) (sym (not-not x));
             role-e = ap (λ (y : Record). y .acceptor) (rec ∙ h .next) ∙ sym (ap (λ (y : Record). y .acceptor) (g .reader)) ∙ g .role-f;
             role-f = g .role-e ∙ sym (not-not x);
             talks = then-talks (g .turns) (g .own) (through .some) (f′ .record-of) (g .talks);
             turn = none;
             exact = tt;
             begins = tt;
-            underway = ap (λ (y : Side). y .record-of .position) reader-side;
+            underway = ap (λ (y : Record). y .position) reader-side;
             stale = had-turn (begun-before (omega (arith, ap length (g .turn), own-long (g .own) (through .some) (g .exact))) (first-below f′ (rec ∙ h .next)));
             log-e = ap (λ (l : List (List ℕ)). l ++ more) (g .log-f) ∙ ap (λ (l : List (List ℕ)). allOf (g .turns) ++ l) is ∙ sym all-then ∙ sym (append-nil (allOf (g .turns ++ (t ∷ []))));
             log-f = g .log-e ∙ sym all-then;
@@ -405,7 +414,7 @@ module _ (c : Case) (s₀ : Sides) (v : List ℕ) where
     good-reads a =
         let raw = heard-by (f .record-of) (f .transcript) (e .turn) a in
         let then : Record = readingToken (f .record-of) (f .transcript) (e .turn) .answer .next in
-        let h : Heard (sideOf (not x) s .record-of) (join (g .own)) then = subst (λ (l : List ℕ). Heard (sideOf (not x) s .record-of) l then) (g .turn) (subst (λ (y : Record). Heard y (e .turn) then) (g .reader) raw) in
+        let h : Heard (sideOf (not x) s) (join (g .own)) then = subst (λ (l : List ℕ). Heard (sideOf (not x) s) l then) (g .turn) (subst (λ (y : Record). Heard y (e .turn) then) (g .reader) raw) in
         let same : messagesIn (chainFor (f .record-of) (e .turn)) ≡ g .own =
-        ap (λ (y : Record). messagesIn (chainFor y (e .turn))) (g .reader) ∙ ap (λ (l : List ℕ). messagesIn (chainFor (sideOf (not x) s .record-of) l)) (g .turn) ∙ through then h .same in
+        ap (λ (y : Record). messagesIn (chainFor y (e .turn))) (g .reader) ∙ ap (λ (l : List ℕ). messagesIn (chainFor (sideOf (not x) s) l)) (g .turn) ∙ through then h .same in
         flipped then h (moved f read (readingToken (f .record-of) (f .transcript) (e .turn))) refl (rw a) (messagesIn (chainFor (f .record-of) (e .turn))) same

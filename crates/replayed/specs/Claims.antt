@@ -5,7 +5,7 @@
 --   AllRead o cs       in the run every message that is written is read
 --   MarksAre           every accepted call with marks of an end had these
 --   caseOf             the case of a run: its lists, marks, and a file of what each end wrote
---   SameEnd s e        a side ends a replay as an end ends a run: with the same octets read and written
+--   SameTranscript     a record and a transcript have what an end of a run has read and written
 --   SameEnds           a replay ends without refusal, with the choice of a run, and both sides as its ends
 --   ReplaysRun         a run whose messages are all read is replayed without refusal, to the same choice and the same transcripts
 use Prim.Native.Nat.{ℕ, _≤_}
@@ -19,7 +19,8 @@ use Rattle.schemes.specs.Lists.{joinIds}
 use Rattle.schemes.specs.Sets.{below}
 use Rattle.conversation.specs.Runs.{Call, End, Opening, world, ends, Replied, ChoseWith}
 use Rattle.conversation.specs.Claims.{writtenIn, readIn}
-use Rattle.sides.specs.Replay.{Case, Side, Played, finished, choiceOf, replayOf}
+use Rattle.conversation.specs.declared.Record.{Record}
+use Rattle.sides.specs.Replay.{Case, Played, finished, choiceOf, replayOf}
 
 -- "every message read": what an end writes is what the other reads, in order
 pub record AllRead (o : Opening) (cs : List (Bool × Call)) : Type 0 where
@@ -40,20 +41,19 @@ caseOf o cs mi ma = record {
   a = record { list = joinIds (o .acceptor); marks = ma; file = some (join (writtenIn true (world o) cs)) };
 }
 
-pub record SameEnd (s : Side) (e : End) : Type 0 where
-  pub used : s .record-of .used ≡ e .record-of .used
-  pub transcript : take (s .record-of .used) (s .transcript) ≡ take (e .record-of .used) (e .transcript)
+-- "the same transcript": what the end has read and written
+abbrev pub SameTranscript : Record → List ℕ → End → Type 0
+SameTranscript r d e = take (r .used) d ≡ take (e .record-of .used) (e .transcript)
 
 -- "the replay ends with the same choice and the same transcript"
 pub record SameEnds (o : Opening) (cs : List (Bool × Call)) (p : Played) : Type 0 where
   pub unrefused : p .ending ≡ finished
-  pub choice : choiceOf (p .sides .i .record-of) ≡ choiceOf (ends (world o) cs .i .record-of)
-  pub initiator : SameEnd (p .sides .i) (ends (world o) cs .i)
-  pub acceptor : SameEnd (p .sides .a) (ends (world o) cs .a)
+  pub choice : choiceOf (p .sides .i) ≡ choiceOf (ends (world o) cs .i .record-of)
+  pub initiator : SameTranscript (p .sides .i) (p .sides .transcript) (ends (world o) cs .i)
+  pub acceptor : SameTranscript (p .sides .a) (p .sides .transcript) (ends (world o) cs .a)
 
--- "If both files come from our two ends with the same lists and marks, every message read", the replay's transcripts having all the room there is
+-- "If both files come from our two ends with the same lists and marks, every message read", the replay's transcript having all the room there is
 abbrev pub ReplaysRun : Type 0
 ReplaysRun =
-    (o : Opening) (cs : List (Bool × Call)) (mi ma : ℕ) → AllRead o cs → MarksAre o cs mi ma
-    → (di da : List ℕ) → 65535 ≤ length di → 65535 ≤ length da
-    → SameEnds o cs (replayOf (caseOf o cs mi ma) di da)
+    (o : Opening) (cs : List (Bool × Call)) (mi ma : ℕ) → AllRead o cs → MarksAre o cs mi ma → (d : List ℕ) → 65535 ≤ length d
+    → SameEnds o cs (replayOf (caseOf o cs mi ma) d)

@@ -4,8 +4,8 @@
 -- Glossary
 --   Given            what a side is given: its own list as octets, its marks, and its file, none where that cannot be opened; Case: both sides
 --   givenOk g        19, of a list and its marks
---   Side, Sides      a record with its transcript; those of the two sides
---   sideOf, other    the side of a turn's writer, and that of its reader; withSides: two sides, by the writer's role
+--   Sides            a record of each role, and the transcript, which is one for both: each has read or written every turn
+--   sideOf x s       the record of a role; withSides: two sides, by the writer's role
 --   marksOf          the marks of a turn's writer
 --   Ending           how a replay ends: at the last turn, with a refusal and whose it is, or with a file that cannot be opened
 --   Whose            whose a refusal is; by: the side of a role
@@ -21,7 +21,7 @@
 --   opened           the sides before the first turn
 --   endedBy          a replay, where nothing ends it before play
 --   turnsIn c        the turns of a case's files
---   replayOf c i a   the replay of a case, i and a being the two transcripts
+--   replayOf c d     the replay of a case, in the transcript d
 use Prim.Native.Nat.{ℕ, _/_}
 use mathlib.Core.Bool.{Bool, true, false, cond, not, _&&_}
 use mathlib.Core.List.{List, [], _∷_}
@@ -30,7 +30,6 @@ use lib.ListN.{length}
 use lib.Dec.{eqb, leb}
 use Rattle.octets.specs.Octets.{octets}
 use Rattle.token.specs.Token.{Chain, end, refused as cutAt, message}
-use Rattle.put.specs.Put.{put}
 use Rattle.schemes.specs.Lists.{Id, listOk}
 use Rattle.schemes.specs.Sets.{below}
 use Rattle.conversation.specs.declared.Record.{Record}
@@ -54,24 +53,19 @@ pub record Case : Type 0 where
 abbrev pub givenOk : Given → Bool
 givenOk g = listOk (g .list) && below (length (g .list) / 16) (g .marks)
 
-pub record Side : Type 0 where
-  pub record-of : Record
+-- "play them to one record of each role"
+pub record Sides : Type 0 where
+  pub i : Record
+  pub a : Record
   pub transcript : List ℕ
 
-pub record Sides : Type 0 where
-  pub i : Side
-  pub a : Side
-
-abbrev pub sideOf : Bool → Sides → Side
+abbrev pub sideOf : Bool → Sides → Record
 sideOf false s = s .i
 sideOf true s = s .a
 
-abbrev pub other : Bool → Sides → Side
-other acceptor s = sideOf (not acceptor) s
-
-abbrev pub withSides : Bool → Side → Side → Sides
-withSides false writer reader = record { i = writer; a = reader }
-withSides true writer reader = record { i = reader; a = writer }
+abbrev pub withSides : Bool → Record → Record → List ℕ → Sides
+withSides false writer reader d = record { i = writer; a = reader; transcript = d }
+withSides true writer reader d = record { i = reader; a = writer; transcript = d }
 
 abbrev pub marksOf : Bool → Case → ℕ
 marksOf false c = c .i .marks
@@ -137,18 +131,12 @@ pub record Played : Type 0 where
 
 abbrev pub outcomeOf : Case → Sides → Turn → Outcome
 outcomeOf c s t =
-    heardTurn (owed (marksOf (t .acceptor) c) (sideOf (t .acceptor) s .record-of) (token t))
-    (other (t .acceptor) s .record-of) (other (t .acceptor) s .transcript) (token t)
+    heardTurn (owed (marksOf (t .acceptor) c) (sideOf (t .acceptor) s) (token t)) (sideOf (not (t .acceptor)) s) (s .transcript) (token t)
 
--- the reader has read the turn; the writer's record goes on as if it had written it, and its transcript has it too
+-- the reader has read the turn, and the writer's record goes on as if it had written it
 abbrev pub soPlayed : Case → Sides → Turn → Sides
 soPlayed c s t =
-    withSides (t .acceptor)
-    (record {
-      record-of = spoke (marksOf (t .acceptor) c) (sideOf (t .acceptor) s .record-of) (t .messages);
-      transcript = put (sideOf (t .acceptor) s .transcript) (sideOf (t .acceptor) s .record-of .used) (token t);
-    })
-    (record { record-of = outcomeOf c s t .answer .next; transcript = outcomeOf c s t .transcript })
+    withSides (t .acceptor) (spoke (marksOf (t .acceptor) c) (sideOf (t .acceptor) s) (t .messages)) (outcomeOf c s t .answer .next) (outcomeOf c s t .transcript)
 
 abbrev pub withTurn : Shown → Played → Played
 withTurn t p = record { turns = t ∷ p .turns; sides = p .sides; ending = p .ending }
@@ -158,7 +146,7 @@ unfoldable pub playFrom : Case → Sides → List Turn → Played
 playFrom c s [] = record { turns = []; sides = s; ending = finished }
 playFrom c s (t ∷ ts) =
     cond (isAccepted (outcomeOf c s t .answer))
-    (withTurn (record { turn = t; choice = choiceOf (soPlayed c s t .i .record-of) }) (playFrom c (soPlayed c s t) ts))
+    (withTurn (record { turn = t; choice = choiceOf (soPlayed c s t .i) }) (playFrom c (soPlayed c s t) ts))
     (record {
       turns = [];
       sides = s;
@@ -171,11 +159,8 @@ conversationIn [] = zeroId
 conversationIn (t ∷ ts) = octets 16 (token t) 24
 
 -- "one record of each role made from two given scheme lists, the initiator's with the first message's conversation"
-abbrev pub opened : Case → List Turn → List ℕ → List ℕ → Sides
-opened c ts di da = record {
-  i = record { record-of = opening false (c .i .list) (conversationIn ts) .next; transcript = di };
-  a = record { record-of = opening true (c .a .list) zeroId .next; transcript = da };
-}
+abbrev pub opened : Case → List Turn → List ℕ → Sides
+opened c ts d = record { i = opening false (c .i .list) (conversationIn ts) .next; a = opening true (c .a .list) zeroId .next; transcript = d }
 
 abbrev pub endedBy : Ending → Sides → Played → Played
 endedBy finished s p = p
@@ -185,5 +170,5 @@ endedBy unopened s p = record { turns = []; sides = s; ending = unopened }
 abbrev pub turnsIn : Case → List Turn
 turnsIn c = turnsOf (messagesBy (c .i)) (messagesBy (c .a))
 
-unfoldable pub replayOf : Case → List ℕ → List ℕ → Played
-replayOf c di da = endedBy (before c) (opened c (turnsIn c) di da) (playFrom c (opened c (turnsIn c) di da) (turnsIn c))
+unfoldable pub replayOf : Case → List ℕ → Played
+replayOf c d = endedBy (before c) (opened c (turnsIn c) d) (playFrom c (opened c (turnsIn c) d) (turnsIn c))

@@ -41,8 +41,8 @@ pub record Saw : Type 0 where
 abbrev pub saw : Case → Saw
 saw c =
     record {
-      turns = map (λ t. (t .turn .acceptor, t .choice)) (replayOf c (replicate 1100 0) (replicate 1100 0) .turns);
-      ending = replayOf c (replicate 1100 0) (replicate 1100 0) .ending;
+      turns = map (λ t. (t .turn .acceptor, t .choice)) (replayOf c (replicate 1100 0) .turns);
+      ending = replayOf c (replicate 1100 0) .ending;
     }
 
 abbrev pub turnsSeen : ℕ → List (Bool × Option Id)
