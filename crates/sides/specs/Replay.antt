@@ -171,4 +171,4 @@ abbrev pub turnsIn : Case → List Turn
 turnsIn c = turnsOf (messagesBy (c .i)) (messagesBy (c .a))
 
 unfoldable pub replayOf : Case → List ℕ → Played
-replayOf c d = endedBy (before c) (opened c (turnsIn c) d) (playFrom c (opened c (turnsIn c) d) (turnsIn c))
+replayOf c d = endedBy (before c) (opened c [] d) (playFrom c (opened c (turnsIn c) d) (turnsIn c))

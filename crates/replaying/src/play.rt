@@ -1,0 +1,20 @@
+// The turns of two files, played one after the other.
+ghost use mathlib.Core.Path.{_≡_};
+ghost use Prim.Native.Nat.{_+_, _*_, _-_, _<_, _≤_};
+ghost use lib.ListN.{length, take, drop};
+ghost use Rattle.sides.specs.Merging.{messagesOf, turnsOf};
+ghost use Rattle.sides.specs.Replay.{conversationIn, opened, replayOf};
+ghost use Rattle.replaying.specs.Playing.{caseWith, sidesIn, summary, playedAs, Fine, Goes};
+use super::Fault;
+use super::Found;
+use super::Marks;
+use super::Replay;
+use super::before::fault_before;
+use merging::next_turn;
+use message::field;
+use negotiating::opening::open;
+use schemes::list::id_at;
+use turning::hear::hear;
+use turning::owed::owes;
+use turning::spoke::speak;
+use vector::TokenPlace;
