@@ -82,6 +82,11 @@ with i folder
 expect 'a folder for a file' "$(of case)" 'no file'
 with "$(printf '%05000d' 0)" a
 expect 'a file with a name of 5,000 octets' "$(of case)" 'no file'
+cp "$work/i" "$work/größe"
+with größe a
+expect 'a name with octets above 127' "$(of case)" "$expected"
+{ printf 'initiator i\0\n'; sed 1d "$work/case"; } >"$work/zero"
+expect 'a name with a zero in it' "$(of zero)" 'no file'
 with empty empty
 expect 'two empty files' "$(of case)" ''
 for size in 65535 65536 1000000; do dd if=/dev/zero of="$work/zeros-$size" bs="$size" count=1 2>/dev/null; done
