@@ -1,6 +1,5 @@
 pub mod Messages
 pub mod Writes
-pub mod Heard
 pub mod Played
 pub mod Steps
 pub mod Replayed

@@ -5,47 +5,19 @@ use mathlib.Core.Path.{_≡_, refl, sym, ap, subst, _∙_}
 use mathlib.Core.Bool.{Bool, true, false, cond, not}
 use mathlib.Core.List.{List, [], _∷_, _++_, append-assoc, append-nil}
 use native.Mathlib.Omega.{arith}
-use native.Mathlib.Nat.{add-zero}
 use lib.ListN.{length, take, drop, length-append, length-take}
 use lib.Seq.{take-at, length-take-le}
-use lib.Dec.{eqb}
 use Rattle.token.specs.Split.{join}
 use Rattle.put.specs.Put.{put}
 use Rattle.put.proofs.Laws.{length-put}
 use Rattle.conversation.specs.declared.Record.{Record}
-use Rattle.conversation.specs.Turns.{ANSWER, writes}
-use Rattle.conversation.specs.Choosing.{chose, mayChoose}
 use Rattle.conversation.specs.Runs.{isAccepted}
 use Rattle.conversation.proofs.Messages.{join-append}
 use Rattle.sides.specs.Merging.{Turn}
-use Rattle.sides.specs.Turning.{withMarks, begun, said, saidAll, spoke}
 use Rattle.sides.specs.Replay.{Case, Sides, Played, sideOf, withSides, finished, outcomeOf, soPlayed, playFrom}
 use Rattle.sides.proofs.Turns.{allOf, ofSide, Alternate}
 
--- 1. the writer's record
-
-pub said-snoc : (w : Record) (ms : List (List ℕ)) (m : List ℕ) → saidAll w (ms ++ (m ∷ [])) ≡ said (saidAll w ms) m
-unfolding saidAll
-said-snoc w [] m = refl
-said-snoc w (k ∷ ms) m = said-snoc (said w k) ms m
-
-said-counts : (w : Record) (ms : List (List ℕ)) → (saidAll w ms .used ≡ w .used + length (join ms)) × (saidAll w ms .sequence ≡ w .sequence + length ms)
-unfolding saidAll said
-said-counts w [] = (sym (add-zero (w .used)), sym (add-zero (w .sequence)))
-said-counts w (m ∷ ms) = let i = said-counts (said w m) ms in (omega (arith, i .0, length-append m (join ms)), omega (arith, i .1))
-
-begun-counts : (m : ℕ) (w : Record) → (begun m w .used ≡ w .used) × (begun m w .sequence ≡ w .sequence)
-unfolding begun
-begun-counts m w = go (mayChoose w) (eqb (writes w) ANSWER) where
-  go : (a b : Bool) → (cond a (chose w m) (cond b (withMarks m w) w) .used ≡ w .used) × (cond a (chose w m) (cond b (withMarks m w) w) .sequence ≡ w .sequence)
-  go true b = (refl, refl)
-  go false true = (refl, refl)
-  go false false = (refl, refl)
-
-pub spoke-counts : (m : ℕ) (w : Record) (ms : List (List ℕ)) → (spoke m w ms .used ≡ w .used + length (join ms)) × (spoke m w ms .sequence ≡ w .sequence + length ms)
-spoke-counts m w ms = let a = said-counts (begun m w) ms in let b = begun-counts m w in (omega (arith, a .0, b .0), omega (arith, a .1, b .1))
-
--- 2. transcripts
+-- 1. transcripts
 
 pub put-end : (d : List ℕ) (used : ℕ) (x : List ℕ) → used ≤ length d → take (used + length x) (put d used x) ≡ take used d ++ x
 unfolding put
@@ -82,7 +54,7 @@ holds-on d used ms ns h u short =
       wide = (let z = length-put d used (join ns) (omega arith) in omega arith);
     }
 
--- 3. one more turn
+-- 2. one more turn
 
 module _ (c : Case) where
   abbrev pub sidesAfter : Sides → List Turn → Sides
@@ -106,7 +78,7 @@ module _ (c : Case) where
   played-all s [] h = (refl, refl)
   played-all s (t ∷ ts) h = let i = played-all (soPlayed c s t) ts (h .1) in rw (h .0) i
 
--- 4. whose turn is next
+-- 3. whose turn is next
 
 abbrev pub AlternateTo : Bool → List Turn → Bool → Type 0
 AlternateTo x [] y = x ≡ y

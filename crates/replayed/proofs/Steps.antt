@@ -28,8 +28,9 @@ use Rattle.sides.proofs.Cutting.{Pieces, pieces-append}
 use Rattle.sides.proofs.Turns.{allOf, ofSide}
 use Rattle.replayed.proofs.Messages.{Headed}
 use Rattle.replayed.proofs.Writes.{Marked, marksIn, marked-in, Writes, writes-call}
-use Rattle.replayed.proofs.Heard.{Heard, heard-by, heard-again, Exact, AllExact, exact-append, Gone, gone-through, first-number}
-use Rattle.replayed.proofs.Played.{said-snoc, spoke-counts, Level, level-on, Holds, holds-on, sidesAfter, AllHeard, after-snoc, heard-snoc, AlternateTo, alternate-snoc, all-snoc, side-here, side-there, not-not, side-writer, side-reader, side-transcript}
+use Rattle.sides.proofs.Spoken.{said-snoc, spoke-counts}
+use Rattle.sides.proofs.Heard.{Heard, heard-by, heard-again, Exact, AllExact, exact-append, Gone, gone-through, first-number}
+use Rattle.replayed.proofs.Played.{Level, level-on, Holds, holds-on, sidesAfter, AllHeard, after-snoc, heard-snoc, AlternateTo, alternate-snoc, all-snoc, side-here, side-there, not-not, side-writer, side-reader, side-transcript}
 
 -- 1. ends that have parted
 

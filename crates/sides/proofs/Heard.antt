@@ -15,23 +15,26 @@ use Rattle.message.specs.Layout.{headOf, size, front}
 use Rattle.message.specs.Check.{Row}
 use Rattle.message.proofs.Tables.{AllTrue, fails-other}
 use Rattle.message.proofs.Local.{head-same}
-use Rattle.token.specs.Token.{passes, chainOf}
-use Rattle.token.specs.Split.{join}
+use Rattle.token.specs.Token.{passes, Chain, end, refused as cutAt, message, chainOf, Reading, Accepted, tokenOf}
+use Rattle.token.specs.Walk.{messagesOf, Accepts}
+use Rattle.token.specs.Split.{Numbered, join, placedFrom}
+use Rattle.token.proofs.Splits.{front-message, numbered-accepted}
 use Rattle.token.proofs.Cuts.{passes-parts}
 use Rattle.conversation.specs.declared.Record.{Record}
 use Rattle.conversation.specs.declared.Scan.{Scan}
 use Rattle.conversation.specs.State.{limitRows}
 use Rattle.conversation.specs.Outcomes.{Outcome, room}
-use Rattle.conversation.specs.Reading.{Judged, whole, halted, chainFor, conversationOf, judged, taken, accepted, finish, tokenRows, readingToken}
+use Rattle.conversation.specs.Reading.{startOf, Judged, whole, halted, judge, chainFor, conversationOf, judged, taken, accepted, finish, tokenRows, readingToken}
+use Rattle.conversation.specs.Admitting.{Admitted, on, stop, admit}
 use Rattle.conversation.specs.Runs.{isAccepted}
 use Rattle.conversation.specs.Logs.{messagesIn}
 use Rattle.conversation.proofs.Decides.{decide-passed}
 use Rattle.conversation.proofs.Rows.{decide-out}
 use Rattle.conversation.proofs.Tokens.{judged-number}
 use Rattle.conversation.proofs.Messages.{FramedFrom, Taken, token-taken}
 use Rattle.sides.specs.Merging.{fits}
-use Rattle.sides.specs.Turning.{heardTurn}
+use Rattle.sides.specs.Turning.{behindFirst, heardTurn}
 use Rattle.sides.proofs.Cutting.{Pieces, piece-front}
 
 -- 1. an accepted reading
 
@@ -66,6 +69,20 @@ heard-again r t then h d wide =
     ∙ fitting (h .n) (h .scan) (le-leb _ _ fit) where
       fitting : (n : ℕ) (c : Scan) → leb (r .used + length t) (room d) ≡ true → finish r d t (whole n c) ≡ accepted r d t n c
       fitting n c e = unfold finish in rw e
+
+-- where 28 is owed, no turn is accepted
+pub heard-turn : (ok : Bool) (r : Record) (d t : List ℕ) → isAccepted (heardTurn ok r d t .answer) ≡ true → (ok ≡ true) × Heard r t (heardTurn ok r d t .answer .next)
+unfolding heardTurn readingToken
+heard-turn true r d t = λ a. (refl, heard-by r d t a)
+heard-turn false r d t =
+    let rows : List Row = limitRows r ++ tokenRows r (length t) in
+    decide-out (λ out. isAccepted (out .answer) ≡ true → (false ≡ true) × Heard r t (out .answer .next)) rows r d (finish r d t (behindFirst false (judged r t)))
+    (λ n f a. no-true (sym (ne-eqb n 0 (fails-other 0 rows n refl f)) ∙ a))
+    (λ g. token (judged r t) refl) where
+      token : (j : Judged) → judged r t ≡ j → isAccepted (finish r d t (behindFirst false j) .answer) ≡ true → (false ≡ true) × Heard r t (finish r d t (behindFirst false j) .answer .next)
+      token (halted n zero) w a = absurd (judged-number r t n 0 w .0 (eqb-true n 0 (unfold finish in a)))
+      token (halted n (suc p)) w a = no-true (unfold finish in a)
+      token (whole n c) w a = no-true (unfold finish in a)
 
 -- 2. messages that have their length in their header, whatever follows them
 
@@ -142,3 +159,63 @@ first-number r t n c w =
       go : (ms : List (List ℕ)) → FramedFrom (r .sequence) ms → join ms ≡ t → headOf t .sequence ≡ r .sequence
       go [] f e = absurd (let z = token-taken r t n c w .some in omega (arith, ap length e))
       go (m ∷ ms) f e = ap (λ (s : List ℕ). headOf s .sequence) (sym e) ∙ f .0 .number (join ms)
+
+-- 4. the structural reading accepts it too
+
+abbrev Ends : Chain → Type 0
+Ends end = Unit {0}
+Ends (cutAt n p) = ⊥
+Ends (message m ms) = Ends ms
+
+judge-ends : (r : Record) (t : List ℕ) (n : ℕ) (c : Scan) (ch : Chain) (k : ℕ) (d : Scan) → judge r t n c ch ≡ whole k d → Ends ch
+unfolding judge
+judge-ends r t n c end k d e = tt
+judge-ends r t n c (cutAt m a) k d e = let z : _≡_ {A = ℕ} 0 1 = cc in absurd (omega arith)
+judge-ends r t n c (message m ms) k d e = go (admit r t c (m .octets)) refl (λ c′. judge-ends r t (n + 1) c′ ms k d) where
+  go : (a : Admitted) → admit r t c (m .octets) ≡ a → ((c′ : Scan) → judge r t (n + 1) c′ ms ≡ whole k d → Ends ms) → Ends ms
+  go (on c′) is ih = ih c′ (rw is at e)
+  go (stop j) is ih = let w : halted j (m .place) ≡ whole k d = rw is at e in let z : _≡_ {A = ℕ} 0 1 = cc in absurd (omega arith)
+
+chain-numbered : (xs : List ℕ) (k place q : ℕ) (v : List ℕ) → Ends (chainOf xs k place q v) → Numbered q v (messagesIn (chainOf xs k place q v))
+unfolding chainOf messagesIn
+chain-numbered [] k place q v h = tt
+chain-numbered (x ∷ xs) (suc k) place q v h = chain-numbered xs k place q v h
+chain-numbered (x ∷ xs) zero place q v h = go (which (passes (x ∷ xs) q v)) (chain-numbered xs (size (x ∷ xs) - 1) (place + size (x ∷ xs)) (q + 1) v) h where
+  go : (passes (x ∷ xs) q v ≡ true) ⊎ (passes (x ∷ xs) q v ≡ false) → (Ends (chainOf xs (size (x ∷ xs) - 1) (place + size (x ∷ xs)) (q + 1) v) → Numbered (q + 1) v (messagesIn (chainOf xs (size (x ∷ xs) - 1) (place + size (x ∷ xs)) (q + 1) v)))
+      → Ends (chainOf (x ∷ xs) 0 place q v) → Numbered q v (messagesIn (chainOf (x ∷ xs) 0 place q v))
+  go (inl e) ih g = rw e (front-message (x ∷ xs) q v e, ih (rw e at g))
+  go (inr e) ih g = absurd (rw e at g)
+
+pub heard-accepts : (r : Record) (t : List ℕ) (n : ℕ) (c : Scan) → length t ≤ 65535 → judged r t ≡ whole n c → Accepts t
+heard-accepts r t n c short w = go (messagesIn (chainFor r t)) refl (token-taken r t n c w .joins) where
+  some : (s : List ℕ) → 0 < length s → judge r t 0 (startOf r) (chainFor r s) ≡ whole n c → Numbered (r .sequence) (conversationOf r s) (messagesIn (chainFor r s))
+  some [] h e = absurd (omega arith)
+  some (x ∷ s) h e =
+      let z : length (x ∷ s) ≡ 0 → ⊥ = λ y. omega arith in
+      let is : chainFor r (x ∷ s) ≡ chainOf (x ∷ s) 0 0 (r .sequence) (conversationOf r (x ∷ s)) = rw (ne-eqb _ _ z) in
+      subst (λ (ch : Chain). Numbered (r .sequence) (conversationOf r (x ∷ s)) (messagesIn ch)) (sym is)
+      (chain-numbered (x ∷ s) 0 0 (r .sequence) (conversationOf r (x ∷ s)) (subst Ends is (judge-ends r t 0 (startOf r) (chainFor r (x ∷ s)) n c e)))
+
+  numbered : Numbered (r .sequence) (conversationOf r t) (messagesIn (chainFor r t))
+  numbered = some t (token-taken r t n c w .some) (unfold judged in w)
+
+  go : (ms : List (List ℕ)) → messagesIn (chainFor r t) ≡ ms → join (messagesIn (chainFor r t)) ≡ t → Accepts t
+  go [] is j = absurd (let z = token-taken r t n c w .some in omega (arith, ap length (sym (ap join is) ∙ j)))
+  go (m ∷ ms) is j =
+      let t-is : join (m ∷ ms) ≡ t = sym (ap join is) ∙ j in
+      let a : tokenOf (join (m ∷ ms)) ≡ Accepted (placedFrom 0 (m ∷ ms)) = numbered-accepted (r .sequence) (conversationOf r t) m ms (subst (Numbered (r .sequence) (conversationOf r t)) is numbered) (omega (arith, ap length t-is)) in
+      let b : tokenOf t ≡ Accepted (placedFrom 0 (m ∷ ms)) = ap tokenOf (sym t-is) ∙ a in
+      b ∙ ap (λ (x : Reading). Accepted (messagesOf x)) (sym b)
+
+-- 5. a refused turn leaves the transcript as it was
+
+pub refused-same : (ok : Bool) (r : Record) (d t : List ℕ) → (heardTurn ok r d t .answer .refusal ≡ 0 → ⊥) → heardTurn ok r d t .transcript ≡ d
+unfolding heardTurn
+refused-same ok r d t =
+    let rows : List Row = limitRows r ++ tokenRows r (length t) in
+    decide-out (λ out. (out .answer .refusal ≡ 0 → ⊥) → out .transcript ≡ d) rows r d (finish r d t (behindFirst ok (judged r t)))
+    (λ n f h. refl)
+    (λ g. token (behindFirst ok (judged r t))) where
+      token : (j : Judged) → (finish r d t j .answer .refusal ≡ 0 → ⊥) → finish r d t j .transcript ≡ d
+      token (halted n p) h = unfold finish in refl
+      token (whole n c) h = unfold finish in elim (which (leb (r .used + length t) (room d))) [ inl b ↦ absurd (h (unfold finish in rw b)) | inr b ↦ rw b ]
