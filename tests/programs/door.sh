@@ -30,7 +30,7 @@ done
 expect 'nothing is made beside a link' "$(ls "$work/bin" | tr '\n' ' ')" 'nx ny '
 
 # Help.
-for word in list blank converse examples library test; do
+for word in list blank converse replay examples library test; do
     expect "help $word" "$(./negoex help "$word" | head -n 1 | cut -c 1-$((16 + ${#word})))" "usage: ./negoex $word"
     expect "$word --help" "$(./negoex "$word" --help; echo $?)" "$(./negoex help "$word"; echo 0)"
 done
@@ -43,11 +43,12 @@ expect 'refused' "$(./negoex list crates/examples/data/refused-2-empty >/dev/nul
 expect 'missing' "$(./negoex list "$work/missing" >/dev/null 2>&1; echo $?)" 1
 
 # Standard output that cannot be written.
-for word in list blank converse; do
-    expect "$word, closed" "$(./negoex "$word" "crates/$word/data/example" 2>&1 >&-; echo $?)" "negoex: standard output cannot be written
+for word in list blank converse replay; do
+    case $word in replay) file=crates/replays/data/p11.case ;; *) file=crates/$word/data/example ;; esac
+    expect "$word, closed" "$(./negoex "$word" "$file" 2>&1 >&-; echo $?)" "negoex: standard output cannot be written
 1"
     [ -c /dev/full ] || continue
-    expect "$word, full" "$(./negoex "$word" "crates/$word/data/example" 2>&1 >/dev/full; echo $?)" "negoex: standard output cannot be written
+    expect "$word, full" "$(./negoex "$word" "$file" 2>&1 >/dev/full; echo $?)" "negoex: standard output cannot be written
 1"
 done
 expect 'temporary files' "$(TMPDIR=$work/missing ./negoex list crates/list/data/example 2>&1 | tail -n 1)" 'negoex: no folder for temporary files; TMPDIR says where to make one'
