@@ -37,7 +37,13 @@ fn first_conversation(ifile: &[u8], afile: &[u8]) -> [u8; 16]
 }
 
 // A replay before its first turn, or one that ended before it.
-fn begin_with(ilist: &[u8], alist: &[u8], conversation: [u8; 16], fault: Fault, more: bool) -> Replay
+fn begin_with(
+    ilist: &[u8],
+    alist: &[u8],
+    conversation: [u8; 16],
+    fault: Fault,
+    more: bool,
+) -> Replay
     ensures { λ r. ⌜ r ≡ begunWith (now (ilist .entry)) (now (alist .entry)) conversation fault more ⌝ }
 {
     let i = open(false, ilist, conversation);
