@@ -97,13 +97,7 @@ listed-joined t =
     let w = shown-whole (front t) in
     ids-joined (length a / 16) a ∙ take-all (16 * (length a / 16)) a (omega arith)
 
-module _ (w : Record) (few : w .count ≤ 16) (list : length (w .list) ≡ 256) (t l : List ℕ) (l-is : l ≡ listedIn t) where
-  pub own-end : 16 * w .count ≤ length (w .list)
-  own-end = omega arith
-
-  pub own-part : 16 * w .count ≡ length (take (16 * w .count) (w .list))
-  own-part = sym (length-take-le (16 * w .count) (w .list) own-end)
-
+module _ (w : Record) (t l : List ℕ) (l-is : l ≡ listedIn t) where
   pub lists-own-is : (b : Bool) → b ≡ sameOctets l (take (16 * w .count) (w .list)) → b ≡ sameList (listedBy t) (ownOf w)
   lists-own-is b b-is =
       b-is ∙ ap (λ (x : List ℕ). sameOctets x (take (16 * w .count) (w .list))) (l-is ∙ sym (listed-joined t))
@@ -147,7 +141,10 @@ module _ (w : Record) (few : w .count ≤ 16) (list : length (w .list) ≡ 256) 
         go [] h = absurd (h refl)
         go (x ∷ k) h = refl
 
-pub ruleset lists = (own-end, own-part, lists-own-is, reply-none, reply-end, reply-part, reply-is)
+pub front-part : (n : ℕ) (l : List ℕ) → n ≤ length l → n ≡ length (take n l)
+front-part n l h = sym (length-take-le n l h)
+
+pub ruleset lists = (lists-own-is, reply-none, reply-end, reply-part, reply-is)
 
 -- 4. the choice
 module _ (w : Record) (few : w .count ≤ 16) (t : List ℕ) (long : 64 ≤ length t) (z : Left) (marks : ℕ) (is : z ≡ leftOf (openPlaces (w .kept) (w .common) marks)) where
@@ -185,9 +182,9 @@ module _ (w : Record) (few : w .count ≤ 16) (t : List ℕ) (long : 64 ≤ leng
       pub choice-part : length (w .list) ≡ 256 → 16 * z .place + 16 ≤ length (w .list)
       choice-part h = omega arith
 
-      pub choice-is : (b : Bool) → b ≡ sameId (take 16 (drop 40 t)) (take (16 * z .place + 16 - 16 * z .place) (drop (16 * z .place) (w .list))) → b ≡ answer
+      pub choice-is : (b : Bool) → b ≡ sameId (take 16 (drop 40 t)) (octets 16 (w .list) (16 * z .place)) → b ≡ answer
       choice-is b b-is =
-          let c : take (16 * z .place + 16 - 16 * z .place) (drop (16 * z .place) (w .list)) ≡ getD (ownOf w) (z .place) [] = simp add-sub-cancel-left (sym (id-at (w .count) (w .list) (z .place) low)) in
+          let c : octets 16 (w .list) (16 * z .place) ≡ getD (ownOf w) (z .place) [] = sym (id-at (w .count) (w .list) (z .place) low) in
           b-is ∙ ap (sameId (schemeIn t)) c ∙ id-same (schemeIn t) (getD (ownOf w) (z .place) []) sixteen ∙ sym answer-is
 
 pub ruleset choices = (choice-none, choice-foreign, choice-part, choice-is)

@@ -2,7 +2,7 @@
 ghost use mathlib.Core.Path.{_≡_};
 ghost use mathlib.Core.Bool.{not, _&&_};
 ghost use Prim.Native.Nat.{_≤_};
-ghost use lib.ListN.{length};
+ghost use lib.ListN.{length, take};
 ghost use lib.Dec.{eqb};
 ghost use Rattle.octets.specs.Octets.{sameOctets};
 ghost use Rattle.schemes.specs.Sets.{named};
@@ -11,11 +11,11 @@ ghost use Rattle.conversation.specs.Writing.{someLeft, firstOr};
 ghost use Rattle.conversation.specs.Admitting.{schemeIn, listedBy};
 ghost use Rattle.conversation.specs.Choosing.{openTo, mayChoose};
 ghost use Rattle.sides.specs.Turning.{sameList, withMarks, owed};
+use admitting::fits::same_at;
 use admitting::named::listed;
 use conversation::Record;
 use conversation::turns::writing_token;
 use message::field;
-use octets::same_id;
 use schemes::choosing::choose_kept;
 use schemes::offer::gather;
 
@@ -39,14 +39,20 @@ fn same_all(a: &[u8], b: &[u8]) -> bool
     true
 }
 
+// Whether octets are the first n of a list, where it stands.
+fn same_front(a: &[u8], list: &[u8], n: usize) -> bool
+    requires { ⌜ n ≤ length (now list) ⌝ }
+    ensures { λ r. ⌜ r ≡ sameOctets (now (a .entry)) (take n (now (list .entry))) ⌝ }
+{
+    same_all(a, &list[..n])
+}
+
 // Whether a NEGO lists its writer's own schemes, in its order.
 fn lists_own(w: Record, t: &[u8]) -> bool
     requires { ⌜ w .count ≤ 16 ⌝ }
     ensures { λ r. ⌜ r ≡ sameList (listedBy (now (t .entry))) (ownOf w) ⌝ }
 {
-    let list = w.list;
-    let end = field::ID * w.count;
-    same_all(listed(t), &list[..end])
+    same_front(listed(t), &w.list, field::ID * w.count)
 }
 
 // Whether a NEGO lists the common schemes less the marks, in its writer's order, and there are some.
@@ -78,10 +84,7 @@ fn names_choice(w: Record, marks: u16, t: &[u8]) -> bool
     if w.count <= place {
         return false;
     }
-    let list = w.list;
-    let at = field::ID * place;
-    let end = at + field::ID;
-    same_id(&t[field::SCHEME..SCHEME_END], &list[at..end])
+    same_at(&w.list, place, &t[field::SCHEME..SCHEME_END])
 }
 
 // Whether a record may choose.

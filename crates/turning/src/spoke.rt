@@ -89,8 +89,7 @@ fn told_behind(w: Record, kind: u8, id: &[u8]) -> u16
     if kind != METADATA {
         return w.told;
     }
-    let list = w.list;
-    let k = find(&list, w.count, id);
+    let k = find(&w.list, w.count, id);
     if w.count <= k {
         return w.told;
     }

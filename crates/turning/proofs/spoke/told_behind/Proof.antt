@@ -1,17 +1,14 @@
 -- Assumes nothing.
-use borrow.Author.Needs.{needs}
 use Rattle.turning.proofs.Tests.{tellings}
+use borrow.Author.Needs.{needs}
 use Rattle.turning.proofs.spoke.told_behind.Statement.{statement}
 use Rattle.turning.proofs.spoke.told_behind.Tie as tie
 
 returns : tie.Need-returns
 returns c = search (needs, tellings)
 
-slice-aggregate-find : tie.Need-slice-aggregate-find
-slice-aggregate-find c = search needs
-
 find-requires : tie.Need-find-requires
-find-requires c κs = search (needs, tellings)
+find-requires c κs = search needs
 
 returns-2 : tie.Need-returns-2
 returns-2 c = search (needs, tellings)
@@ -27,12 +24,4 @@ returns-3 c = search (needs, tellings)
 
 pub told-behind-spec : {M : Type 1} → statement M
 told-behind-spec =
-    tie.close
-    (tie.spec
-    returns
-    slice-aggregate-find
-    find-requires
-    returns-2
-    cast-with-bit
-    with-bit-requires
-    returns-3)
+    tie.close (tie.spec returns find-requires returns-2 cast-with-bit with-bit-requires returns-3)
