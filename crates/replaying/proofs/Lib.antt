@@ -1,1 +1,3 @@
 pub mod Befores
+pub mod Nexts
+pub mod Plays
