@@ -1,1 +1,4 @@
 pub mod Befores
+pub mod Nexts
+pub mod Plays
+pub mod Goes

@@ -114,12 +114,15 @@ fn play_initiator(s: Replay, marks: u16, t: &[u8], messages: u32, d: &mut [u8]) 
     }
     let initiator = speak(writer, marks, t);
     let acceptor = a.next;
+    let place = s.iplace + t.len();
+    let number = s.number + messages;
+    let turns = s.turns + 1;
     let mut next = s;
     next.initiator = initiator;
     next.acceptor = acceptor;
-    next.iplace = s.iplace + t.len();
-    next.number = s.number + messages;
-    next.turns = s.turns + 1;
+    next.iplace = place;
+    next.number = number;
+    next.turns = turns;
     next.last = false;
     next
 }
@@ -137,12 +140,15 @@ fn play_acceptor(s: Replay, marks: u16, t: &[u8], messages: u32, d: &mut [u8]) -
     }
     let acceptor = speak(writer, marks, t);
     let initiator = a.next;
+    let place = s.aplace + t.len();
+    let number = s.number + messages;
+    let turns = s.turns + 1;
     let mut next = s;
     next.initiator = initiator;
     next.acceptor = acceptor;
-    next.aplace = s.aplace + t.len();
-    next.number = s.number + messages;
-    next.turns = s.turns + 1;
+    next.aplace = place;
+    next.number = number;
+    next.turns = turns;
     next.last = true;
     next
 }
