@@ -68,7 +68,7 @@ octets-append (x ∷ xs) ys =
     let six = numbers (x .what ∷ x .message ∷ x .number ∷ x .value ∷ x .place ∷ x .length ∷ []) in
     ap (λ (l : List ℕ). six ++ l) (octets-append xs ys) ∙ sym (append-assoc six (entryOctets xs) (entryOctets ys))
 
-octets-length : (es : List Entry) → length (entryOctets es) ≡ 24 * length es
+pub octets-length : (es : List Entry) → length (entryOctets es) ≡ 24 * length es
 unfolding entryOctets
 octets-length [] = refl
 octets-length (x ∷ xs) =

@@ -6,6 +6,7 @@ ghost use Rattle.token.specs.Token.{tokenOf};
 ghost use Rattle.token.specs.Walk.{messagesOf, Accepts};
 ghost use Rattle.listing.specs.Listing.{allLines};
 ghost use Rattle.replies.specs.Replies.{lent, messagesAnswer, placeAnswer, fieldAnswer, conversationAnswer, vectorsAnswer, vectorPlaceAnswer, vectorLengthAnswer, tableAnswer};
+ghost use Rattle.viewing.specs.Viewing.{entryCountAnswer, entriesAnswer};
 ghost use Rattle.host.specs.Host.{linesAnswer, windowAnswer};
 use lines::count;
 use listing::window;
@@ -78,6 +79,22 @@ pub extern "C" fn negoex_table(token: &[u8], buffer: &mut [u8]) -> i64
     ensures { λ r. ⌜ lent r (now (buffer .exit)) ≡ tableAnswer (now (token .entry)) (now (buffer .entry)) ⌝ }
 {
     replies::write_table(token, buffer)
+}
+
+// The number of entries of a token.
+#[no_mangle]
+pub extern "C" fn negoex_entry_count(token: &[u8]) -> i64
+    ensures { λ r. ⌜ r ≡ entryCountAnswer (now (token .entry)) ⌝ }
+{
+    viewing::entry_count(token)
+}
+
+// As many whole entries from number `first` on as fit, at the buffer's front.
+#[no_mangle]
+pub extern "C" fn negoex_entries(token: &[u8], first: usize, buffer: &mut [u8]) -> i64
+    ensures { λ r. ⌜ lent r (now (buffer .exit)) ≡ entriesAnswer (now (token .entry)) first (now (buffer .entry)) ⌝ }
+{
+    viewing::write_entries(token, first, buffer)
 }
 
 // The number of lines of an accepted token's messages.

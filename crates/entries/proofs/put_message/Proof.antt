@@ -55,8 +55,7 @@ loop-less c = search needs
 loop-again : tie.Need-loop-again Inv-loop μ-loop
 loop-again c =
     let l = c .before .before .before .before .before .before in
-    let s = l .before .before .before .before .before .before in
-    (
+    let s = l .before .before .before .before .before .before in (
       search needs,
       search needs,
       search needs,
