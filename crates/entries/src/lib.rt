@@ -18,7 +18,7 @@ use vector::MessageOffset;
 use vector::TokenPlace;
 use vector::in_token;
 
-mod lookup;
+pub mod lookup;
 pub mod name;
 
 // One entry: what it is (name.rt), its message, its number in its list, its value, its place in the token and its length in octets.
