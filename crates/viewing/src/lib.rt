@@ -1,11 +1,20 @@
 // What a viewer is answered of a token as entries: a number, or a refusal's number negated.
 ghost use mathlib.Core.Path.{_≡_};
+ghost use mathlib.Core.List.{_∷_, []};
+ghost use lib.ListN.{length};
 ghost use Rattle.token.specs.Walk.{Accepts};
-ghost use Rattle.replies.specs.Replies.{lent};
-ghost use Rattle.viewing.specs.Viewing.{entryCountAnswer, entriesAnswer};
+ghost use Rattle.entries.specs.Entries.{entryOctets};
+ghost use Rattle.faults.specs.Faults.{faultOf};
+ghost use Rattle.replies.specs.Replies.{fits, lent, writtenIn};
+ghost use Rattle.viewing.specs.Viewing.{entryCountAnswer, entriesAnswer, faultAnswer, envelopePlaceAnswer, envelopeLengthAnswer};
 use entries::SIZE;
 use entries::count_entries;
 use entries::put_entries;
+use entries::put_entry;
+use envelope_token::Carried;
+use envelope_token::find_token;
+use faults::fault;
+use replies::number;
 use replies::refusal;
 use replies::wide_number;
 use token::Answer;
@@ -44,5 +53,48 @@ pub fn write_entries(token: &[u8], first: usize, buffer: &mut [u8]) -> i64
     match r {
         Answer::Messages(_) => fill_entries(token, first, buffer),
         Answer::Refused(n, _) => refusal(n),
+    }
+}
+
+// The fault of a refused token.
+fn fill_fault(token: &[u8], buffer: &mut [u8]) -> i64
+    ensures { λ r. ⌜ lent r (now (buffer .exit)) ≡ writtenIn (now (buffer .entry)) (fits (length (now (buffer .entry))) (entryOctets (faultOf (now (token .entry)) ∷ []))) ⌝ }
+{
+    if buffer.len() < SIZE {
+        return refusal(16);
+    }
+    wide_number(put_entry(buffer, 0, fault(token)))
+}
+
+// The octets at fault, as one entry at the buffer's front; nothing where the token is accepted.
+pub fn write_fault(token: &[u8], buffer: &mut [u8]) -> i64
+    ensures { λ r. ⌜ lent r (now (buffer .exit)) ≡ faultAnswer (now (token .entry)) (now (buffer .entry)) ⌝ }
+{
+    let r = read_token(token);
+    match r {
+        Answer::Messages(_) => number(0),
+        Answer::Refused(_, _) => fill_fault(token, buffer),
+    }
+}
+
+// The place of the token in an envelope.
+pub fn envelope_place(envelope: &[u8]) -> i64
+    ensures { λ r. ⌜ r ≡ envelopePlaceAnswer (now (envelope .entry)) ⌝ }
+{
+    let r = find_token(envelope);
+    match r {
+        Carried::At(place, _) => number(place),
+        Carried::Refused(n) => refusal(n),
+    }
+}
+
+// Its length in octets.
+pub fn envelope_length(envelope: &[u8]) -> i64
+    ensures { λ r. ⌜ r ≡ envelopeLengthAnswer (now (envelope .entry)) ⌝ }
+{
+    let r = find_token(envelope);
+    match r {
+        Carried::At(_, length) => number(length),
+        Carried::Refused(n) => refusal(n),
     }
 }
