@@ -116,6 +116,7 @@ int64_t negoex_table(const uint8_t *token, size_t token_size, uint8_t *buffer, s
 #define NEGOEX_ENTRY_EXTENSION_VALUE_VECTOR 28
 #define NEGOEX_ENTRY_ALERT_TYPE 29             /* the fields of an alert */
 #define NEGOEX_ENTRY_ALERT_VALUE_VECTOR 30
+#define NEGOEX_ENTRY_REST 31                   /* octets and no field: of negoex_fault alone */
 
 /* The number of entries of a token: no more than the token has octets. */
 int64_t negoex_entry_count(const uint8_t *token, size_t token_size);
@@ -123,6 +124,16 @@ int64_t negoex_entry_count(const uint8_t *token, size_t token_size);
 /* Writes entries to the buffer's front: from number `first` on, as many whole ones as fit. The answer is the number of octets written. Refusals: 19 where `first`
    is beyond the last entry, 16 where the buffer has no room for one. A buffer of NEGOEX_ENTRY_SIZE * token_size octets has room for all. */
 int64_t negoex_entries(const uint8_t *token, size_t token_size, size_t first, uint8_t *buffer, size_t buffer_size);
+
+/* Writes the octets at fault of a refused token to the buffer's front, as one entry: the field whose test fails first, all fields before it having passed. Of
+   refusal 1 it is the first octet too many, of 2 the octets that are left, both NEGOEX_ENTRY_REST. The answer is NEGOEX_ENTRY_SIZE; 0, with nothing written,
+   where the token is accepted; a refusal, -16, only where the buffer has no room for it. */
+int64_t negoex_fault(const uint8_t *token, size_t token_size, uint8_t *buffer, size_t buffer_size);
+
+/* The place and the length of the token in an SPNEGO envelope, a NegTokenInit in its wrapper or a NegTokenResp (RFC 4178). Refusals: 1, and 20 to 23, as
+   README.md has them; then 19 where the envelope has no token. */
+int64_t negoex_envelope_place(const uint8_t *envelope, size_t envelope_size);
+int64_t negoex_envelope_length(const uint8_t *envelope, size_t envelope_size);
 
 #ifdef __cplusplus
 }

@@ -6,7 +6,7 @@ ghost use Rattle.token.specs.Token.{tokenOf};
 ghost use Rattle.token.specs.Walk.{messagesOf, Accepts};
 ghost use Rattle.listing.specs.Listing.{allLines};
 ghost use Rattle.replies.specs.Replies.{lent, messagesAnswer, placeAnswer, fieldAnswer, conversationAnswer, vectorsAnswer, vectorPlaceAnswer, vectorLengthAnswer, tableAnswer};
-ghost use Rattle.viewing.specs.Viewing.{entryCountAnswer, entriesAnswer};
+ghost use Rattle.viewing.specs.Viewing.{entryCountAnswer, entriesAnswer, faultAnswer, envelopePlaceAnswer, envelopeLengthAnswer};
 ghost use Rattle.host.specs.Host.{linesAnswer, windowAnswer};
 use lines::count;
 use listing::window;
@@ -95,6 +95,30 @@ pub extern "C" fn negoex_entries(token: &[u8], first: usize, buffer: &mut [u8]) 
     ensures { λ r. ⌜ lent r (now (buffer .exit)) ≡ entriesAnswer (now (token .entry)) first (now (buffer .entry)) ⌝ }
 {
     viewing::write_entries(token, first, buffer)
+}
+
+// The octets at fault of a refused token, as one entry at the buffer's front; nothing where it is accepted.
+#[no_mangle]
+pub extern "C" fn negoex_fault(token: &[u8], buffer: &mut [u8]) -> i64
+    ensures { λ r. ⌜ lent r (now (buffer .exit)) ≡ faultAnswer (now (token .entry)) (now (buffer .entry)) ⌝ }
+{
+    viewing::write_fault(token, buffer)
+}
+
+// The place of the token in an envelope.
+#[no_mangle]
+pub extern "C" fn negoex_envelope_place(envelope: &[u8]) -> i64
+    ensures { λ r. ⌜ r ≡ envelopePlaceAnswer (now (envelope .entry)) ⌝ }
+{
+    viewing::envelope_place(envelope)
+}
+
+// The length of the token in an envelope.
+#[no_mangle]
+pub extern "C" fn negoex_envelope_length(envelope: &[u8]) -> i64
+    ensures { λ r. ⌜ r ≡ envelopeLengthAnswer (now (envelope .entry)) ⌝ }
+{
+    viewing::envelope_length(envelope)
 }
 
 // The number of lines of an accepted token's messages.
