@@ -3,7 +3,7 @@
 
 Writes captures into FOLDER: http.pcap, ldap.pcap and smb2.pcap carry the SPNEGO envelopes in the folder ENVELOPES (NAME-NN-i.spnego and NAME-NN-a.spnego, a
 conversation a NAME, from the initiator or the acceptor), each conversation over one connection; raw.pcap has each token in TOKENS as a packet of its own, handed
-to the dissector `negoex_proved`. Beside each, NAME.order has the files in the order of their packets.
+to the dissector `negoex_proved`, and both.pcap handed to Wireshark's own, `negoex`. Beside each, NAME.order has the files in the order of their packets.
 """
 import base64, os, re, struct, sys
 
@@ -108,13 +108,12 @@ def main(envelopes, tokens, folder):
                 connection.send(end, protocol(end, envelope, k))
                 order.append(name)
         open(os.path.join(folder, protocol.__name__ + '.order'), 'w').write('\n'.join(order) + '\n')
-    pcap = Pcap(os.path.join(folder, 'raw.pcap'), 252)
-    names = sorted(os.listdir(tokens))
-    for name in names:
-        token = open(os.path.join(tokens, name), 'rb').read()
-        word = b'negoex_proved\0\0\0'
-        pcap.packet(struct.pack('>HH', 12, len(word)) + word + struct.pack('>HH', 0, 0) + token)
-    open(os.path.join(folder, 'raw.order'), 'w').write('\n'.join(names) + '\n')
+    for name, dissector in (('raw', b'negoex_proved\0\0\0'), ('both', b'negoex\0\0')):
+        pcap, files = Pcap(os.path.join(folder, name + '.pcap'), 252), sorted(os.listdir(tokens))
+        for file in files:
+            token = open(os.path.join(tokens, file), 'rb').read()
+            pcap.packet(struct.pack('>HH', 12, len(dissector)) + dissector + struct.pack('>HH', 0, 0) + token)
+        open(os.path.join(folder, name + '.order'), 'w').write('\n'.join(files) + '\n')
 
 
 if __name__ == '__main__':

@@ -7,7 +7,7 @@ envelope is cut out where `unwrap` says that it stands.
 """
 import os, re, subprocess, sys
 
-FIELDS = ['refused', 'refused.at', 'fault.place', 'fault.length', 'messages', 'cut', 'line']
+FIELDS = ['refused', 'refused.at', 'fault.place', 'fault.length', 'differs', 'line']
 
 
 def run(program, path):
@@ -79,14 +79,14 @@ def token_of(envelope, folder):
 
 def main(folder, envelopes, tshark):
     wrong = 0
-    for name in ('http', 'ldap', 'smb2', 'raw'):
+    for name in ('http', 'ldap', 'smb2', 'raw', 'both'):
         files = open(os.path.join(folder, name + '.order')).read().split('\n')[:-1]
-        if name == 'raw':
+        if name in ('raw', 'both'):
             paths = [os.path.join(folder, 'tokens', f) for f in files]
         else:
             paths = [p for p in (token_of(os.path.join(envelopes, f), folder) for f in files) if p]
         rows = list(shown(tshark, os.path.join(folder, name + '.pcap')))
-        read = refused = 0
+        read = refused = silent = other = 0
         if len(rows) != len(paths):
             print('compare: %s: tshark shows %d tokens of %d' % (name, len(rows), len(paths)))
             wrong += 1
@@ -95,9 +95,11 @@ def main(folder, envelopes, tshark):
             wrong += why is not None
             refused += bool(row['refused'])
             read += not row['refused']
+            silent += bool(row['refused'] and row['differs'])
+            other += bool(not row['refused'] and row['differs'])
             if why:
                 print('compare: %s: %s: %s' % (name, os.path.basename(path), why))
-        print('compare: %s: %d tokens read, %d refused' % (name, read, refused))
+        print('compare: %s: %d tokens read, %d of them shown otherwise by the built-in dissector; %d refused, %d of them shown by it without complaint' % (name, read, other, refused, silent))
     if wrong:
         sys.exit('compare: %d differ' % wrong)
     print('compare: none differ')
