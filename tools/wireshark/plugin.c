@@ -30,7 +30,7 @@ static int tree_top = -1, tree_message = -1, tree_list = -1, tree_element = -1, 
 /* What is shown of a kind of entry, by its number in negoex.h. */
 static int hf_entry[KINDS];
 static int hf_refused = -1, hf_at = -1, hf_messages = -1, hf_octets = -1, hf_extension = -1, hf_alert = -1, hf_uncovered = -1, hf_listing = -1, hf_line = -1;
-static int hf_fault = -1, hf_fault_place = -1, hf_fault_length = -1, hf_fault_value = -1;
+static int hf_fault = -1, hf_fault_place = -1, hf_fault_length = -1, hf_fault_value = -1, hf_fault_type = -1;
 static expert_field ei_refused = EI_INIT, ei_uncovered = EI_INIT, ei_pad = EI_INIT, ei_cut = EI_INIT, ei_differs = EI_INIT;
 
 static const value_string types[] = {
@@ -165,6 +165,22 @@ static const entry_t *kind_of(const base_t *base, guint32 what, guint k)
     return k < base[what].count ? base[what].first + k : NULL;
 }
 
+static void base_of(base_t *base, const entry_t *first, const entry_t *last)
+{
+    memset(base, 0, KINDS * sizeof *base);
+    for (const entry_t *e = first; e < last; e++)
+        if (e->what < KINDS && !base[e->what].count++)
+            base[e->what].first = e;
+}
+
+/* The entry behind the last of the message that begins at entry k. */
+static gsize message_end(const found_t *found, gsize k)
+{
+    for (k++; k < found->count && found->entries[k].what != NEGOEX_ENTRY_MESSAGE; k++)
+        ;
+    return k;
+}
+
 static void show_elements(proto_tree *tree, tvbuff_t *tvb, const base_t *base, guint32 list, guint32 type, guint32 vector, guint32 value)
 {
     proto_tree *inner = show_list(tree, tvb, base[list].first, base[type].count);
@@ -216,19 +232,12 @@ static void show_octets(proto_tree *tree, tvbuff_t *tvb, const base_t *base)
 static proto_tree *show_message(proto_tree *tree, packet_info *pinfo, tvbuff_t *tvb, const entry_t *first, const entry_t *last)
 {
     base_t base[KINDS];
-    memset(base, 0, sizeof base);
-    const entry_t *e;
-    for (e = first; e < last; e++) {
-        if (e->what >= KINDS)
-            return tree;
-        if (!base[e->what].count++)
-            base[e->what].first = e;
-    }
+    base_of(base, first, last);
     proto_item *item = proto_tree_add_none_format(tree, hf_entry[NEGOEX_ENTRY_MESSAGE], tvb, first->place, first->length, "Message %u: %s, sequence number %u, %d octets at %d", first->message,
                                                   val_to_str_const(first->value, types, "?"), kind_of(base, NEGOEX_ENTRY_SEQUENCE, 0)->value, first->length, first->place);
     proto_tree *inner = proto_item_add_subtree(item, tree_message);
     /* The header's fields stand in front of what its vectors point at. */
-    for (e = first + 1; e < last && e->what < NEGOEX_ENTRY_SCHEMES; e++)
+    for (const entry_t *e = first + 1; e < last && e->what < NEGOEX_ENTRY_SCHEMES; e++)
         show_field(inner, pinfo, tvb, base, e);
     show_octets(inner, tvb, base);
     return inner;
@@ -258,32 +267,59 @@ static void show_messages(proto_tree *tree, packet_info *pinfo, tvbuff_t *tvb, g
         if (found->entries[k].what != NEGOEX_ENTRY_MESSAGE)
             memset(covered + found->entries[k].place, 1, (gsize)found->entries[k].length);
     for (k = 0; k < found->count; k = end) {
-        for (end = k + 1; end < found->count && found->entries[end].what != NEGOEX_ENTRY_MESSAGE; end++)
-            ;
+        end = message_end(found, k);
         proto_tree *inner = show_message(tree, pinfo, tvb, found->entries + k, found->entries + end);
         show_uncovered(inner, pinfo, tvb, covered, found->entries + k);
     }
 }
 
-/* The listing, line by line; a line of a message lights it. */
+/* What a line of the listing is of, by its first word. */
+static const struct {
+    const char *word;
+    guint32 what;
+} words[] = {
+    {"message", NEGOEX_ENTRY_MESSAGE},  {"scheme", NEGOEX_ENTRY_SCHEME},           {"extension", NEGOEX_ENTRY_EXTENSION_TYPE},
+    {"exchange", NEGOEX_ENTRY_EXCHANGE}, {"checksum", NEGOEX_ENTRY_CHECKSUM_VALUE}, {"error", NEGOEX_ENTRY_ERROR_CODE},
+    {"alert", NEGOEX_ENTRY_ALERT_TYPE},
+};
+
+/* Shows a line and lights what it is of: `next` is the message behind the last that a line was of. */
+static void show_line(proto_tree *tree, tvbuff_t *tvb, const char *line, const found_t *found, gsize *next, base_t *base)
+{
+    const entry_t *e = NULL;
+    gsize length = strcspn(line, " ");
+    for (guint k = 0; k < G_N_ELEMENTS(words); k++)
+        if (strlen(words[k].word) == length && !strncmp(line, words[k].word, length)) {
+            if (words[k].what == NEGOEX_ENTRY_MESSAGE && *next < found->count) {
+                gsize end = message_end(found, *next);
+                base_of(base, found->entries + *next, found->entries + end);
+                *next = end;
+            }
+            e = kind_of(base, words[k].what, (guint)g_ascii_strtoull(line + length, NULL, 10));
+        }
+    proto_item_set_generated(proto_tree_add_string(tree, hf_line, tvb, e ? e->place : 0, e ? e->length : 0, line));
+}
+
+/* The listing, line by line. */
 static void show_listing(proto_tree *tree, packet_info *pinfo, tvbuff_t *tvb, const guint8 *token, gsize size, const found_t *found)
 {
     gint64 lines = negoex_lines(token, size);
-    gsize room = 65536;
+    gsize room = 65536, next = 0;
     guint8 *text = (guint8 *)wmem_alloc(pinfo->pool, room);
+    base_t base[KINDS];
+    memset(base, 0, sizeof base);
     proto_item *item = proto_tree_add_none_format(tree, hf_listing, tvb, 0, (int)size, "Listing: %d lines", (int)lines);
     proto_tree *inner = proto_item_add_subtree(item, tree_listing);
-    (void)found;
+    proto_item_set_generated(item);
     for (gsize first = 0; first < (gsize)lines;) {
         gint64 written = negoex_window(token, size, first, SIZE_MAX, text, room);
         if (written <= 0)
             break;
         for (guint8 *line = text, *end; line < text + written && (end = (guint8 *)memchr(line, '\n', (gsize)(text + written - line))) != NULL; line = end + 1, first++) {
             *end = 0;
-            proto_item_set_generated(proto_tree_add_string(inner, hf_line, tvb, 0, 0, (const char *)line));
+            show_line(inner, tvb, (const char *)line, found, &next, base);
         }
     }
-    proto_item_set_generated(item);
 }
 
 /* A refusal: the messages before it, and the octets at fault. */
@@ -304,8 +340,11 @@ static void show_refusal(proto_tree *tree, packet_info *pinfo, tvbuff_t *tvb, co
     proto_tree *inner = proto_item_add_subtree(item, tree_fault);
     proto_item_set_generated(proto_tree_add_uint(inner, hf_fault_place, tvb, e.place, e.length, (guint32)e.place));
     proto_item_set_generated(proto_tree_add_uint(inner, hf_fault_length, tvb, e.place, e.length, (guint32)e.length));
-    if (e.what != NEGOEX_ENTRY_REST)
-        proto_item_set_generated(proto_tree_add_int(inner, hf_fault_value, tvb, e.place, e.length, (gint32)e.value));
+    /* An extension's type is signed; offsets and lengths are not. Ids, the signature and the version are no number of four octets. */
+    if (e.what == NEGOEX_ENTRY_EXTENSION_TYPE)
+        proto_item_set_generated(proto_tree_add_int(inner, hf_fault_type, tvb, e.place, e.length, (gint32)e.value));
+    else if (e.what != NEGOEX_ENTRY_REST && e.what != NEGOEX_ENTRY_SIGNATURE && e.what != NEGOEX_ENTRY_CONVERSATION && e.what != NEGOEX_ENTRY_VERSION)
+        proto_item_set_generated(proto_tree_add_uint(inner, hf_fault_value, tvb, e.place, e.length, e.value));
 }
 
 static proto_item *show_token(tvbuff_t *tvb, packet_info *pinfo, proto_tree *tree, found_t *found)
@@ -423,6 +462,15 @@ static guint schemes_met(const seen_t *seen, const field_info *of, const found_t
     return n;
 }
 
+/* The first checksum type that is below zero: the built-in dissector shows it without its sign. */
+static const entry_t *first_signed(const found_t *found)
+{
+    for (gsize k = 0; k < found->count; k++)
+        if (found->entries[k].what == NEGOEX_ENTRY_CHECKSUM_TYPE && (gint32)found->entries[k].value < 0)
+            return found->entries + k;
+    return NULL;
+}
+
 static gboolean compare(packet_info *pinfo, proto_item *top, const seen_t *seen, const field_info *theirs, const found_t *found)
 {
     guint messages = count_inside(seen->items[TYPES], theirs), schemes = count_inside(seen->items[SCHEMES], theirs);
@@ -434,6 +482,8 @@ static gboolean compare(packet_info *pinfo, proto_item *top, const seen_t *seen,
                                malformed ? " of a malformed packet" : "", found->messages, found->schemes);
     else if (!found->refused && schemes_met(seen, theirs, found) != found->schemes)
         expert_add_info_format(pinfo, top, &ei_differs, "The built-in dissector shows schemes at other octets");
+    else if (!found->refused && first_signed(found))
+        expert_add_info_format(pinfo, top, &ei_differs, "The built-in dissector shows the checksum type %d as %u", (gint32)first_signed(found)->value, first_signed(found)->value);
     else
         return FALSE;
     return TRUE;
@@ -523,7 +573,8 @@ static void register_protocol(void)
         FIELD(hf_fault, "At fault", "fault", FT_NONE, BASE_NONE, NULL),
         FIELD(hf_fault_place, "Place in the token", "fault.place", FT_UINT32, BASE_DEC, NULL),
         FIELD(hf_fault_length, "Octets", "fault.length", FT_UINT32, BASE_DEC, NULL),
-        FIELD(hf_fault_value, "Number there, signed", "fault.value", FT_INT32, BASE_DEC, NULL),
+        FIELD(hf_fault_value, "Number there", "fault.value", FT_UINT32, BASE_DEC, NULL),
+        FIELD(hf_fault_type, "Type there", "fault.type", FT_INT32, BASE_DEC, NULL),
         FIELD(hf_messages, "Messages", "messages", FT_UINT32, BASE_DEC, NULL),
         FIELD(hf_octets, "Octets", "octets", FT_UINT32, BASE_DEC, NULL),
         FIELD(hf_extension, "Extension", "extension", FT_INT32, BASE_DEC, NULL),
