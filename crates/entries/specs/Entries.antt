@@ -19,6 +19,7 @@
 --   idEntry           the entry of the scheme k of a list; typeEntry: of the type of extension or alert k; valueEntry: of the vector of its value
 --   listed f n k      f of the n numbers from k on
 --   elementsIn, listsIn, bodyIn   the entries of a message's extensions or alerts; with the schemes before them; with the vectors before those
+--   shapedIn          all of a message of a layout
 --   entriesIn p i m   all of the message m at the token place p, message i: itself, its header's fields, its vectors, its list of schemes, then the types and
 --                     then the values' vectors of its extensions or alerts
 --   entriesFrom i ms  those of placed messages, the first of which is message i; entriesOf ms: of a token's
