@@ -70,7 +70,7 @@ expect 'damaged copies' "$(grep -c '^file ' "$work/listings")" "$(wc -l <"$work/
 
 # all PROGRAM [WORD]: the answers over the examples and the damaged copies
 all() {
-    "$1" check crates/examples/stdout crates/examples/data ${2-} && "$1" check "$work/listings" "$work/damaged" ${2-}
+    "$1" check crates/examples/stdout crates/examples/data ${2-} && "$1" check "$work/listings" "$work/damaged" ${2-} && "$1" envelopes crates/envelopes/stdout crates/envelopes/data
 }
 
 # no_wrong WHAT PROGRAM [WORD]: none of them is wrong
@@ -81,7 +81,7 @@ no_wrong() {
     status=$?
     expect "$what" "$status$(cat "$work/said")" 0
     grep -c ' 0 wrong$' "$work/answers" >"$work/count"
-    expect "$what: both runs" "$(cat "$work/count")" 2
+    expect "$what: all three runs" "$(cat "$work/count")" 3
 }
 
 [ -z "$compiler" ] || no_wrong "answers, compiled by the kit" "$work/host-kit" few
