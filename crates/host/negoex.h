@@ -130,6 +130,10 @@ int64_t negoex_entries(const uint8_t *token, size_t token_size, size_t first, ui
    where the token is accepted; a refusal, -16, only where the buffer has no room for it. */
 int64_t negoex_fault(const uint8_t *token, size_t token_size, uint8_t *buffer, size_t buffer_size);
 
+/* Writes an octet for each octet of the token to the buffer's front: 1 where it is covered, that is, lies in a header and in no pad, or in what a vector points at;
+   0 where nothing covers it. Runs of zeros are the stretches that nothing points at. The answer is the token's size; a refusal behind the token's own is 16. */
+int64_t negoex_coverage(const uint8_t *token, size_t token_size, uint8_t *buffer, size_t buffer_size);
+
 /* The place and the length of the token in an SPNEGO envelope, a NegTokenInit in its wrapper or a NegTokenResp (RFC 4178). Refusals: 1, and 20 to 23, as
    README.md has them; then 19 where the envelope has no token. */
 int64_t negoex_envelope_place(const uint8_t *envelope, size_t envelope_size);

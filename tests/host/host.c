@@ -176,6 +176,23 @@ static void check_some(const uint8_t *wanted, size_t first, size_t size)
     free(buffer);
 }
 
+/* Which octets are covered: those of the header's fields but for pads, and what vectors point at. */
+static void check_coverage(void)
+{
+    uint8_t *wanted = room_for(now.size), *buffer = filled(now.size + 3);
+    size_t k;
+    memset(wanted, 0, now.size);
+    for (k = 0; k < entries; k++)
+        if (entry[6 * k] != NEGOEX_ENTRY_MESSAGE && entry[6 * k] != NEGOEX_ENTRY_PAD)
+            memset(wanted + entry[6 * k + 4], 1, entry[6 * k + 5]);
+    expect("coverage", 0, 0, now.size - 1, negoex_coverage(now.octets, now.size, buffer, now.size - 1), -16);
+    expect_buffer("coverage's buffer", 0, 0, buffer, now.size + 3, "", 0);
+    expect("coverage", 0, 0, now.size + 3, negoex_coverage(now.octets, now.size, buffer, now.size + 3), (int64_t)now.size);
+    expect_buffer("coverage's buffer", 0, 1, buffer, now.size + 3, wanted, now.size);
+    free(wanted);
+    free(buffer);
+}
+
 static void check_entries(void)
 {
     uint8_t *wanted = room_for(24 * entries), none[24];
@@ -368,6 +385,7 @@ static void check_refused(int64_t number, int64_t place)
         expect("window", k, 9, sizes[k], negoex_window(now.octets, now.size, k, 9, buffer, sizes[k]), -number);
         expect("table", 0, 0, sizes[k], negoex_table(now.octets, now.size, buffer, sizes[k]), -number);
         expect("entries", k, 0, sizes[k], negoex_entries(now.octets, now.size, k, buffer, sizes[k]), -number);
+        expect("coverage", 0, 0, sizes[k], negoex_coverage(now.octets, now.size, buffer, sizes[k]), -number);
         expect_buffer("buffer", k, 0, buffer, sizes[k], "", 0);
         free(buffer);
     }
@@ -469,6 +487,7 @@ static void check_accepted(int few)
     expect("messages listed", 0, 0, 0, (int64_t)message, (int64_t)messages);
     check_table();
     check_entries();
+    check_coverage();
     free(table);
     free(entry);
     for (beyond = 0; beyond < 2; beyond++) {

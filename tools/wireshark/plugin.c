@@ -243,7 +243,7 @@ static proto_tree *show_message(proto_tree *tree, packet_info *pinfo, tvbuff_t *
     return inner;
 }
 
-/* Each stretch of a message that nothing covers, pads aside. */
+/* Each stretch of a message that nothing covers, pads aside: those are fields of the header. */
 static void show_uncovered(proto_tree *tree, packet_info *pinfo, tvbuff_t *tvb, const guint8 *covered, const entry_t *message)
 {
     int end = message->place + message->length;
@@ -259,12 +259,14 @@ static void show_uncovered(proto_tree *tree, packet_info *pinfo, tvbuff_t *tvb, 
     }
 }
 
-static void show_messages(proto_tree *tree, packet_info *pinfo, tvbuff_t *tvb, gsize size, const found_t *found)
+static void show_messages(proto_tree *tree, packet_info *pinfo, tvbuff_t *tvb, const guint8 *token, gsize size, const found_t *found)
 {
     guint8 *covered = (guint8 *)wmem_alloc0(pinfo->pool, size + 1);
     gsize k, end;
+    if (negoex_coverage(token, size, covered, size) < 0)
+        return;
     for (k = 0; k < found->count; k++)
-        if (found->entries[k].what != NEGOEX_ENTRY_MESSAGE)
+        if (found->entries[k].what == NEGOEX_ENTRY_PAD)
             memset(covered + found->entries[k].place, 1, (gsize)found->entries[k].length);
     for (k = 0; k < found->count; k = end) {
         end = message_end(found, k);
@@ -332,7 +334,7 @@ static void show_refusal(proto_tree *tree, packet_info *pinfo, tvbuff_t *tvb, co
         e = entry_at(octets);
     if (found->place > 0) {
         read_entries(pinfo, token, (gsize)found->place, found);
-        show_messages(tree, pinfo, tvb, (gsize)found->place, found);
+        show_messages(tree, pinfo, tvb, token, (gsize)found->place, found);
     }
     const char *name = val_to_str_const(e.what, names, "octets");
     proto_item *item = proto_tree_add_none_format(tree, hf_fault, tvb, e.place, e.length, "At fault: %s, %d octets at %d of the token", name, e.length, e.place);
@@ -374,7 +376,7 @@ static proto_item *show_token(tvbuff_t *tvb, packet_info *pinfo, proto_tree *tre
     proto_item_append_text(top, ": %d message%s, %u octets", (int)answer, answer == 1 ? "" : "s", (guint)size);
     proto_item_set_generated(proto_tree_add_uint(inner, hf_messages, tvb, 0, 0, (guint32)answer));
     read_entries(pinfo, token, size, found);
-    show_messages(inner, pinfo, tvb, size, found);
+    show_messages(inner, pinfo, tvb, token, size, found);
     show_listing(inner, pinfo, tvb, token, size, found);
     return top;
 }

@@ -6,7 +6,7 @@ ghost use Rattle.token.specs.Token.{tokenOf};
 ghost use Rattle.token.specs.Walk.{messagesOf, Accepts};
 ghost use Rattle.listing.specs.Listing.{allLines};
 ghost use Rattle.replies.specs.Replies.{lent, messagesAnswer, placeAnswer, fieldAnswer, conversationAnswer, vectorsAnswer, vectorPlaceAnswer, vectorLengthAnswer, tableAnswer};
-ghost use Rattle.viewing.specs.Viewing.{entryCountAnswer, entriesAnswer, faultAnswer, envelopePlaceAnswer, envelopeLengthAnswer};
+ghost use Rattle.viewing.specs.Viewing.{entryCountAnswer, entriesAnswer, faultAnswer, coverageAnswer, envelopePlaceAnswer, envelopeLengthAnswer};
 ghost use Rattle.host.specs.Host.{linesAnswer, windowAnswer};
 use lines::count;
 use listing::window;
@@ -103,6 +103,14 @@ pub extern "C" fn negoex_fault(token: &[u8], buffer: &mut [u8]) -> i64
     ensures { λ r. ⌜ lent r (now (buffer .exit)) ≡ faultAnswer (now (token .entry)) (now (buffer .entry)) ⌝ }
 {
     viewing::write_fault(token, buffer)
+}
+
+// An octet for each of the token's, at the buffer's front: 1 where it is covered, 0 where nothing covers it.
+#[no_mangle]
+pub extern "C" fn negoex_coverage(token: &[u8], buffer: &mut [u8]) -> i64
+    ensures { λ r. ⌜ lent r (now (buffer .exit)) ≡ coverageAnswer (now (token .entry)) (now (buffer .entry)) ⌝ }
+{
+    viewing::write_coverage(token, buffer)
 }
 
 // The place of the token in an envelope.

@@ -6,6 +6,7 @@
 --   entriesAnswer s k d       those of the token s, at the front of the buffer d
 --   faultReply r s room       the entry of the fault of the token s by its reading r: nothing where it is accepted, 16 where it doesn't fit into the room
 --   faultAnswer s d           that entry at the front of the buffer d
+--   coverageAnswer s d        an octet for each of the token's, 1 where it is covered and 0 where nothing covers it, at the front of the buffer d
 --   spanReply g               a token's span in an envelope, or the refusal
 --   envelopePlaceAnswer s     the place of the token in the envelope s; envelopeLengthAnswer: its length
 use Prim.Native.Nat.{ℕ, _/_}
@@ -18,6 +19,7 @@ use Rattle.der.specs.Got.{Got, ok, no}
 use Rattle.token.specs.Token.{Reading, Accepted, Refused, tokenOf}
 use Rattle.entries.specs.declared.Entry.{Entry}
 use Rattle.entries.specs.Entries.{entriesOf, entryOctets}
+use Rattle.blanking.specs.Masked.{coverageOf}
 use Rattle.envelope_token.specs.Tokens.{Span, carriedOf}
 use Rattle.faults.specs.Faults.{faultOf}
 use Rattle.replies.specs.Replies.{Reply, given, refused, andThen, messagesReply, itemAt, fits, answerOf, Lent, writtenIn}
@@ -40,6 +42,10 @@ faultReply (Refused n place) s room = fits room (entryOctets (faultOf s ∷ []))
 
 abbrev pub faultAnswer : List ℕ → List ℕ → Lent
 faultAnswer s d = writtenIn d (faultReply (tokenOf s) s (length d))
+
+-- C-24: "Octets that nothing points at"
+abbrev pub coverageAnswer : List ℕ → List ℕ → Lent
+coverageAnswer s d = writtenIn d (andThen (messagesReply s) (λ ms. fits (length d) (coverageOf s)))
 
 -- C-16: "The token's octets are handed back, for the structural reading, as part of the caller's buffer."
 abbrev pub spanReply : Got Span → Reply Span
