@@ -4,6 +4,7 @@
  *   host check LISTINGS FOLDER [few]   LISTINGS has for each token the line `file NAME` and its listing behind it; the token's octets are in FOLDER/NAME.
  *                                      What each function answers is worked out from the listing's text and the token's octets. `few`: fewer windows.
  *   host envelopes SHOWN FOLDER        SHOWN has for each envelope the line `file NAME` and what `unwrap` says of it behind it
+ *   host fault FILE                    prints the octets at fault of the token in FILE: the first and their number
  *   host damage FOLDER NAME OUT        writes damaged copies of FOLDER/NAME to the folder OUT, and their names to standard output
  *
  * Tokens and buffers stand in memory of exactly their size, so that a tool that watches memory sees an access beside them.
@@ -217,9 +218,9 @@ static void check_entries(void)
 }
 
 /* Whether the vector whose offset stands at `at` breaks the rule in the message at `place`. */
-static int breaks(size_t place, uint32_t header, size_t at, uint64_t length)
+static int breaks(size_t place, uint32_t header, size_t at, int64_t length)
 {
-    uint64_t offset = le(at, 4);
+    int64_t offset = le(at, 4);
     return length != 0 && (offset < header || offset + length > le(place + 20, 4));
 }
 
@@ -238,12 +239,12 @@ static void broken_vector(size_t place, uint32_t *what, size_t *number, size_t *
     *size = 6;
     *what = NEGOEX_ENTRY_SCHEME_VECTOR;
     *at = place + 80;
-    if (kind <= 1 && breaks(place, header, *at, 16 * (uint64_t)le(*at + 4, 2)))
+    if (kind <= 1 && breaks(place, header, *at, 16 * (int64_t)le(*at + 4, 2)))
         return;
     *what = kind <= 1 ? NEGOEX_ENTRY_EXTENSION_VECTOR : NEGOEX_ENTRY_ALERT_VECTOR;
     *at = place + (kind <= 1 ? 88 : 60);
     count = le(*at + 4, 2);
-    if (breaks(place, header, *at, 12 * (uint64_t)count))
+    if (breaks(place, header, *at, 12 * (int64_t)count))
         return;
     array = place + le(*at, 4);
     *what = kind <= 1 ? NEGOEX_ENTRY_EXTENSION_VALUE_VECTOR : NEGOEX_ENTRY_ALERT_VALUE_VECTOR;
@@ -625,14 +626,30 @@ static int damage(const char *folder, const char *from, const char *out)
     return 0;
 }
 
+static int fault(const char *path)
+{
+    uint8_t octets[24];
+    size_t k;
+    now = load(path);
+    if (!now.octets || negoex_fault(now.octets, now.size, octets, sizeof octets) != 24)
+        return 1;
+    free(now.octets);
+    now.octets = octets;
+    for (k = 16; k <= 20; k += 4)
+        printf("%lu%c", (unsigned long)le(k, 4), k == 16 ? ' ' : '\n');
+    return 0;
+}
+
 int main(int argc, char **argv)
 {
+    if (argc == 3 && strcmp(argv[1], "fault") == 0)
+        return fault(argv[2]);
     if (argc >= 4 && strcmp(argv[1], "check") == 0)
         return check(argv[2], argv[3], argc > 4, 0);
     if (argc == 4 && strcmp(argv[1], "envelopes") == 0)
         return check(argv[2], argv[3], 0, 1);
     if (argc == 5 && strcmp(argv[1], "damage") == 0)
         return damage(argv[2], argv[3], argv[4]);
-    fprintf(stderr, "usage: host check LISTINGS FOLDER [few] | host envelopes SHOWN FOLDER | host damage FOLDER NAME OUT\n");
+    fprintf(stderr, "usage: host check LISTINGS FOLDER [few] | host envelopes SHOWN FOLDER | host fault FILE | host damage FOLDER NAME OUT\n");
     return 2;
 }
