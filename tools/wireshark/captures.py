@@ -2,7 +2,7 @@
 """captures.py ENVELOPES TOKENS FOLDER
 
 Writes captures into FOLDER: http.pcap, ldap.pcap and smb2.pcap carry the SPNEGO envelopes in the folder ENVELOPES (NAME-NN-i.spnego and NAME-NN-a.spnego, a
-conversation a NAME, from the initiator or the acceptor), each conversation over one connection; raw.pcap has each token in TOKENS as a packet of its own, handed
+conversation a NAME, from the initiator or the acceptor), each conversation over one connection; late.pcap has LDAP without each conversation's first message; raw.pcap has each token in TOKENS as a packet of its own, handed
 to the dissector `negoex_proved`, and both.pcap handed to Wireshark's own, `negoex`. Beside each, NAME.order has the files in the order of their packets.
 """
 import base64, os, re, struct, sys
@@ -97,17 +97,17 @@ def conversations(folder):
 
 
 def main(envelopes, tokens, folder):
-    for protocol, port in ((http, 80), (ldap, 389), (smb2, 445)):
-        pcap, order = Pcap(os.path.join(folder, protocol.__name__ + '.pcap'), 1), []
+    for title, protocol, port, begin in (('http', http, 80, 0), ('ldap', ldap, 389, 0), ('smb2', smb2, 445, 0), ('late', ldap, 389, 1)):
+        pcap, order = Pcap(os.path.join(folder, title + '.pcap'), 1), []
         for number, (_, files) in enumerate(sorted(conversations(envelopes).items())):
             connection = Connection(pcap, 40000 + number, port)
-            for k, (end, name) in enumerate(files):
+            for k, (end, name) in list(enumerate(files))[begin:]:
                 envelope = open(os.path.join(envelopes, name), 'rb').read()
                 if protocol is smb2 and len(envelope) > 65535:
                     continue  # its length has two octets there
                 connection.send(end, protocol(end, envelope, k))
                 order.append(name)
-        open(os.path.join(folder, protocol.__name__ + '.order'), 'w').write('\n'.join(order) + '\n')
+        open(os.path.join(folder, title + '.order'), 'w').write('\n'.join(order) + '\n')
     for name, dissector in (('raw', b'negoex_proved\0\0\0'), ('both', b'negoex\0\0')):
         pcap, files = Pcap(os.path.join(folder, name + '.pcap'), 252), sorted(os.listdir(tokens))
         for file in files:

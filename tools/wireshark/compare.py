@@ -79,7 +79,7 @@ def token_of(envelope, folder):
 
 def main(folder, envelopes, tshark):
     wrong = 0
-    for name in ('http', 'ldap', 'smb2', 'raw', 'both'):
+    for name in ('http', 'ldap', 'smb2', 'late', 'raw', 'both'):
         files = open(os.path.join(folder, name + '.order')).read().split('\n')[:-1]
         if name in ('raw', 'both'):
             paths = [os.path.join(folder, 'tokens', f) for f in files]

@@ -48,7 +48,7 @@ vectors-fail shape len m (v ∷ vs) k cs e = elim (which (keepsRule (headerOf sh
   | inr t ↦ inl (t, (refl, sym (ap (λ (b : Bool). vectorSpot shape m (cond b (firstBroken (headerOf shape) len vs (k + 1)) k)) t)))
 ]
 
-broken-few : (header len : ℕ) (vs : List Vector) (k : ℕ) → allKeepRule header len vs ≡ false → firstBroken header len vs k < k + length vs
+pub broken-few : (header len : ℕ) (vs : List Vector) (k : ℕ) → allKeepRule header len vs ≡ false → firstBroken header len vs k < k + length vs
 unfolding allKeepRule firstBroken
 broken-few header len [] k e = absurd (no e) where
   no : true ≡ false → ⊥
@@ -80,7 +80,7 @@ module _ (m : List ℕ) (shape : Shape) (is : shapeOf (headOf m .kind) ≡ shape
   unfolding vectorsIn
   own-vectors = let h : headerIn m ≤ length m = subst (λ (x : Shape). headerOf x ≤ length m) (sym is) room in (rw (le-leb _ _ h) refl) ∙ ap (λ (x : Shape). vectorsOf (contentOf x m)) is
 
-  broken-is : allKeepRule (headerOf shape) (length m) (vectorsOf (contentOf shape m)) ≡ false → vectorSpot shape m (firstBroken (headerOf shape) (length m) (vectorsOf (contentOf shape m)) 0) ≡ brokenSpot m
+  pub broken-is : allKeepRule (headerOf shape) (length m) (vectorsOf (contentOf shape m)) ≡ false → vectorSpot shape m (firstBroken (headerOf shape) (length m) (vectorsOf (contentOf shape m)) 0) ≡ brokenSpot m
   unfolding brokenSpot
   broken-is e =
       let b : brokenIn m ≡ firstBroken (headerOf shape) (length m) (vectorsOf (contentOf shape m)) 0 =
@@ -99,7 +99,7 @@ module _ (m : List ℕ) (shape : Shape) (is : shapeOf (headOf m .kind) ≡ shape
       (subst (λ (x : Spot). FirstCheck 11 x (vectorChecks shape (length m) m (vectorsOf (contentOf shape m)) 0 ++ cs)) at (vectors-fail shape (length m) m (vectorsOf (contentOf shape m)) 0 cs f))
 
 -- the rule of a NEGO's extension vector, which stands second
-second-keeps : (m : List ℕ) → allKeepRule 96 (length m) (vectorsOf (contentOf nego m)) ≡ true → keepsRule 96 (length m) (extensionVector m) ≡ true
+pub second-keeps : (m : List ℕ) → allKeepRule 96 (length m) (vectorsOf (contentOf nego m)) ≡ true → keepsRule 96 (length m) (extensionVector m) ≡ true
 unfolding vectorsOf contentOf allKeepRule
 second-keeps m e =
     let vs = valuesOf (elementsOf (part m (extensionVector m))) in
@@ -107,16 +107,16 @@ second-keeps m e =
     and-r (keepsRule 96 (length m) (schemeVector m)) (keepsRule 96 (length m) (extensionVector m) && allKeepRule 96 (length m) vs) e in
     and-l (keepsRule 96 (length m) (extensionVector m)) (allKeepRule 96 (length m) vs) rest
 
-critical-is : (m : List ℕ) → 96 ≤ length m → keepsRule 96 (length m) (extensionVector m) ≡ true
+pub critical-is : (m : List ℕ) → 96 ≤ length m → keepsRule 96 (length m) (extensionVector m) ≡ true
     → spot 27 (firstCritical (elementsOf (part m (extensionVector m))) 0) (extensionVector m .offset .0 + 12 * firstCritical (elementsOf (part m (extensionVector m))) 0) 4 ≡ criticalSpot m
 unfolding criticalSpot shown
 critical-is m h e = sym (simp (le-leb _ _ h, e))
 
-checksum-header-is : (m : List ℕ) → 80 ≤ length m → eqb (le 4 m 56) 20 ≡ false → spot 13 0 56 4 ≡ checksumSpot m
+pub checksum-header-is : (m : List ℕ) → 80 ≤ length m → eqb (le 4 m 56) 20 ≡ false → spot 13 0 56 4 ≡ checksumSpot m
 unfolding checksumSpot
 checksum-header-is m h e = sym (simp (le-leb _ _ h, e))
 
-checksum-scheme-is : (m : List ℕ) → 80 ≤ length m → eqb (le 4 m 56) 20 ≡ true → spot 14 0 60 4 ≡ checksumSpot m
+pub checksum-scheme-is : (m : List ℕ) → 80 ≤ length m → eqb (le 4 m 56) 20 ≡ true → spot 14 0 60 4 ≡ checksumSpot m
 unfolding checksumSpot
 checksum-scheme-is m h e = sym (simp (le-leb _ _ h, e))
 

@@ -7,6 +7,8 @@
 --   contentChecks      10 to 13 of a message m of `len` octets, by its layout
 --   checksOf s q v     all of the message at the front of s, in order: the tests of `nextRows`, field by field
 --   FirstCheck n x cs  the first check that fails has the number n and the spot x: all before it pass
+--   Within x n         the spot x has two octets at the least, and lies in n octets
+--   FaultWithin        of a refused token with a field at fault, that field lies in what is left of it: faultEntry shows it
 --   FaultFirst         of a token that is refused with n at a place, the field that spotOf names for n is the one whose check is the first to fail, for the message at that place
 use Prim.Native.Nat.{ℕ, _+_, _*_, _<_, _≤_}
 use mathlib.Core.Path.{_≡_}
@@ -78,3 +80,13 @@ abbrev pub FaultFirst : Type 0
 FaultFirst =
     (s : List ℕ) (n p : ℕ) → tokenOf s ≡ Refused n p → 0 < length s → length s ≤ 65535
     → (q : ℕ) × ((v : List ℕ) × FirstCheck n (spotOf n (firstOf (drop p s))) (checksOf (drop p s) q v))
+
+pub record Within (x : Spot) (n : ℕ) : Type 0 where
+  pub some : 2 ≤ x .size
+  pub inside : x .at + x .size ≤ n
+
+-- 2 has no field
+abbrev pub FaultWithin : Type 0
+FaultWithin =
+    (s : List ℕ) (n p : ℕ) → tokenOf s ≡ Refused n p → 0 < length s → length s ≤ 65535 → (n ≡ 2 → ⊥)
+    → Within (spotOf n (firstOf (drop p s))) (length (drop p s))
