@@ -1,7 +1,7 @@
 /*
  * NEGOEX tokens in Wireshark as the proved library reads them: a tree beside that of Wireshark's own dissector, and where the two differ.
  *
- * Copyright (C) 2026 the authors of this repository
+ * Copyright (C) 2026 Gurxoobeyd
  * SPDX-License-Identifier: GPL-2.0-or-later
  *
  * No layout stands here. What a token holds, and where each field of it lies, are the answers of crates/host/negoex.h; this file names them, lights their octets
