@@ -1,7 +1,7 @@
 /*
  * NEGOEX tokens in Wireshark as the proved library reads them: a tree beside that of Wireshark's own dissector, and where the two differ.
  *
- * Copyright (C) 2026 the authors of this repository
+ * Copyright (C) 2026 Gurxoobeyd
  * SPDX-License-Identifier: GPL-2.0-or-later
  *
  * No layout stands here. What a token holds, and where each field of it lies, are the answers of crates/host/negoex.h; this file names them, lights their octets
@@ -395,8 +395,9 @@ static int dissect(tvbuff_t *tvb, packet_info *pinfo, proto_tree *tree, void *da
 /* ---- tokens in the finished tree of a packet */
 
 /* Fields of other dissectors that are looked at, by name: several may share one. */
-enum { THEIRS, TOKENS, RESPONSES, MICS, TYPES, SCHEMES, MALFORMED, ENVELOPES, WATCHED };
-static const char *const watched_name[WATCHED] = {"negoex", "spnego.mechToken", "spnego.responseToken", "spnego.mechListMIC", "negoex.message.type", "negoex.auth_scheme", "_ws.malformed", "gss-api"};
+enum { THEIRS, TOKENS, RESPONSES, MICS, TYPES, SCHEMES, MALFORMED, ENVELOPES, BLOBS, WATCHED = BLOBS + 4 };
+static const char *const watched_name[WATCHED] = {"negoex", "spnego.mechToken", "spnego.responseToken", "spnego.mechListMIC", "negoex.message.type", "negoex.auth_scheme", "_ws.malformed", "gss-api",
+                                                  "ldap.credentials", "ldap.serverSaslCreds", "smb2.security_blob", "smb.security_blob"};
 static GArray *watched_id[WATCHED];
 
 typedef struct {
@@ -539,11 +540,12 @@ static void show_tokens(packet_info *pinfo, proto_tree *tree, const seen_t *seen
             if (!count_inside(seen->items[THEIRS], f) && begins(f->ds_tvb, f->start, f->length))
                 show_item(pinfo, tree, seen, f, FALSE);
         }
-    for (k = 0; k < seen->items[ENVELOPES]->len; k++) {
-        const field_info *f = (const field_info *)seen->items[ENVELOPES]->pdata[k];
-        if (!count_inside(seen->items[THEIRS], f) && !count_inside(seen->items[TOKENS], f) && !count_inside(seen->items[RESPONSES], f))
-            show_envelope(pinfo, tree, f);
-    }
+    for (int w = ENVELOPES; w < WATCHED; w++) /* and where nobody looked inside, as in a conversation whose beginning the capture lacks */
+        for (k = 0; k < seen->items[w]->len; k++) {
+            const field_info *f = (const field_info *)seen->items[w]->pdata[k];
+            if (!count_inside(seen->items[THEIRS], f) && !count_inside(seen->items[TOKENS], f) && !count_inside(seen->items[RESPONSES], f) && (w == ENVELOPES || !count_inside(seen->items[ENVELOPES], f)))
+                show_envelope(pinfo, tree, f);
+        }
 }
 
 static int look_behind(tvbuff_t *tvb _U_, packet_info *pinfo, proto_tree *tree, void *data _U_)

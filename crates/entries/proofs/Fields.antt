@@ -11,12 +11,12 @@ use lib.Seq.{getD-append-add}
 use lib.Dec.{leb, ltb}
 use borrow.Author.Tests.{leb-true, lt-ltb, le-ltb}
 use Rattle.octets.proofs.Bools.{and-l, and-r}
-use Rattle.octets.specs.Octets.{le}
-use Rattle.message.specs.Layout.{Shape, nego, exchange, verify, alert, shapeOf, headerOf}
+use Rattle.octets.specs.Octets.{le, octets}
+use Rattle.message.specs.Layout.{Shape, nego, exchange, verify, alert, shapeOf, headerOf, Head, headOf, contentOf}
 use Rattle.entries.specs.declared.Entry.{Entry}
 use Rattle.entries.specs.Entries.{Field, fieldsOf, noField, fieldAt, numberAt, fieldEntry, headerEntry}
 use Rattle.entries.specs.Lookup.{flat, tableEntry, Row}
-use Rattle.entries.specs.Claims.{FieldsTile, PadsListed}
+use Rattle.entries.specs.Claims.{FieldsTile, PadsListed, FieldsRead}
 
 pub fields-tile : FieldsTile
 fields-tile nego = refl
@@ -29,6 +29,17 @@ pads-listed nego = refl
 pads-listed exchange = refl
 pads-listed verify = refl
 pads-listed alert = refl
+
+head-read : (m : List ℕ) (shape : Shape) → _≡_ {A = Head} (record { signature = le (fieldAt shape 0 .size) m (fieldAt shape 0 .at); kind = le (fieldAt shape 1 .size) m (fieldAt shape 1 .at); sequence = le (fieldAt shape 2 .size) m (fieldAt shape 2 .at); header = le (fieldAt shape 3 .size) m (fieldAt shape 3 .at); length = le (fieldAt shape 4 .size) m (fieldAt shape 4 .at); conversation = octets (fieldAt shape 5 .size) m (fieldAt shape 5 .at) }) (headOf m)
+unfolding headOf
+head-read m nego = refl
+head-read m exchange = refl
+head-read m verify = refl
+head-read m alert = refl
+
+pub fields-read : FieldsRead
+unfolding contentOf
+fields-read m = (head-read m, (refl, (refl, (refl, refl))))
 
 -- ---- a table, three numbers a row
 three : (a b c : ℕ) (l : List ℕ) (x : ℕ) → getD (a ∷ b ∷ c ∷ l) (3 + x) 0 ≡ getD l x 0
