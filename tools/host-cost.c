@@ -13,6 +13,7 @@
 #define RUNS 21
 
 static uint8_t token[65536], table[65536], text[4000000];
+static uint8_t entries[NEGOEX_ENTRY_SIZE * 65536];
 static size_t size;
 static volatile int64_t sum;
 
@@ -72,6 +73,16 @@ static void in_table(void)
     sum += negoex_table(token, size, table, sizeof table);
 }
 
+static void in_entries(void)
+{
+    sum += negoex_entries(token, size, 0, entries, sizeof entries);
+}
+
+static void in_coverage(void)
+{
+    sum += negoex_coverage(token, size, table, sizeof table);
+}
+
 static void in_text(void)
 {
     sum += negoex_window(token, size, 0, SIZE_MAX, text, sizeof text);
@@ -109,6 +120,8 @@ static void all(const char *what)
     measure("one call", once);
     measure("each number", each);
     measure("table", in_table);
+    measure("entries", in_entries);
+    measure("coverage", in_coverage);
     measure("listing", in_text);
 }
 

@@ -73,6 +73,72 @@ int64_t negoex_window(const uint8_t *token, size_t token_size, size_t first, siz
    The table is never longer than the token: a buffer of `token_size` octets is enough. */
 int64_t negoex_table(const uint8_t *token, size_t token_size, uint8_t *buffer, size_t buffer_size);
 
+/* The entries of a token: all that a viewer shows of it, in one pass. Of each message, in order: the message itself, the fields of its header in order, pads
+   too, the octets that its vectors point at, its list of schemes, and of its extensions or alerts first the types and then the vectors of the values.
+   An entry has NEGOEX_ENTRY_SIZE octets: six numbers in four octets each, least significant first:
+     what it is, by the numbers below;
+     its message's number;
+     its number in its list, 0 where it stands in none;
+     its value: the number in its first four octets, or in two where it has two; where it isn't a number, as of an id, its first four octets all the same.
+       An extension's type, a checksum type and an error code are signed: cast the value to int32_t;
+     its place in the token; that of an empty vector is its message's;
+     its length in octets.
+   Fields of a header, and the schemes, types and vectors of a list, follow one another without gaps: no layout has to be known. */
+#define NEGOEX_ENTRY_SIZE 24
+#define NEGOEX_ENTRY_MESSAGE 0                 /* a message; its value is its type */
+#define NEGOEX_ENTRY_SIGNATURE 1               /* the fields of the common header */
+#define NEGOEX_ENTRY_TYPE 2
+#define NEGOEX_ENTRY_SEQUENCE 3
+#define NEGOEX_ENTRY_HEADER_LENGTH 4
+#define NEGOEX_ENTRY_MESSAGE_LENGTH 5
+#define NEGOEX_ENTRY_CONVERSATION 6
+#define NEGOEX_ENTRY_RANDOM 7                  /* types 0, 1 */
+#define NEGOEX_ENTRY_VERSION 8
+#define NEGOEX_ENTRY_SCHEME_VECTOR 9           /* types 0, 1: offset and count, as they stand; the value is the offset */
+#define NEGOEX_ENTRY_EXTENSION_VECTOR 10
+#define NEGOEX_ENTRY_SCHEME 11                 /* the scheme of types 2 to 7, and each id of the list of types 0, 1 */
+#define NEGOEX_ENTRY_EXCHANGE_VECTOR 12        /* types 2 to 5 */
+#define NEGOEX_ENTRY_CHECKSUM_HEADER 13        /* type 6 */
+#define NEGOEX_ENTRY_CHECKSUM_SCHEME 14
+#define NEGOEX_ENTRY_CHECKSUM_TYPE 15
+#define NEGOEX_ENTRY_CHECKSUM_VECTOR 16
+#define NEGOEX_ENTRY_ERROR_CODE 17             /* type 7 */
+#define NEGOEX_ENTRY_ALERT_VECTOR 18
+#define NEGOEX_ENTRY_PAD 19                    /* a pad of a header */
+#define NEGOEX_ENTRY_SCHEMES 20                /* the octets that a vector points at; the value is the offset as it stands */
+#define NEGOEX_ENTRY_EXTENSIONS 21
+#define NEGOEX_ENTRY_EXTENSION_VALUE 22
+#define NEGOEX_ENTRY_EXCHANGE 23
+#define NEGOEX_ENTRY_CHECKSUM_VALUE 24
+#define NEGOEX_ENTRY_ALERTS 25
+#define NEGOEX_ENTRY_ALERT_VALUE 26
+#define NEGOEX_ENTRY_EXTENSION_TYPE 27         /* the fields of an extension */
+#define NEGOEX_ENTRY_EXTENSION_VALUE_VECTOR 28
+#define NEGOEX_ENTRY_ALERT_TYPE 29             /* the fields of an alert */
+#define NEGOEX_ENTRY_ALERT_VALUE_VECTOR 30
+#define NEGOEX_ENTRY_REST 31                   /* octets and no field: of negoex_fault alone */
+
+/* The number of entries of a token: no more than the token has octets. */
+int64_t negoex_entry_count(const uint8_t *token, size_t token_size);
+
+/* Writes entries to the buffer's front: from number `first` on, as many whole ones as fit. The answer is the number of octets written. Refusals: 19 where `first`
+   is beyond the last entry, 16 where the buffer has no room for one. A buffer of NEGOEX_ENTRY_SIZE * token_size octets has room for all. */
+int64_t negoex_entries(const uint8_t *token, size_t token_size, size_t first, uint8_t *buffer, size_t buffer_size);
+
+/* Writes the octets at fault of a refused token to the buffer's front, as one entry: the field whose test fails first, all fields before it having passed. Of
+   refusal 1 it is the first octet too many, of 2 the octets that are left, both NEGOEX_ENTRY_REST. The answer is NEGOEX_ENTRY_SIZE; 0, with nothing written,
+   where the token is accepted; a refusal, -16, only where the buffer has no room for it. */
+int64_t negoex_fault(const uint8_t *token, size_t token_size, uint8_t *buffer, size_t buffer_size);
+
+/* Writes an octet for each octet of the token to the buffer's front: 1 where it is covered, that is, lies in a header and in no pad, or in what a vector points at;
+   0 where nothing covers it. Runs of zeros are the stretches that nothing points at. The answer is the token's size; a refusal behind the token's own is 16. */
+int64_t negoex_coverage(const uint8_t *token, size_t token_size, uint8_t *buffer, size_t buffer_size);
+
+/* The place and the length of the token in an SPNEGO envelope, a NegTokenInit in its wrapper or a NegTokenResp (RFC 4178). Refusals: 1, and 20 to 23, as
+   README.md has them; then 19 where the envelope has no token. */
+int64_t negoex_envelope_place(const uint8_t *envelope, size_t envelope_size);
+int64_t negoex_envelope_length(const uint8_t *envelope, size_t envelope_size);
+
 #ifdef __cplusplus
 }
 #endif

@@ -3,6 +3,8 @@
  *
  *   host check LISTINGS FOLDER [few]   LISTINGS has for each token the line `file NAME` and its listing behind it; the token's octets are in FOLDER/NAME.
  *                                      What each function answers is worked out from the listing's text and the token's octets. `few`: fewer windows.
+ *   host envelopes SHOWN FOLDER        SHOWN has for each envelope the line `file NAME` and what `unwrap` says of it behind it
+ *   host fault FILE                    prints the octets at fault of the token in FILE: the first and their number
  *   host damage FOLDER NAME OUT        writes damaged copies of FOLDER/NAME to the folder OUT, and their names to standard output
  *
  * Tokens and buffers stand in memory of exactly their size, so that a tool that watches memory sees an access beside them.
@@ -85,6 +87,222 @@ static int starts(size_t k, const char *word)
     return k < lines && strncmp(line[k], word, strlen(word)) == 0;
 }
 
+/* The entries of the token, worked out by the layouts as document 01's table has them: six numbers each. */
+static uint32_t *entry;
+static size_t entries;
+
+static void add_entry(uint32_t what, size_t message, size_t number, uint32_t value, size_t place, size_t length)
+{
+    uint32_t *e = entry + 6 * entries++;
+    e[0] = what;
+    e[1] = (uint32_t)message;
+    e[2] = (uint32_t)number;
+    e[3] = value;
+    e[4] = (uint32_t)place;
+    e[5] = (uint32_t)length;
+}
+
+/* Fields of a header, each what it is and its size, one behind the other; 0 ends them. */
+static const uint8_t common_fields[] = {NEGOEX_ENTRY_SIGNATURE, 8, NEGOEX_ENTRY_TYPE, 4, NEGOEX_ENTRY_SEQUENCE, 4, NEGOEX_ENTRY_HEADER_LENGTH, 4, NEGOEX_ENTRY_MESSAGE_LENGTH, 4, NEGOEX_ENTRY_CONVERSATION, 16, 0};
+static const uint8_t nego_fields[] = {NEGOEX_ENTRY_RANDOM, 32, NEGOEX_ENTRY_VERSION, 8, NEGOEX_ENTRY_SCHEME_VECTOR, 6, NEGOEX_ENTRY_PAD, 2, NEGOEX_ENTRY_EXTENSION_VECTOR, 6, NEGOEX_ENTRY_PAD, 2, 0};
+static const uint8_t exchange_fields[] = {NEGOEX_ENTRY_SCHEME, 16, NEGOEX_ENTRY_EXCHANGE_VECTOR, 8, 0};
+static const uint8_t verify_fields[] = {NEGOEX_ENTRY_SCHEME, 16, NEGOEX_ENTRY_CHECKSUM_HEADER, 4, NEGOEX_ENTRY_CHECKSUM_SCHEME, 4, NEGOEX_ENTRY_CHECKSUM_TYPE, 4, NEGOEX_ENTRY_CHECKSUM_VECTOR, 8, NEGOEX_ENTRY_PAD, 4, 0};
+static const uint8_t alert_fields[] = {NEGOEX_ENTRY_SCHEME, 16, NEGOEX_ENTRY_ERROR_CODE, 4, NEGOEX_ENTRY_ALERT_VECTOR, 6, NEGOEX_ENTRY_PAD, 2, NEGOEX_ENTRY_PAD, 4, 0};
+
+static void add_fields(const uint8_t *field, size_t message, size_t at)
+{
+    for (; *field; field += 2) {
+        add_entry(field[0], message, 0, le(at, field[1] < 4 ? 2 : 4), at, field[1]);
+        at += field[1];
+    }
+}
+
+/* What a vector points at: its offset stands at `at`, and it has `length` octets. */
+static void add_octets(uint32_t what, size_t message, size_t number, size_t place, size_t at, uint32_t length)
+{
+    add_entry(what, message, number, le(at, 4), length ? place + le(at, 4) : place, length);
+}
+
+/* The values of the extensions or alerts in an array. */
+static void add_values(uint32_t what, size_t message, size_t place, size_t array, size_t count)
+{
+    size_t k;
+    for (k = 0; k < count; k++)
+        add_octets(what, message, k, place, array + 12 * k + 4, le(array + 12 * k + 8, 4));
+}
+
+static void add_elements(uint32_t type, uint32_t vector, size_t message, size_t array, size_t count)
+{
+    size_t k;
+    for (k = 0; k < count; k++)
+        add_entry(type, message, k, le(array + 12 * k, 4), array + 12 * k, 4);
+    for (k = 0; k < count; k++)
+        add_entry(vector, message, k, le(array + 12 * k + 4, 4), array + 12 * k + 4, 8);
+}
+
+static void add_message(size_t message, size_t place)
+{
+    uint32_t kind = le(place + 8, 4), k;
+    add_entry(NEGOEX_ENTRY_MESSAGE, message, 0, kind, place, le(place + 20, 4));
+    add_fields(common_fields, message, place);
+    add_fields(kind <= 1 ? nego_fields : kind <= 5 ? exchange_fields : kind == 6 ? verify_fields : alert_fields, message, place + 40);
+    if (kind <= 1) {
+        uint32_t schemes = le(place + 84, 2), count = le(place + 92, 2);
+        add_octets(NEGOEX_ENTRY_SCHEMES, message, 0, place, place + 80, 16 * schemes);
+        add_octets(NEGOEX_ENTRY_EXTENSIONS, message, 0, place, place + 88, 12 * count);
+        add_values(NEGOEX_ENTRY_EXTENSION_VALUE, message, place, place + le(place + 88, 4), count);
+        for (k = 0; k < schemes; k++)
+            add_entry(NEGOEX_ENTRY_SCHEME, message, k, le(place + le(place + 80, 4) + 16 * k, 4), place + le(place + 80, 4) + 16 * k, 16);
+        add_elements(NEGOEX_ENTRY_EXTENSION_TYPE, NEGOEX_ENTRY_EXTENSION_VALUE_VECTOR, message, place + le(place + 88, 4), count);
+    } else if (kind <= 5) {
+        add_octets(NEGOEX_ENTRY_EXCHANGE, message, 0, place, place + 56, le(place + 60, 4));
+    } else if (kind == 6) {
+        add_octets(NEGOEX_ENTRY_CHECKSUM_VALUE, message, 0, place, place + 68, le(place + 72, 4));
+    } else {
+        uint32_t count = le(place + 64, 2);
+        add_octets(NEGOEX_ENTRY_ALERTS, message, 0, place, place + 60, 12 * count);
+        add_values(NEGOEX_ENTRY_ALERT_VALUE, message, place, place + le(place + 60, 4), count);
+        add_elements(NEGOEX_ENTRY_ALERT_TYPE, NEGOEX_ENTRY_ALERT_VALUE_VECTOR, message, place + le(place + 60, 4), count);
+    }
+}
+
+/* A call from entry `first` on, in a buffer of one size. */
+static void check_some(const uint8_t *wanted, size_t first, size_t size)
+{
+    uint8_t *buffer = filled(size);
+    size_t whole = size / 24;
+    int64_t length = first >= entries ? -19 : whole == 0 ? -16 : (int64_t)(24 * (whole < entries - first ? whole : entries - first));
+    expect("entries", first, 0, size, negoex_entries(now.octets, now.size, first, buffer, size), length);
+    expect_buffer("entries' buffer", first, 0, buffer, size, length > 0 ? wanted + 24 * first : wanted, length > 0 ? (size_t)length : 0);
+    free(buffer);
+}
+
+/* Which octets are covered: those of the header's fields but for pads, and what vectors point at. */
+static void check_coverage(void)
+{
+    uint8_t *wanted = room_for(now.size), *buffer = filled(now.size + 3);
+    size_t k;
+    memset(wanted, 0, now.size);
+    for (k = 0; k < entries; k++)
+        if (entry[6 * k] != NEGOEX_ENTRY_MESSAGE && entry[6 * k] != NEGOEX_ENTRY_PAD)
+            memset(wanted + entry[6 * k + 4], 1, entry[6 * k + 5]);
+    expect("coverage", 0, 0, now.size - 1, negoex_coverage(now.octets, now.size, buffer, now.size - 1), -16);
+    expect_buffer("coverage's buffer", 0, 0, buffer, now.size + 3, "", 0);
+    expect("coverage", 0, 0, now.size + 3, negoex_coverage(now.octets, now.size, buffer, now.size + 3), (int64_t)now.size);
+    expect_buffer("coverage's buffer", 0, 1, buffer, now.size + 3, wanted, now.size);
+    free(wanted);
+    free(buffer);
+}
+
+static void check_entries(void)
+{
+    uint8_t *wanted = room_for(24 * entries), none[24];
+    size_t k, first;
+    for (k = 0; k < 24 * entries; k++)
+        wanted[k] = (uint8_t)(entry[k / 4] >> 8 * (k % 4));
+    expect("entry count", 0, 0, 0, negoex_entry_count(now.octets, now.size), (int64_t)entries);
+    expect("no more entries than octets", entries, now.size, 0, entries <= now.size, 1);
+    check_some(wanted, 0, 24 * now.size);
+    for (first = 0; first <= entries; first += entries / 5 + 1) {
+        check_some(wanted, first, 0);
+        check_some(wanted, first, 23);
+        check_some(wanted, first, 24);
+        check_some(wanted, first, 24 * (entries - first));
+        check_some(wanted, first, 24 * (entries - first) + 23);
+        check_some(wanted, first, 100);
+    }
+    check_some(wanted, entries, 48);
+    check_some(wanted, SIZE_MAX, 48);
+    expect("no fault", 0, 0, 0, negoex_fault(now.octets, now.size, none, sizeof none), 0);
+    free(wanted);
+}
+
+/* Whether the vector whose offset stands at `at` breaks the rule in the message at `place`. */
+static int breaks(size_t place, uint32_t header, size_t at, int64_t length)
+{
+    int64_t offset = le(at, 4);
+    return length != 0 && (offset < header || offset + length > le(place + 20, 4));
+}
+
+/* The first vector of the message at `place` that breaks its rule: what it is, its number, its place and its size. */
+static void broken_vector(size_t place, uint32_t *what, size_t *number, size_t *at, size_t *size)
+{
+    uint32_t kind = le(place + 8, 4), header = le(place + 16, 4), count;
+    size_t array;
+    *number = 0;
+    if (kind > 1 && kind <= 6) {
+        *what = kind == 6 ? NEGOEX_ENTRY_CHECKSUM_VECTOR : NEGOEX_ENTRY_EXCHANGE_VECTOR;
+        *at = place + (kind == 6 ? 68 : 56);
+        *size = 8;
+        return;
+    }
+    *size = 6;
+    *what = NEGOEX_ENTRY_SCHEME_VECTOR;
+    *at = place + 80;
+    if (kind <= 1 && breaks(place, header, *at, 16 * (int64_t)le(*at + 4, 2)))
+        return;
+    *what = kind <= 1 ? NEGOEX_ENTRY_EXTENSION_VECTOR : NEGOEX_ENTRY_ALERT_VECTOR;
+    *at = place + (kind <= 1 ? 88 : 60);
+    count = le(*at + 4, 2);
+    if (breaks(place, header, *at, 12 * (int64_t)count))
+        return;
+    array = place + le(*at, 4);
+    *what = kind <= 1 ? NEGOEX_ENTRY_EXTENSION_VALUE_VECTOR : NEGOEX_ENTRY_ALERT_VALUE_VECTOR;
+    *size = 8;
+    for (; *number < count; ++*number) {
+        *at = array + 12 * *number + 4;
+        if (breaks(place, header, *at, le(*at + 4, 4)))
+            return;
+    }
+}
+
+/* The octets at fault, worked out from the number and the octets. */
+static void check_fault(int64_t number, size_t place)
+{
+    static const struct {
+        uint32_t what;
+        size_t at, size;
+    } plain[] = {
+        {0, 0, 0}, {0, 0, 0}, {0, 0, 0}, {NEGOEX_ENTRY_SIGNATURE, 0, 8}, {NEGOEX_ENTRY_TYPE, 8, 4}, {NEGOEX_ENTRY_HEADER_LENGTH, 16, 4}, {NEGOEX_ENTRY_MESSAGE_LENGTH, 20, 4},
+        {NEGOEX_ENTRY_SEQUENCE, 12, 4}, {NEGOEX_ENTRY_CONVERSATION, 24, 16}, {0, 0, 0}, {NEGOEX_ENTRY_VERSION, 72, 8}};
+    uint8_t wanted[24], *buffer = filled(50);
+    size_t at, size, k = 0, message = 0, from;
+    uint32_t what;
+    for (from = 0; number != 1 && from < place; from += le(from + 20, 4))
+        message++;
+    if (number == 1 || number == 2) {
+        what = NEGOEX_ENTRY_REST;
+        at = number == 1 ? 65535 : place;
+        size = number == 1 ? 1 : now.size - place;
+    } else if (number == 11) {
+        broken_vector(place, &what, &k, &at, &size);
+    } else if (number == 12) {
+        what = NEGOEX_ENTRY_EXTENSION_TYPE;
+        for (at = place + le(place + 88, 4); le(at, 4) < 0x80000000u; at += 12)
+            k++;
+        size = 4;
+    } else if (number == 13) {
+        what = le(place + 56, 4) == 20 ? NEGOEX_ENTRY_CHECKSUM_SCHEME : NEGOEX_ENTRY_CHECKSUM_HEADER;
+        at = place + (what == NEGOEX_ENTRY_CHECKSUM_SCHEME ? 60 : 56);
+        size = 4;
+    } else {
+        what = plain[number].what;
+        at = place + plain[number].at;
+        size = plain[number].size;
+    }
+    entry = room_for(24);
+    entries = 0;
+    add_entry(what, message, k, what == NEGOEX_ENTRY_REST ? 0 : le(at, 4), at, size);
+    for (from = 0; from < 24; from++)
+        wanted[from] = (uint8_t)(entry[from / 4] >> 8 * (from % 4));
+    free(entry);
+    expect("fault", 0, 0, 23, negoex_fault(now.octets, now.size, buffer, 23), -16);
+    expect_buffer("fault's buffer", 0, 0, buffer, 50, "", 0);
+    expect("fault", 0, 0, 50, negoex_fault(now.octets, now.size, buffer, 50), 24);
+    expect_buffer("fault's buffer", (size_t)number, place, buffer, 50, wanted, 24);
+    free(buffer);
+}
+
 /* One window, with what it has to write worked out from the lines. */
 static void check_window(size_t first, size_t end, size_t size)
 {
@@ -156,6 +374,8 @@ static void check_refused(int64_t number, int64_t place)
     expect("messages", 0, 0, 0, negoex_messages(now.octets, now.size), -number);
     expect("place", 0, 0, 0, negoex_place(now.octets, now.size), place);
     expect("lines", 0, 0, 0, negoex_lines(now.octets, now.size), -number);
+    expect("entry count", 0, 0, 0, negoex_entry_count(now.octets, now.size), -number);
+    check_fault(number, (size_t)place);
     for (k = 0; k < 3; k++) {
         uint8_t *buffer = filled(sizes[k]);
         expect("field", k, k, 0, negoex_field(now.octets, now.size, k, k), -number);
@@ -165,6 +385,8 @@ static void check_refused(int64_t number, int64_t place)
         expect("conversation", k, 0, sizes[k], negoex_conversation(now.octets, now.size, k, buffer, sizes[k]), -number);
         expect("window", k, 9, sizes[k], negoex_window(now.octets, now.size, k, 9, buffer, sizes[k]), -number);
         expect("table", 0, 0, sizes[k], negoex_table(now.octets, now.size, buffer, sizes[k]), -number);
+        expect("entries", k, 0, sizes[k], negoex_entries(now.octets, now.size, k, buffer, sizes[k]), -number);
+        expect("coverage", 0, 0, sizes[k], negoex_coverage(now.octets, now.size, buffer, sizes[k]), -number);
         expect_buffer("buffer", k, 0, buffer, sizes[k], "", 0);
         free(buffer);
     }
@@ -256,14 +478,19 @@ static void check_accepted(int few)
     expect("messages", 0, 0, 0, negoex_messages(now.octets, now.size), (int64_t)messages);
     expect("place", 0, 0, 0, negoex_place(now.octets, now.size), 0);
     table = room_for(now.size + 64);
-    numbers = 0;
+    entry = room_for(24 * now.size);
+    numbers = entries = 0;
     while (message < messages && starts(k, "message ")) {
+        add_message(message, (size_t)number_behind(line[k], "message at="));
         k = check_message(message, k);
         message++;
     }
     expect("messages listed", 0, 0, 0, (int64_t)message, (int64_t)messages);
     check_table();
+    check_entries();
+    check_coverage();
     free(table);
+    free(entry);
     for (beyond = 0; beyond < 2; beyond++) {
         size_t index = beyond ? SIZE_MAX : messages;
         uint8_t *buffer = filled(16);
@@ -298,7 +525,24 @@ static struct token load(const char *path)
     return t;
 }
 
-static int check(const char *listings, const char *folder, int few)
+/* Where the token stands in the envelope at hand, by the lines that show it. */
+static void check_envelope(void)
+{
+    size_t k = 0;
+    int64_t place = -19, length = -19;
+    while (k < lines && !starts(k, "token at="))
+        k++;
+    if (starts(0, "refused ")) {
+        place = length = -number_behind(line[0], "refused ");
+    } else if (k < lines) {
+        place = number_behind(line[k], "token at=");
+        length = number_behind(line[k], " length=");
+    }
+    expect("envelope place", 0, 0, 0, negoex_envelope_place(now.octets, now.size), place);
+    expect("envelope length", 0, 0, 0, negoex_envelope_length(now.octets, now.size), length);
+}
+
+static int check(const char *listings, const char *folder, int few, int envelopes)
 {
     struct token all = load(listings);
     const char *p = (const char *)all.octets, *end = p + all.size;
@@ -329,7 +573,9 @@ static int check(const char *listings, const char *folder, int few)
             continue;
         }
         tokens++;
-        if (starts(0, "refused "))
+        if (envelopes)
+            check_envelope();
+        else if (starts(0, "refused "))
             check_refused(number_behind(line[0], "refused "), number_behind(line[0], " at="));
         else
             check_accepted(few);
@@ -380,12 +626,30 @@ static int damage(const char *folder, const char *from, const char *out)
     return 0;
 }
 
+static int fault(const char *path)
+{
+    uint8_t octets[24];
+    size_t k;
+    now = load(path);
+    if (!now.octets || negoex_fault(now.octets, now.size, octets, sizeof octets) != 24)
+        return 1;
+    free(now.octets);
+    now.octets = octets;
+    for (k = 16; k <= 20; k += 4)
+        printf("%lu%c", (unsigned long)le(k, 4), k == 16 ? ' ' : '\n');
+    return 0;
+}
+
 int main(int argc, char **argv)
 {
+    if (argc == 3 && strcmp(argv[1], "fault") == 0)
+        return fault(argv[2]);
     if (argc >= 4 && strcmp(argv[1], "check") == 0)
-        return check(argv[2], argv[3], argc > 4);
+        return check(argv[2], argv[3], argc > 4, 0);
+    if (argc == 4 && strcmp(argv[1], "envelopes") == 0)
+        return check(argv[2], argv[3], 0, 1);
     if (argc == 5 && strcmp(argv[1], "damage") == 0)
         return damage(argv[2], argv[3], argv[4]);
-    fprintf(stderr, "usage: host check LISTINGS FOLDER [few] | host damage FOLDER NAME OUT\n");
+    fprintf(stderr, "usage: host check LISTINGS FOLDER [few] | host envelopes SHOWN FOLDER | host fault FILE | host damage FOLDER NAME OUT\n");
     return 2;
 }

@@ -30,7 +30,7 @@ done
 expect 'nothing is made beside a link' "$(ls "$work/bin" | tr '\n' ' ')" 'nx ny '
 
 # Help.
-for word in list blank converse replay examples library test; do
+for word in list blank converse replay examples library wireshark test; do
     expect "help $word" "$(./negoex help "$word" | head -n 1 | cut -c 1-$((16 + ${#word})))" "usage: ./negoex $word"
     expect "$word --help" "$(./negoex "$word" --help; echo $?)" "$(./negoex help "$word"; echo 0)"
 done

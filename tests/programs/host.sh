@@ -70,7 +70,7 @@ expect 'damaged copies' "$(grep -c '^file ' "$work/listings")" "$(wc -l <"$work/
 
 # all PROGRAM [WORD]: the answers over the examples and the damaged copies
 all() {
-    "$1" check crates/examples/stdout crates/examples/data ${2-} && "$1" check "$work/listings" "$work/damaged" ${2-}
+    "$1" check crates/examples/stdout crates/examples/data ${2-} && "$1" check "$work/listings" "$work/damaged" ${2-} && "$1" envelopes crates/envelopes/stdout crates/envelopes/data
 }
 
 # no_wrong WHAT PROGRAM [WORD]: none of them is wrong
@@ -81,13 +81,31 @@ no_wrong() {
     status=$?
     expect "$what" "$status$(cat "$work/said")" 0
     grep -c ' 0 wrong$' "$work/answers" >"$work/count"
-    expect "$what: both runs" "$(cat "$work/count")" 2
+    expect "$what: all three runs" "$(cat "$work/count")" 3
 }
 
 [ -z "$compiler" ] || no_wrong "answers, compiled by the kit" "$work/host-kit" few
 no_wrong 'answers' "$work/host"
 answers=$(awk '{ n += $3 } END { print n }' "$work/answers")
 expect 'every number of the structural reading' "$(cat crates/examples/stdout "$work/listings" | sed -n 's/^refused \([0-9]*\) .*/\1/p' | sort -nu | tr '\n' ' ')" '1 2 3 4 5 6 7 8 10 11 12 13 '
+
+# The octets that the front door points at, in words, are those at fault.
+sed -n 's/^file //p; /^refused /p' crates/examples/stdout | while read -r word number place; do
+    case $word in
+        refused)
+            [ "$number" -gt 2 ] || continue
+            sh tools/explain.sh token "crates/examples/data/$name" "$number" "${place#at=}" >"$work/words"
+            case $number in 11) grep 'BREAKS' "$work/words" ;; *) grep '^octets* [0-9]' "$work/words" ;; esac | sed -n '1s/^octets* \([0-9]*\)\( to \([0-9]*\)\)*,.*/\1 \3/p' | {
+                read -r first last
+                echo "$name $first $((${last:-$first} - first + 1))"
+            } >>"$work/pointed"
+            echo "$name $("$work/host" fault "crates/examples/data/$name")" >>"$work/faults"
+            ;;
+        *) name=$word ;;
+    esac
+done
+expect 'refused examples with a field at fault' "$(grep -c . "$work/faults")" "$(grep -cE '^refused ([3-9]|1[0-9]) ' crates/examples/stdout)"
+expect 'the octets of the front door' "$(cat "$work/pointed")" "$(cat "$work/faults")"
 
 # The comparison notices a wrong answer: a listing of another token.
 sed 's/ length=68$/ length=69/' crates/examples/stdout >"$work/other"

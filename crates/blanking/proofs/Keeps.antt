@@ -84,7 +84,7 @@ before-first p [] i h = refl
 before-first p (m ∷ ms) i h = rw (lt-leb p i h, before-first (p + length m) ms i (omega arith))
 
 module _ (p : ℕ) (m : List ℕ) (ms : List (List ℕ)) where
-  in-first : (i : ℕ) → i < length m → coveredIn (placedFrom p (m ∷ ms)) (p + i) ≡ isCovered m (0 + i)
+  pub in-first : (i : ℕ) → i < length m → coveredIn (placedFrom p (m ∷ ms)) (p + i) ≡ isCovered m (0 + i)
   unfolding coveredIn
   in-first i h =
       let z : p + i - p ≡ 0 + i = omega arith in
@@ -99,7 +99,7 @@ module _ (p : ℕ) (m : List ℕ) (ms : List (List ℕ)) where
         or-false true = refl
         or-false false = refl
 
-  behind-first : (i : ℕ) → coveredIn (placedFrom p (m ∷ ms)) (p + length m + i) ≡ coveredIn (placedFrom (p + length m) ms) (p + length m + i)
+  pub behind-first : (i : ℕ) → coveredIn (placedFrom p (m ∷ ms)) (p + length m + i) ≡ coveredIn (placedFrom (p + length m) ms) (p + length m + i)
   unfolding coveredIn
   behind-first i = rw (le-leb p (p + length m + i) (omega arith), le-ltb (p + length m + i) (p + length m) (omega arith))
 

@@ -3,3 +3,4 @@ pub mod Views
 pub mod Keeps
 pub mod Wipes
 pub mod Seen
+pub mod Masks

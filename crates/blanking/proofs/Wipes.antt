@@ -154,6 +154,16 @@ module _ (m : List ℕ) (kind : ℕ) (kind-is : kind ≡ headOf m .kind) (h : he
       ∙ ap (λ (k : ℕ). kept (λ p. headed k p || liesInOne (vectorsOf (contentOf (shapeOf k) m)) p) m 0) kind-is
       ∙ ap (λ (ws : List Vector). kept (λ p. headed (headOf m .kind) p || liesInOne ws p) m 0) all
 
+  -- a mask beside the message, likewise
+  pub cover-kept : (d : List ℕ) → length d ≡ length m → (x : List ℕ) → x ≡ wiped (headed kind) map1 0 d 0 → x ≡ kept (isCovered m) d 0
+  cover-kept d d-is x x-is =
+      let vs = vectorsOf (contentOf (shapeOf kind) m) in
+      x-is ∙ ap (λ (l : List ℕ). wiped (headed kind) l 0 d 0) e
+      ∙ ap (λ (n : ℕ). wiped (headed kind) (markedAll map0 vs) n d 0) (sym (end-none (length map0) vs))
+      ∙ wiped-kept (headed kind) map0 clear vs d 0 (omega arith)
+      ∙ ap (λ (k : ℕ). kept (λ p. headed k p || liesInOne (vectorsOf (contentOf (shapeOf k) m)) p) d 0) kind-is
+      ∙ ap (λ (ws : List Vector). kept (λ p. headed (headOf m .kind) p || liesInOne ws p) d 0) all
+
 -- ---- `blank_message`
 module _ (map m : List ℕ) (room : Room (length map) m) where
   pub room-kind : 8 + 4 ≤ length m

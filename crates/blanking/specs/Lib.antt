@@ -1,3 +1,4 @@
 pub mod Covered
 pub mod Blanked
+pub mod Masked
 pub mod Wiped

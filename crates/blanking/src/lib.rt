@@ -20,6 +20,8 @@ use octets::le_u32;
 use token::Answer;
 use token::read_token;
 
+pub mod covering;
+
 // Whether a place lies in a stretch.
 fn lies(at: usize, from: usize, end: usize) -> bool
     ensures { λ r. ⌜ r ≡ (leb from at && ltb at end) ⌝ }

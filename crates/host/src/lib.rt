@@ -6,6 +6,7 @@ ghost use Rattle.token.specs.Token.{tokenOf};
 ghost use Rattle.token.specs.Walk.{messagesOf, Accepts};
 ghost use Rattle.listing.specs.Listing.{allLines};
 ghost use Rattle.replies.specs.Replies.{lent, messagesAnswer, placeAnswer, fieldAnswer, conversationAnswer, vectorsAnswer, vectorPlaceAnswer, vectorLengthAnswer, tableAnswer};
+ghost use Rattle.viewing.specs.Viewing.{entryCountAnswer, entriesAnswer, faultAnswer, coverageAnswer, envelopePlaceAnswer, envelopeLengthAnswer};
 ghost use Rattle.host.specs.Host.{linesAnswer, windowAnswer};
 use lines::count;
 use listing::window;
@@ -78,6 +79,54 @@ pub extern "C" fn negoex_table(token: &[u8], buffer: &mut [u8]) -> i64
     ensures { λ r. ⌜ lent r (now (buffer .exit)) ≡ tableAnswer (now (token .entry)) (now (buffer .entry)) ⌝ }
 {
     replies::write_table(token, buffer)
+}
+
+// The number of entries of a token.
+#[no_mangle]
+pub extern "C" fn negoex_entry_count(token: &[u8]) -> i64
+    ensures { λ r. ⌜ r ≡ entryCountAnswer (now (token .entry)) ⌝ }
+{
+    viewing::entry_count(token)
+}
+
+// As many whole entries from number `first` on as fit, at the buffer's front.
+#[no_mangle]
+pub extern "C" fn negoex_entries(token: &[u8], first: usize, buffer: &mut [u8]) -> i64
+    ensures { λ r. ⌜ lent r (now (buffer .exit)) ≡ entriesAnswer (now (token .entry)) first (now (buffer .entry)) ⌝ }
+{
+    viewing::write_entries(token, first, buffer)
+}
+
+// The octets at fault of a refused token, as one entry at the buffer's front; nothing where it is accepted.
+#[no_mangle]
+pub extern "C" fn negoex_fault(token: &[u8], buffer: &mut [u8]) -> i64
+    ensures { λ r. ⌜ lent r (now (buffer .exit)) ≡ faultAnswer (now (token .entry)) (now (buffer .entry)) ⌝ }
+{
+    viewing::write_fault(token, buffer)
+}
+
+// An octet for each of the token's, at the buffer's front: 1 where it is covered, 0 where nothing covers it.
+#[no_mangle]
+pub extern "C" fn negoex_coverage(token: &[u8], buffer: &mut [u8]) -> i64
+    ensures { λ r. ⌜ lent r (now (buffer .exit)) ≡ coverageAnswer (now (token .entry)) (now (buffer .entry)) ⌝ }
+{
+    viewing::write_coverage(token, buffer)
+}
+
+// The place of the token in an envelope.
+#[no_mangle]
+pub extern "C" fn negoex_envelope_place(envelope: &[u8]) -> i64
+    ensures { λ r. ⌜ r ≡ envelopePlaceAnswer (now (envelope .entry)) ⌝ }
+{
+    viewing::envelope_place(envelope)
+}
+
+// The length of the token in an envelope.
+#[no_mangle]
+pub extern "C" fn negoex_envelope_length(envelope: &[u8]) -> i64
+    ensures { λ r. ⌜ r ≡ envelopeLengthAnswer (now (envelope .entry)) ⌝ }
+{
+    viewing::envelope_length(envelope)
 }
 
 // The number of lines of an accepted token's messages.

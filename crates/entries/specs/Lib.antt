@@ -1,0 +1,4 @@
+pub mod Names
+pub mod Entries
+pub mod Lookup
+pub mod Claims

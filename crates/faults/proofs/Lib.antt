@@ -1,0 +1,4 @@
+pub mod Spots
+pub mod Tokens
+pub mod First
+pub mod Withins

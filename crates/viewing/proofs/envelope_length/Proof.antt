@@ -1,0 +1,38 @@
+-- Assumes nothing.
+use Rattle.viewing.proofs.Faults.{spans}
+use borrow.Author.Needs.{needs}
+use Rattle.viewing.proofs.envelope_length.Statement.{statement}
+use Rattle.viewing.proofs.envelope_length.Tie as tie
+
+find-token-requires : tie.Need-find-token-requires
+find-token-requires c κs = search needs
+
+enum-known-r : tie.Need-enum-known-r
+enum-known-r c = search needs
+
+number-requires : tie.Need-number-requires
+number-requires c κs = search needs
+
+enum-known-r-2 : tie.Need-enum-known-r-2
+enum-known-r-2 c = search needs
+
+refusal-requires : tie.Need-refusal-requires
+refusal-requires c κs = search needs
+
+returns : tie.Need-returns
+returns c = search spans
+
+returns-2 : tie.Need-returns-2
+returns-2 c = search spans
+
+pub envelope-length-spec : {M : Type 1} → statement M
+envelope-length-spec =
+    tie.close
+    (tie.spec
+    find-token-requires
+    enum-known-r
+    number-requires
+    enum-known-r-2
+    refusal-requires
+    returns
+    returns-2)
