@@ -102,7 +102,7 @@ fault-first f e h = elim (which (f .missing)) [
   | inr m ↦ elim (which (eqb (f .refusal) 0)) [ inl z ↦ no-true (rw (m, z) at h) | inr z ↦ rw (m, z) ]
 ]
 
-fault-none : (f : Fault) → f .missing || not (eqb (f .refusal) 0) ≡ false → (endingAs f ≡ finished) × ((f .missing ≡ false) × (f .refusal ≡ 0))
+pub fault-none : (f : Fault) → f .missing || not (eqb (f .refusal) 0) ≡ false → (endingAs f ≡ finished) × ((f .missing ≡ false) × (f .refusal ≡ 0))
 unfolding endingAs
 fault-none f h = elim (which (f .missing)) [
   | inl m ↦ no-true (sym (rw m at h))

@@ -82,6 +82,8 @@ module _ (m : Marks) (i a : List ℕ) (s : Replay) (d : List ℕ) (fine : Fine i
     fine = record { short-i = fine .short-i; short-a = fine .short-a; in-i = fine .in-i; in-a = fine .in-a; numbers = fine .numbers; few = fine .few; few-i = fine .few-i; few-a = fine .few-a; used = fine .used; sequence = fine .sequence };
     step = inr (record {
       over = refl;
+      still-i = refl;
+      still-a = refl;
       same = refl;
       come =
           rest-on m i a s d more
@@ -179,6 +181,7 @@ module _ (m : Marks) (i a : List ℕ) (s : Replay) (d : List ℕ) (fine : Fine i
               };
               step = inl (record {
                 on = more;
+                kept = refl;
                 one = refl;
                 less = omega (arith, fine .in-i, fine .in-a, within-i, length-i, octets-i, some-i, i-length, a-length);
                 octets = ap (λ (l : List ℕ). join (messagesOf l)) octets-are-i ∙ ap join mine-i ∙ sym t-is ∙ sym octets-are-i;
@@ -200,6 +203,8 @@ module _ (m : Marks) (i a : List ℕ) (s : Replay) (d : List ℕ) (fine : Fine i
         fine = record { short-i = fine .short-i; short-a = fine .short-a; in-i = fine .in-i; in-a = fine .in-a; numbers = fine .numbers; few = fine .few; few-i = fine .few-i; few-a = fine .few-a; used = fine .used; sequence = fine .sequence };
         step = inr (record {
           over = refl;
+          still-i = refl;
+          still-a = refl;
           same = refl;
           come =
               rest-on m i a s d more
@@ -316,6 +321,7 @@ module _ (m : Marks) (i a : List ℕ) (s : Replay) (d : List ℕ) (fine : Fine i
               };
               step = inl (record {
                 on = more;
+                kept = refl;
                 one = refl;
                 less = omega (arith, fine .in-i, fine .in-a, within-a, length-a, octets-a, some-a, i-length, a-length);
                 octets = ap (λ (l : List ℕ). join (messagesOf l)) octets-are-a ∙ ap join mine-a ∙ sym t-is ∙ sym octets-are-a;
@@ -337,6 +343,8 @@ module _ (m : Marks) (i a : List ℕ) (s : Replay) (d : List ℕ) (fine : Fine i
         fine = record { short-i = fine .short-i; short-a = fine .short-a; in-i = fine .in-i; in-a = fine .in-a; numbers = fine .numbers; few = fine .few; few-i = fine .few-i; few-a = fine .few-a; used = fine .used; sequence = fine .sequence };
         step = inr (record {
           over = refl;
+          still-i = refl;
+          still-a = refl;
           same = refl;
           come =
               rest-on m i a s d more

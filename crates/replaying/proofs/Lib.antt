@@ -2,3 +2,4 @@ pub mod Befores
 pub mod Nexts
 pub mod Plays
 pub mod Goes
+pub mod Alls

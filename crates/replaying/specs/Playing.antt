@@ -5,6 +5,7 @@
 --   whoseAs            whose a refusal is, by its number; endingAs f: the ending that src/ answers as f
 --   filesEnding        what ends a replay before play, the lists aside
 --   Summary            what src/ answers of a replay: how many turns were accepted, the sides and the ending; summary: of a replay
+--   counted n u        a summary with n turns more
 --   sidesIn, playedAs  the sides of a replay at work, and its summary
 --   leftOf s i a       the turns that are left of the files i and a
 --   marked m           a case of marks alone
@@ -197,6 +198,7 @@ turnIn i a s s′ = record { acceptor = s′ .last; messages = messagesOf (octet
 
 pub record Further (m : Marks) (i a : List ℕ) (s : Replay) (d : List ℕ) (s′ : Replay) (d′ : List ℕ) : Type 0 where
   pub on : s′ .more ≡ true
+  pub kept : s′ .fault ≡ s .fault
   pub one : s′ .turns ≡ s .turns + 1
   pub less : (length i - s′ .iplace) + (length a - s′ .aplace) < (length i - s .iplace) + (length a - s .aplace)
   pub octets : token (turnIn i a s s′) ≡ octetsIn (s′ .last) i a s s′
@@ -205,9 +207,14 @@ pub record Further (m : Marks) (i a : List ℕ) (s : Replay) (d : List ℕ) (s�
 
 pub record Ended (m : Marks) (i a : List ℕ) (s : Replay) (d : List ℕ) (s′ : Replay) (d′ : List ℕ) : Type 0 where
   pub over : s′ .more ≡ false
+  pub still-i : s′ .iplace ≡ s .iplace
+  pub still-a : s′ .aplace ≡ s .aplace
   pub same : s′ .turns ≡ s .turns
   pub come : restOf m i a s d ≡ restOf m i a s′ d′
 
 pub record Goes (m : Marks) (i a : List ℕ) (s : Replay) (d : List ℕ) (s′ : Replay) (d′ : List ℕ) : Type 0 where
   pub fine : Fine i a s′
   pub step : Further m i a s d s′ d′ ⊎ Ended m i a s d s′ d′
+
+abbrev pub counted : ℕ → Summary → Summary
+counted n u = record { turns = n + u .turns; sides = u .sides; ending = u .ending }

@@ -59,7 +59,7 @@ fn file_fault(found: bool, c: Cut, whose: u8) -> Fault
 }
 
 // Whether something ends it.
-fn is_fault(f: Fault) -> bool
+pub(crate) fn is_fault(f: Fault) -> bool
     ensures { λ r. ⌜ r ≡ (f .missing || not (eqb (f .refusal) 0)) ⌝ }
 {
     if f.missing {

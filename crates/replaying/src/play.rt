@@ -5,12 +5,13 @@ ghost use Prim.Native.Nat.{_+_, _*_, _-_, _<_, _≤_};
 ghost use lib.ListN.{length, take, drop};
 ghost use Rattle.sides.specs.Merging.{messagesOf, turnsOf};
 ghost use Rattle.sides.specs.Replay.{finished, conversationIn, replayOf};
-ghost use Rattle.replaying.specs.Playing.{caseWith, endingAs, summary, playedAs, begunWith, Fine, stood, endedWith, whoseIn, afterTurn, Ready, Goes};
+ghost use Rattle.replaying.specs.Playing.{caseWith, endingAs, summary, playedAs, begunWith, counted, restOf, Fine, stood, endedWith, whoseIn, afterTurn, Ready, Goes};
 use super::Fault;
 use super::Found;
 use super::Marks;
 use super::Replay;
 use super::before::fault_before;
+use super::before::is_fault;
 use conversation::Answer;
 use merging::next_turn;
 use message::field;
@@ -179,4 +180,29 @@ pub fn play_turn(s: Replay, marks: Marks, ifile: &[u8], afile: &[u8], d: &mut [u
     }
     let end = iplace + n.initiator;
     play_initiator(s, marks.initiator, &ifile[iplace..end], n.messages, d)
+}
+
+// All turns that are left.
+fn play_all(s: Replay, marks: Marks, ifile: &[u8], afile: &[u8], d: &mut [u8]) -> Replay
+    requires { ⌜ Fine (now ifile) (now afile) s × (s .more ≡ true) × (endingAs (s .fault) ≡ finished) ⌝ }
+    ensures { λ r. ⌜ playedAs r (now (d .exit)) ≡ counted (s .turns) (summary (restOf marks (now (ifile .entry)) (now (afile .entry)) s (now (d .entry)))) ⌝ }
+{
+    let mut r = s;
+    while r.more {
+        r = play_turn(r, marks, ifile, afile, d);
+    }
+    r
+}
+
+// Two files, played to a record of each role that is opened with a list, 16 octets a scheme. The transcript is one for both.
+pub fn play(ilist: &[u8], alist: &[u8], marks: Marks, found: Found, ifile: &[u8], afile: &[u8], transcript: &mut [u8]) -> Replay
+    ensures { λ r. ⌜ playedAs r (now (transcript .exit)) ≡ summary (replayOf (caseWith (now (ilist .entry)) (now (alist .entry)) marks found (now (ifile .entry)) (now (afile .entry))) (now (transcript .entry))) ⌝ }
+{
+    let f = fault_before(ilist, alist, marks, found, ifile, afile);
+    if is_fault(f) {
+        return begin_with(ilist, alist, [0u8; 16], f, false);
+    }
+    let conversation = first_conversation(ifile, afile);
+    let s = begin_with(ilist, alist, conversation, f, true);
+    play_all(s, marks, ifile, afile, transcript)
 }
