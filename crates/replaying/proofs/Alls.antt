@@ -210,19 +210,21 @@ module _ (il al : List ℕ) (m : Marks) (f : Found) (i a : List ℕ) (x : Fault)
       whole-begins =
           let oi = opened-counts false il v list-i in
           let oa = opened-counts true al zeroId list-a in
-          subst (λ (z : Replay). Fine i a z × ((z .more ≡ true) × (endingAs (z .fault) ≡ finished))) (sym s-is)
-          (record {
-            short-i = ok-i .1;
-            short-a = ok-a .1;
-            in-i = omega arith;
-            in-a = omega arith;
-            numbers = omega arith;
-            few = omega arith;
-            few-i = oi .0;
-            few-a = oa .0;
-            used = oi .1 .0 ∙ sym (oa .1 .0);
-            sequence = oi .1 .1 ∙ sym (oa .1 .1);
-          }, (refl, fault-none x (sym q-is ∙ none) .0))
+          subst (λ (z : Replay). Fine i a z × ((z .more ≡ true) × (endingAs (z .fault) ≡ finished))) (sym s-is) (
+            record {
+              short-i = ok-i .1;
+              short-a = ok-a .1;
+              in-i = omega arith;
+              in-a = omega arith;
+              numbers = omega arith;
+              few = omega arith;
+              few-i = oi .0;
+              few-a = oa .0;
+              used = oi .1 .0 ∙ sym (oa .1 .0);
+              sequence = oi .1 .1 ∙ sym (oa .1 .1);
+            },
+            (refl, fault-none x (sym q-is ∙ none) .0),
+          )
 
       pub whole-fine : Fine i a s
       whole-fine = whole-begins .0

@@ -195,7 +195,15 @@ fn play_all(s: Replay, marks: Marks, ifile: &[u8], afile: &[u8], d: &mut [u8]) -
 }
 
 // Two files, played to a record of each role that is opened with a list, 16 octets a scheme. The transcript is one for both.
-pub fn play(ilist: &[u8], alist: &[u8], marks: Marks, found: Found, ifile: &[u8], afile: &[u8], transcript: &mut [u8]) -> Replay
+pub fn play(
+    ilist: &[u8],
+    alist: &[u8],
+    marks: Marks,
+    found: Found,
+    ifile: &[u8],
+    afile: &[u8],
+    transcript: &mut [u8],
+) -> Replay
     ensures { λ r. ⌜ playedAs r (now (transcript .exit)) ≡ summary (replayOf (caseWith (now (ilist .entry)) (now (alist .entry)) marks found (now (ifile .entry)) (now (afile .entry))) (now (transcript .entry))) ⌝ }
 {
     let f = fault_before(ilist, alist, marks, found, ifile, afile);
