@@ -11,8 +11,8 @@ done
 work=$(mktemp -d) || exit 1
 trap 'rm -rf "$work"' EXIT
 data=$root/crates/replays/data
-example=$data/p11.case
-expected=$(awk '/^case /{ on = $0 == "case p11.case"; next } on' crates/replays/stdout)
+example=$root/crates/replay/data/example
+expected=$(cat crates/replay/stdout)
 cases=0
 failures=0
 
