@@ -30,16 +30,13 @@ an own list that is empty, above 16 or repeats a scheme; marks beyond the list; 
 (not of a conversation)
 (not of a conversation)
 (not of a conversation)
-(not of a conversation)
+a number from 0 to the highest is missing, stands twice, or stands behind a higher one in its file
 more than 8 extensions or alerts, or a value of more than 4,096 octets
-a critical extension outside a test call'
+a critical extension outside a test call
+(not of a conversation)
+the schemes of a NEGO, or the choice of the initiator, are not what the list and marks of its end give, or these leave none'
 export meanings
-meaning='BEGIN {
-    split(ENVIRON["meanings"], meaning, "\n")
-    meaning[24] = "a number from 0 to the highest is missing, stands twice, or stands behind a higher one in its file"
-    meaning[28] = "the schemes of a NEGO, or the choice of the initiator, are not what the list and marks of its end give, or these leave none"
-    CONVFMT = OFMT = "%.0f"
-}
+meaning='BEGIN { split(ENVIRON["meanings"], meaning, "\n"); CONVFMT = OFMT = "%.0f" }
 '
 
 # One line for what the number means, one for the message, and one for each place to look at.

@@ -44,11 +44,10 @@ expect 'missing' "$(./negoex list "$work/missing" >/dev/null 2>&1; echo $?)" 1
 
 # Standard output that cannot be written.
 for word in list blank converse replay; do
-    case $word in replay) file=crates/replays/data/p11.case ;; *) file=crates/$word/data/example ;; esac
-    expect "$word, closed" "$(./negoex "$word" "$file" 2>&1 >&-; echo $?)" "negoex: standard output cannot be written
+    expect "$word, closed" "$(./negoex "$word" "crates/$word/data/example" 2>&1 >&-; echo $?)" "negoex: standard output cannot be written
 1"
     [ -c /dev/full ] || continue
-    expect "$word, full" "$(./negoex "$word" "$file" 2>&1 >/dev/full; echo $?)" "negoex: standard output cannot be written
+    expect "$word, full" "$(./negoex "$word" "crates/$word/data/example" 2>&1 >/dev/full; echo $?)" "negoex: standard output cannot be written
 1"
 done
 expect 'temporary files' "$(TMPDIR=$work/missing ./negoex list crates/list/data/example 2>&1 | tail -n 1)" 'negoex: no folder for temporary files; TMPDIR says where to make one'

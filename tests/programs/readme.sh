@@ -46,7 +46,7 @@ shown './negoex replay' >"$work/replayed"
 ./negoex replay </dev/null >"$work/printed" 2>/dev/null
 cmp -s "$work/replayed" "$work/printed" || fail 'the replay is another'
 sed -n 's/^    \(initiator .*\)$/\1/p; s/^    \(acceptor .*\)$/\1/p; s/^    \([ia] [0-9].*\)$/\1/p' README.md >"$work/case"
-grep -v '^#' crates/replays/data/p11.case | cmp -s "$work/case" - || fail 'the case is another'
+grep -v '^#' crates/replay/data/example | cmp -s "$work/case" - || fail 'the case is another'
 
 shown './negoex converse' >"$work/answers"
 ./negoex converse </dev/null >"$work/printed" 2>/dev/null

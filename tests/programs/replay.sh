@@ -11,8 +11,8 @@ done
 work=$(mktemp -d) || exit 1
 trap 'rm -rf "$work"' EXIT
 data=$root/crates/replays/data
-example=$data/p11.case
-expected=$(awk '/^case /{ on = $0 == "case p11.case"; next } on' crates/replays/stdout)
+example=$root/crates/replay/data/example
+expected=$(cat crates/replay/stdout)
 cases=0
 failures=0
 
@@ -82,6 +82,9 @@ with i folder
 expect 'a folder for a file' "$(of case)" 'no file'
 with "$(printf '%05000d' 0)" a
 expect 'a file with a name of 5,000 octets' "$(of case)" 'no file'
+cp "$work/i" "$work/two  words "
+with 'two  words ' a
+expect 'a name with spaces in it and behind it' "$(of case)" "$expected"
 cp "$work/i" "$work/größe"
 with größe a
 expect 'a name with octets above 127' "$(of case)" "$expected"
