@@ -7,5 +7,6 @@ fn main() {
     let mut input = io::buffer();
     let n = io::read_full(STDIN_FILENO, &mut input);
     let end = find(&input, 0, n, b'\n');
-    replay_file(&input[..end]);
+    let mut buf = [0u8; 65536];
+    replay_file(&input[..end], &mut buf);
 }

@@ -1,18 +1,18 @@
 // Replaying a case: its text and its two files read, and what the replay says written to standard output.
+ghost use Rattle.console.specs.Console.{holds};
+use case::Case;
+use case::name_behind;
+use case::read_case;
 use console::Loaded;
 use console::load;
 use fields::part;
 use libc::STDOUT_FILENO;
-
-mod case;
-mod turns;
-
-use case::Case;
-use case::name_behind;
-use case::read_case;
 use replaying::Found;
 use replaying::Marks;
 use turns::show_replay;
+
+mod case;
+mod turns;
 
 // Whether a file was read, and how many octets of it.
 struct Opened {
@@ -85,16 +85,19 @@ fn replay_front(buf: &[u8], n: usize) {
     replay_case(part(buf, 0, n));
 }
 
-// Replays the case in the file with a name.
-pub fn replay_file(name: &[u8]) {
-    let mut buf = [0u8; 65536];
-    let loaded = load(name, &mut buf);
+// Replays the case in the file with a name, by way of a buffer that the caller lends, and writes what is to be seen of it to standard output.
+pub fn replay_file(name: &[u8], buf: &mut [u8]) -> Loaded
+    ensures { λ r. ⌜ holds r (now (buf .exit)) ⌝ }
+{
+    let loaded = load(name, buf);
     match loaded {
         Loaded::Octets(n) => {
-            replay_front(&buf, n);
+            replay_front(buf, n);
+            Loaded::Octets(n)
         }
         Loaded::Nothing => {
             io::write_all(STDOUT_FILENO, b"no file\n");
+            Loaded::Nothing
         }
     }
 }

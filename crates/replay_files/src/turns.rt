@@ -73,7 +73,14 @@ fn show_turn(before: Replay, next: Replay, ifile: &[u8], afile: &[u8], text: &mu
 }
 
 // Plays all turns that are left, and shows each.
-fn show_turns(s: Replay, marks: Marks, ifile: &[u8], afile: &[u8], d: &mut [u8], text: &mut [u8]) -> Replay
+fn show_turns(
+    s: Replay,
+    marks: Marks,
+    ifile: &[u8],
+    afile: &[u8],
+    d: &mut [u8],
+    text: &mut [u8],
+) -> Replay
     requires { ⌜ Fine (now ifile) (now afile) s × (s .more ≡ true) × (endingAs (s .fault) ≡ finished) ⌝ }
     ensures { λ r. ⌜ playedAs r (now (d .exit)) ≡ counted (s .turns) (summary (restOf marks (now (ifile .entry)) (now (afile .entry)) s (now (d .entry)))) ⌝ }
 {

@@ -9,7 +9,8 @@ fn show(name: &[u8]) {
     io::write_all(STDOUT_FILENO, b"case ");
     io::write_all(STDOUT_FILENO, name);
     io::write_all(STDOUT_FILENO, b"\n");
-    replay_file(name);
+    let mut buf = [0u8; 65536];
+    replay_file(name, &mut buf);
 }
 
 fn main() {
