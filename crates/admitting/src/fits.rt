@@ -18,7 +18,7 @@ use message::field;
 use octets::same_id;
 
 // Whether the id at place k of a list is this one, both where they stand.
-fn same_at(list: &[u8], k: usize, id: &[u8]) -> bool
+pub fn same_at(list: &[u8], k: usize, id: &[u8]) -> bool
     requires { ⌜ 16 * k + 16 ≤ length (now list) ⌝ }
     ensures { λ a. ⌜ a ≡ sameId (now (id .entry)) (octets 16 (now (list .entry)) (16 * k)) ⌝ }
 {

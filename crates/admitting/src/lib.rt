@@ -2,7 +2,7 @@
 use conversation::Scan;
 
 pub mod admit;
-mod fits;
+pub mod fits;
 mod heard;
 pub mod named;
 

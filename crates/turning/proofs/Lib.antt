@@ -1,0 +1,4 @@
+pub mod Tests
+pub mod Saying
+pub mod Owing
+pub mod Hearing

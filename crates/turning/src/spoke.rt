@@ -1,0 +1,156 @@
+// The writer's record behind its turn, as if it had written it.
+ghost use mathlib.Core.Path.{_≡_};
+ghost use mathlib.Core.Bool.{cond, _&&_, _||_};
+ghost use Prim.Native.Nat.{_+_, _*_, _≤_};
+ghost use lib.ListN.{length};
+ghost use lib.Dec.{eqb, ltb};
+ghost use Rattle.schemes.specs.Lists.{place};
+ghost use Rattle.schemes.specs.Answers.{withBit};
+ghost use Rattle.conversation.specs.State.{ownOf};
+ghost use Rattle.conversation.specs.Choosing.{openTo, firstPlace, chose};
+ghost use Rattle.sides.specs.Merging.{messagesOf};
+ghost use Rattle.sides.specs.Turning.{begun, said, spoke};
+use super::owed::may_choose;
+use calls::EXCHANGE;
+use calls::METADATA;
+use calls::VERIFY;
+use calls::next::after_message;
+use conversation::Record;
+use conversation::turns::kind_of;
+use conversation::turns::writing_token;
+use message::Read;
+use message::field;
+use message::read_header;
+use octets::le_u32;
+use schemes::choosing::choose_kept;
+use schemes::list::find;
+use schemes::set::with_bit;
+
+// Where the scheme of a message that is no NEGO ends.
+const SCHEME_END: usize = field::SCHEME + field::ID;
+
+// The first place that is open to a choice, or none.
+fn first_open(w: Record, marks: u16) -> usize
+    ensures { λ r. ⌜ r ≡ firstPlace (openTo w marks) ⌝ }
+{
+    let kept = w.kept;
+    let left = choose_kept(kept, w.common, marks);
+    if left.left == 0 {
+        return Record::NONE;
+    }
+    left.place as usize
+}
+
+// Whether an early VERIFY counts behind a choice.
+fn counts_for(early: bool, place: usize, asked: usize) -> bool
+    ensures { λ a. ⌜ a ≡ (early && eqb place asked) ⌝ }
+{
+    if early {
+        return place == asked;
+    }
+    false
+}
+
+// The record behind the choice.
+fn chosen(w: Record, marks: u16) -> Record
+    ensures { λ r. ⌜ r ≡ chose w marks ⌝ }
+{
+    let place = first_open(w, marks);
+    let mut next = w;
+    next.stage = Record::LATER;
+    next.position = 0;
+    next.marks = marks;
+    next.chosen = place;
+    next.verified = counts_for(w.verified, place, w.asked);
+    next.heard = counts_for(w.heard, place, w.asked);
+    next
+}
+
+// The record in which the first message of a turn is written: marks come with the acceptor's NEGO, and with the choice.
+fn begin(w: Record, marks: u16) -> Record
+    ensures { λ r. ⌜ r ≡ begun marks w ⌝ }
+{
+    if may_choose(w) {
+        return chosen(w, marks);
+    }
+    if writing_token(w.acceptor, w.stage) != 1 {
+        return w;
+    }
+    let mut next = w;
+    next.marks = marks;
+    next
+}
+
+// The schemes that have metadata, with that of a message, where it is metadata for an own scheme.
+fn told_behind(w: Record, kind: u8, id: &[u8]) -> u16
+    requires { ⌜ w .count ≤ 16 ⌝ }
+    ensures { λ r. ⌜ r ≡ cond (eqb kind 2 && ltb (place (ownOf w) (now (id .entry))) (w .count)) (withBit (w .told) (place (ownOf w) (now (id .entry)))) (w .told) ⌝ }
+{
+    if kind != METADATA {
+        return w.told;
+    }
+    let k = find(&w.list, w.count, id);
+    if w.count <= k {
+        return w.told;
+    }
+    with_bit(w.told, k as u32)
+}
+
+// The place of the first token's AP_REQUEST, where a message is it.
+fn asked_behind(asked: usize, kind: u8, token: u8) -> usize
+    ensures { λ r. ⌜ r ≡ cond (eqb kind 3 && eqb token 0) 0 asked ⌝ }
+{
+    if kind != EXCHANGE {
+        return asked;
+    }
+    if token != 0 {
+        return asked;
+    }
+    0
+}
+
+// Whether the own one VERIFY is spent behind a message.
+fn verified_behind(verified: bool, kind: u8) -> bool
+    ensures { λ r. ⌜ r ≡ (eqb kind 4 || verified) ⌝ }
+{
+    if kind == VERIFY {
+        return true;
+    }
+    verified
+}
+
+// The writer's record behind a message of its own.
+fn say(w: Record, m: &[u8]) -> Record
+    requires { ⌜ (w .count ≤ 16) × (w .sequence ≤ 1023) × (w .used + length (now m) ≤ 65535) × (64 ≤ length (now m)) ⌝ }
+    ensures { λ r. ⌜ r ≡ said w (now (m .entry)) ⌝ }
+{
+    let kind = kind_of(w.acceptor, le_u32(m, field::TYPE));
+    let token = writing_token(w.acceptor, w.stage);
+    let told = told_behind(w, kind, &m[field::SCHEME..SCHEME_END]);
+    let asked = asked_behind(w.asked, kind, token);
+    let verified = verified_behind(w.verified, kind);
+    let mut next = after_message(w, kind, m.len());
+    next.told = told;
+    next.asked = asked;
+    next.verified = verified;
+    next
+}
+
+// The writer's record behind its turn t.
+pub fn speak(w: Record, marks: u16, t: &[u8]) -> Record
+    requires { ⌜ (w .count ≤ 16) × (64 * w .sequence ≤ w .used) × (w .used + length (now t) ≤ 65535) ⌝ }
+    ensures { λ r. ⌜ r ≡ spoke marks w (messagesOf (now (t .entry))) ⌝ }
+{
+    let mut s = begin(w, marks);
+    let mut rest = t;
+    while 0 < rest.len() {
+        let m = read_header(rest);
+        let Read::Message(h) = m else {
+            return s;
+        };
+        let length = h.length as usize;
+        s = say(s, &rest[..length]);
+        rest = &rest[length..];
+    }
+    s
+}
