@@ -3,7 +3,7 @@
 # (docs/DECISIONS.md, F6); and no function has more than 40 lines.
 set -eu
 cd "$(dirname "$0")/.."
-below=' der der_put octets vector message put elements encode schemes calls negotiating sending admitting windows lines listing coverage offers table entries replies '
+below=' der der_put octets vector message put elements encode schemes calls negotiating sending admitting merging turning replaying windows lines listing coverage offers table entries replies '
 found=$(
     find crates/*/src -name '*.rt' | sort | while IFS= read -r file; do
         crate=${file#crates/}

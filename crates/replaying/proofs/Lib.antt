@@ -1,0 +1,5 @@
+pub mod Befores
+pub mod Nexts
+pub mod Plays
+pub mod Goes
+pub mod Alls

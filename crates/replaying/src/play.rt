@@ -1,0 +1,216 @@
+// The turns of two files, played one after the other.
+ghost use mathlib.Core.Path.{_≡_};
+ghost use mathlib.Core.Bool.{true, false, cond};
+ghost use Prim.Native.Nat.{_+_, _*_, _-_, _<_, _≤_};
+ghost use lib.ListN.{length, take, drop};
+ghost use Rattle.sides.specs.Merging.{messagesOf, turnsOf};
+ghost use Rattle.sides.specs.Replay.{finished, conversationIn, replayOf};
+ghost use Rattle.replaying.specs.Playing.{caseWith, endingAs, summary, playedAs, begunWith, counted, restOf, Fine, stood, endedWith, whoseIn, afterTurn, Ready, Goes};
+use super::Fault;
+use super::Found;
+use super::Marks;
+use super::Replay;
+use super::before::fault_before;
+use super::before::is_fault;
+use conversation::Answer;
+use merging::next_turn;
+use message::field;
+use negotiating::opening::open;
+use schemes::list::id_at;
+use turning::hear::hear;
+use turning::owed::owes;
+use turning::spoke::speak;
+use vector::TokenPlace;
+
+// The conversation of the first message of two files, zeros where there is no message.
+fn first_conversation(ifile: &[u8], afile: &[u8]) -> [u8; 16]
+    requires { ⌜ (length (now ifile) ≤ 65535) × (length (now afile) ≤ 65535) ⌝ }
+    ensures { λ r. ⌜ r ≡ conversationIn (turnsOf (messagesOf (now (ifile .entry))) (messagesOf (now (afile .entry)))) ⌝ }
+{
+    let n = next_turn(ifile, afile, 0);
+    if n.messages == 0 {
+        return [0u8; 16];
+    }
+    if n.acceptors {
+        return id_at(afile, field::CONVERSATION);
+    }
+    id_at(ifile, field::CONVERSATION)
+}
+
+// A replay before its first turn, or one that ended before it.
+fn begin_with(
+    ilist: &[u8],
+    alist: &[u8],
+    conversation: [u8; 16],
+    fault: Fault,
+    more: bool,
+) -> Replay
+    ensures { λ r. ⌜ r ≡ begunWith (now (ilist .entry)) (now (alist .entry)) conversation fault more ⌝ }
+{
+    let i = open(false, ilist, conversation);
+    let a = open(true, alist, [0u8; 16]);
+    let initiator = i.next;
+    let acceptor = a.next;
+    Replay {
+        initiator,
+        acceptor,
+        iplace: 0,
+        aplace: 0,
+        number: 0,
+        turns: 0,
+        last: false,
+        more,
+        fault,
+    }
+}
+
+// The number of a role's side.
+fn side_of(acceptor: bool) -> u8
+    ensures { λ r. ⌜ r ≡ cond acceptor 1 0 ⌝ }
+{
+    if acceptor {
+        return Fault::ACCEPTOR;
+    }
+    Fault::INITIATOR
+}
+
+// Whose a refusal of a turn is: the writer's for 28, else the reader's.
+fn whose_in(acceptor: bool, number: u32) -> u8
+    ensures { λ r. ⌜ r ≡ whoseIn acceptor number ⌝ }
+{
+    if number == 28 {
+        return side_of(acceptor);
+    }
+    side_of(!acceptor)
+}
+
+// A replay that a turn's refusal ends.
+fn end_with(s: Replay, acceptor: bool, a: Answer) -> Replay
+    ensures { λ r. ⌜ r ≡ endedWith s (record { missing = false; refusal = a .refusal; place = a .place; whose = whoseIn acceptor (a .refusal) }) ⌝ }
+{
+    let place = a.place;
+    let whose = whose_in(acceptor, a.refusal);
+    let fault = Fault {
+        missing: false,
+        refusal: a.refusal,
+        place,
+        whose,
+    };
+    let mut next = s;
+    next.more = false;
+    next.fault = fault;
+    next
+}
+
+// A turn of the initiator's.
+fn play_initiator(s: Replay, marks: u16, t: &[u8], messages: u32, d: &mut [u8]) -> Replay
+    requires { ⌜ Ready s (length (now t)) messages ⌝ }
+    ensures { λ r. ⌜ stood r (now (d .exit)) ≡ afterTurn false marks s (now (d .entry)) (now (t .entry)) messages ⌝ }
+{
+    let writer = s.initiator;
+    let reader = s.acceptor;
+    let a = hear(owes(writer, marks, t), reader, d, t);
+    if a.refusal != 0 {
+        return end_with(s, false, a);
+    }
+    let initiator = speak(writer, marks, t);
+    let acceptor = a.next;
+    let place = s.iplace + t.len();
+    let number = s.number + messages;
+    let turns = s.turns + 1;
+    let mut next = s;
+    next.initiator = initiator;
+    next.acceptor = acceptor;
+    next.iplace = place;
+    next.number = number;
+    next.turns = turns;
+    next.last = false;
+    next
+}
+
+// A turn of the acceptor's.
+fn play_acceptor(s: Replay, marks: u16, t: &[u8], messages: u32, d: &mut [u8]) -> Replay
+    requires { ⌜ Ready s (length (now t)) messages ⌝ }
+    ensures { λ r. ⌜ stood r (now (d .exit)) ≡ afterTurn true marks s (now (d .entry)) (now (t .entry)) messages ⌝ }
+{
+    let writer = s.acceptor;
+    let reader = s.initiator;
+    let a = hear(owes(writer, marks, t), reader, d, t);
+    if a.refusal != 0 {
+        return end_with(s, true, a);
+    }
+    let acceptor = speak(writer, marks, t);
+    let initiator = a.next;
+    let place = s.aplace + t.len();
+    let number = s.number + messages;
+    let turns = s.turns + 1;
+    let mut next = s;
+    next.initiator = initiator;
+    next.acceptor = acceptor;
+    next.aplace = place;
+    next.number = number;
+    next.turns = turns;
+    next.last = true;
+    next
+}
+
+// A replay that no turn is left of.
+fn done(s: Replay) -> Replay
+    ensures { λ r. ⌜ r ≡ endedWith s (s .fault) ⌝ }
+{
+    let mut next = s;
+    next.more = false;
+    next
+}
+
+// The next turn.
+pub fn play_turn(s: Replay, marks: Marks, ifile: &[u8], afile: &[u8], d: &mut [u8]) -> Replay
+    requires { ⌜ Fine (now ifile) (now afile) s × (s .more ≡ true) × (endingAs (s .fault) ≡ finished) ⌝ }
+    ensures { λ r. ⌜ Goes marks (now (ifile .entry)) (now (afile .entry)) s (now (d .entry)) r (now (d .exit)) ⌝ }
+{
+    let iplace = s.iplace;
+    let aplace = s.aplace;
+    let n = next_turn(&ifile[iplace..], &afile[aplace..], s.number);
+    if n.messages == 0 {
+        return done(s);
+    }
+    if n.acceptors {
+        let end = aplace + n.acceptor;
+        return play_acceptor(s, marks.acceptor, &afile[aplace..end], n.messages, d);
+    }
+    let end = iplace + n.initiator;
+    play_initiator(s, marks.initiator, &ifile[iplace..end], n.messages, d)
+}
+
+// All turns that are left.
+fn play_all(s: Replay, marks: Marks, ifile: &[u8], afile: &[u8], d: &mut [u8]) -> Replay
+    requires { ⌜ Fine (now ifile) (now afile) s × (s .more ≡ true) × (endingAs (s .fault) ≡ finished) ⌝ }
+    ensures { λ r. ⌜ playedAs r (now (d .exit)) ≡ counted (s .turns) (summary (restOf marks (now (ifile .entry)) (now (afile .entry)) s (now (d .entry)))) ⌝ }
+{
+    let mut r = s;
+    while r.more {
+        r = play_turn(r, marks, ifile, afile, d);
+    }
+    r
+}
+
+// Two files, played to a record of each role that is opened with a list, 16 octets a scheme. The transcript is one for both.
+pub fn play(
+    ilist: &[u8],
+    alist: &[u8],
+    marks: Marks,
+    found: Found,
+    ifile: &[u8],
+    afile: &[u8],
+    transcript: &mut [u8],
+) -> Replay
+    ensures { λ r. ⌜ playedAs r (now (transcript .exit)) ≡ summary (replayOf (caseWith (now (ilist .entry)) (now (alist .entry)) marks found (now (ifile .entry)) (now (afile .entry))) (now (transcript .entry))) ⌝ }
+{
+    let f = fault_before(ilist, alist, marks, found, ifile, afile);
+    if is_fault(f) {
+        return begin_with(ilist, alist, [0u8; 16], f, false);
+    }
+    let conversation = first_conversation(ifile, afile);
+    let s = begin_with(ilist, alist, conversation, f, true);
+    play_all(s, marks, ifile, afile, transcript)
+}
