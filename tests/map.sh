@@ -14,7 +14,7 @@ ls crates/*/must-fail | sed -n 's/\.edit$//p' | LC_ALL=C sort >"$work/edits"
 
 # Whether $1 is declared: a definition, a law or a constructor; a function, a struct, an enum or a constant.
 declared() {
-    grep -qF -e "pub $1 :" -e "record $1 " -e "data $1 " -e "fn $1(" -e "struct $1 " -e "struct $1(" -e "enum $1 " -e "const $1:" "$work/text" ||
+    grep -qF -e "pub $1 :" -e "record $1 " -e "data $1 " -e "fn $1(" -e "fn $1<" -e "struct $1 " -e "struct $1(" -e "enum $1 " -e "const $1:" "$work/text" ||
         grep -qxF -- "$1" "$work/files" "$work/edits" || [ -e "$1" ]
 }
 

@@ -2,6 +2,7 @@
 # What stands behind a refusal, in words; nothing here decides one.
 #   explain.sh token FILE NUMBER PLACE   `refused NUMBER at=PLACE` was answered to the token in FILE: which octets to look at
 #   explain.sh script FILE ANSWERS       the lines of the script in FILE that were bad or refused, by ANSWERS, what was printed
+#   explain.sh replay CASE ANSWERS       what ended the replay of CASE, by ANSWERS, what was printed; the case names files from the current folder
 # Places are counted from the token's first octet, from 0. docs/RULES.md has the rules.
 set -u
 
@@ -29,9 +30,11 @@ an own list that is empty, above 16 or repeats a scheme; marks beyond the list; 
 (not of a conversation)
 (not of a conversation)
 (not of a conversation)
-(not of a conversation)
+a number from 0 to the highest is missing, stands twice, or stands behind a higher one in its file
 more than 8 extensions or alerts, or a value of more than 4,096 octets
-a critical extension outside a test call'
+a critical extension outside a test call
+(not of a conversation)
+the schemes of a NEGO, or the choice of the initiator, are not what the list and marks of its end give, or these leave none'
 export meanings
 meaning='BEGIN { split(ENVIRON["meanings"], meaning, "\n"); CONVFMT = OFMT = "%.0f" }
 '
@@ -39,7 +42,7 @@ meaning='BEGIN { split(ENVIRON["meanings"], meaning, "\n"); CONVFMT = OFMT = "%.
 # One line for what the number means, one for the message, and one for each place to look at.
 of_token() {
     if [ "$2" -eq 1 ]; then
-        awk -v size="$(wc -c <"$1")" "$meaning"'BEGIN { print "refused 1: " meaning[1]; print "the token has " (size < 2097152 ? size " octets" : "2 MiB or more") }'
+        awk -v size="$(wc -c <"$1")" "$meaning"'BEGIN { print "refused 1: " meaning[1]; print "it has " (size < 2097152 ? size " octets" : "2 MiB or more") }'
         return
     fi
     od -An -v -tu1 "$1" | LC_ALL=C awk -v number="$2" -v place="$3" "$meaning"'
@@ -90,6 +93,19 @@ of_token() {
             else array(place + 60, "alert")
             if (shown > 8) print "and " shown - 8 " more"
         }
+        # an id in its usual text
+        function id(at,    s) {
+            s = hex(at + 3, 1) hex(at + 2, 1) hex(at + 1, 1) hex(at, 1) "-" hex(at + 5, 1) hex(at + 4, 1) "-" hex(at + 7, 1) hex(at + 6, 1) "-" hex(at + 8, 2) "-" hex(at + 10, 6)
+            gsub(/ /, "", s)
+            return s
+        }
+        # the schemes that a message names
+        function schemes(    k, from) {
+            if (kind > 1) { look(place + 40, 16, "the scheme: " id(place + 40)); return }
+            if (!le(place + 84, 2)) look(place + 84, 2, "the count of schemes: 0")
+            for (k = 0; k < le(place + 84, 2) && k < 17; k++) look(place + le(place + 80, 4) + 16 * k, 16, "scheme " k ": " id(place + le(place + 80, 4) + 16 * k))
+            if (k < le(place + 84, 2)) print "and " le(place + 84, 2) - k " more"
+        }
         function critical(    k, from) {
             for (k = 0; k < le(place + 92, 2); k++) {
                 from = place + le(place + 88, 4) + 12 * k
@@ -106,7 +122,7 @@ of_token() {
             header = header_of(kind)
             len = le(place + 20, 4)
             print "refused " number ": " meaning[number]
-            if (number > 4) print "message at " place ": " name_of(kind) " (type " kind "), sequence number " le(place + 12, 4) ", length " len
+            if (number > 4 && number != 16 && number != 18) print "message at " place ": " name_of(kind) " (type " kind "), sequence number " le(place + 12, 4) ", length " len
 
             if (number == 2) {
                 print size ? left " octets are left, from octet " place " on" : "the token is empty"
@@ -130,9 +146,10 @@ of_token() {
             }
             if (number == 8) {
                 look(place + 24, 16, "the conversation: " hex(place + 24, 16))
-                look(24, 16, "that of the first message: " hex(24, 16))
+                if (place) look(24, 16, "that of the first message: " hex(24, 16))
             }
             if (number == 10) look(place + 72, 8, "the version: " hex(place + 72, 8))
+            if (number == 15 || number == 28) schemes()
             if (number == 11) vectors()
             if (number == 12) critical()
             if (number == 13) {
@@ -165,7 +182,108 @@ of_script() {
         }'
 }
 
+# The name of the file of the side $2, in the case $1.
+named() { LC_ALL=C sed -n "s/^$2 //p" "$1" | head -n 1; }
+
+# Which lines of a case are not of its form. Lines are counted from 1.
+of_form() {
+    if [ "$(wc -c <"$1")" -gt 65535 ]; then
+        echo 'the case has more than 65,535 octets'
+        return
+    fi
+    [ "$(head -c 3 "$1" | od -An -tx1)" != ' ef bb bf' ] || echo 'the case begins with a byte order mark, EF BB BF, which belongs to no line'
+    LC_ALL=C tr -c '\n\r -~' '?' <"$1" | LC_ALL=C awk '
+        BEGIN {
+            h = "[0-9A-Fa-f]"
+            h = h h h h
+            ids = "( " h h "-" h "-" h "-" h "-" h h h ")*$"
+            form[1] = "^initiator ."; form[2] = "^acceptor ."; form[3] = "^i " h ids; form[4] = "^a " h ids
+            split("initiator FILE/acceptor FILE/i MARKS ID ID ../a MARKS ID ID ..", shown, "/")
+        }
+        /^#/ || /^$/ { next }
+        ++k > 4 { if (k == 5) print "line " NR " is one too many: " substr($0, 1, 60); next }
+        $0 !~ form[k] {
+            print "line " NR " is not `" shown[k] "`: " substr($0, 1, 60)
+            if (/\r$/) print "it ends in a carriage return: tr -d \047\\r\047 takes it out"
+            said = 1
+            exit
+        }
+        END { if (!said && k < 4) print "the line `" shown[k + 1] "` is missing" }'
+}
+
+# 19: what is wrong with a list or its marks. Bit k of the marks is for place k.
+of_lists() {
+    LC_ALL=C awk "$meaning"'
+        BEGIN { print "refused 19: " meaning[19] }
+        # the number in hexadecimal digits
+        function hexadecimal(digits,    k, v) { for (k = 1; k <= length(digits); k++) v = v * 16 + index("123456789ABCDEF", substr(digits, k, 1)); return v }
+        /^[ia] / {
+            side = $1 == "i" ? "the initiator\047s" : "the acceptor\047s"
+            if (NF == 2) print side " list is empty"
+            if (NF > 18) print side " list has " NF - 2 " schemes"
+            split("", seen)
+            for (k = 3; k <= NF; k++) if (seen[toupper($k)]++ == 1) print side " list repeats " toupper($k)
+            if (NF <= 18 && hexadecimal(toupper($2)) >= 2 ^ (NF - 2)) print side " marks, " $2 ", have a bit beyond its list of " NF - 2
+        }' "$1"
+}
+
+# The number and the place of each message in a file.
+messages() {
+    od -An -v -tu1 "$1" | LC_ALL=C awk '
+        BEGIN { CONVFMT = OFMT = "%.0f" }
+        { for (i = 1; i <= NF; i++) octet[size++] = $i }
+        function le(at, k,    v) { v = 0; while (k--) v = v * 256 + octet[at + k]; return v }
+        END { for (at = 0; at < size && le(at + 20, 4); at += le(at + 20, 4)) print le(at + 12, 4), at }'
+}
+
+# 24: the first number that is missing, stands twice or stands behind a higher one in its file.
+of_numbers() {
+    { messages "$1" | sed 's/^/i /'; messages "$2" | sed 's/^/a /'; } | LC_ALL=C awk "$meaning"'
+        BEGIN { print "refused 24: " meaning[24] }
+        $1 in last && $2 < last[$1] { print "in the " ($1 == "i" ? "initiator" : "acceptor") "\047s file, number " $2 " at " $3 " stands behind number " last[$1]; said = 1; exit }
+        has[$2]++ { print "number " $2 " stands twice"; said = 1; exit }
+        { last[$1] = $2; if ($2 > highest) highest = $2 }
+        END { for (k = 0; !said && k <= highest; k++) if (!(k in has)) { print "number " k " is missing, and the highest is " highest; said = 1 } }'
+}
+
+# What ended a replay. That of a turn is behind the messages that are printed, so that its first has their number.
+of_replay() {
+    number=$(tail -n 1 "$2" | sed -n 's/^refused \([0-9]*\) .*/\1/p')
+    place=$(tail -n 1 "$2" | sed -n 's/.* at=\([0-9]*\) .*/\1/p')
+    end=$(tail -n 1 "$2" | sed 's/.* //')
+    initiator=$(named "$1" initiator)
+    acceptor=$(named "$1" acceptor)
+    case $(tail -n 1 "$2") in
+        'bad case') of_form "$1"; return ;;
+        'no file')
+            for side in initiator acceptor; do
+                eval "file=\$$side"
+                [ -r "$file" ] && [ ! -d "$file" ] || { echo "the $side's file cannot be read: $file"; return; }
+            done
+            ;;
+        refused*) ;;
+        *) return ;;
+    esac
+    case $number in
+        19) of_lists "$1" ;;
+        24) of_numbers "$initiator" "$acceptor" ;;
+        1 | 2 | 3 | 4 | 5 | 6)
+            eval "file=\$$end"
+            echo "the $end's file, $file, cannot be cut into messages; places are counted from its start"
+            of_token "$file" "$number" "$place"
+            ;;
+        *)
+            case $number.$end in 28.*) side=$end ;; *.initiator) side=acceptor ;; *) side=initiator ;; esac
+            eval "file=\$$side"
+            start=$(messages "$file" | sed -n "s/^$(grep -c '^message ' "$2") //p")
+            echo "turn $(grep -c '^turn ' "$2") is the $side's, and begins at octet $start of its file, $file; octets are counted from there"
+            tail -c "+$((start + 1))" "$file" | of_token /dev/stdin "$number" "$place"
+            ;;
+    esac
+}
+
 case ${1-} in
+    replay) of_replay "$2" "$3" ;;
     token) of_token "$2" "$3" "$4" ;;
     script) of_script "$2" "$3" ;;
     *) exit 2 ;;

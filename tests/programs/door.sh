@@ -30,7 +30,7 @@ done
 expect 'nothing is made beside a link' "$(ls "$work/bin" | tr '\n' ' ')" 'nx ny '
 
 # Help.
-for word in list blank converse examples library wireshark test; do
+for word in list blank converse replay examples library wireshark test; do
     expect "help $word" "$(./negoex help "$word" | head -n 1 | cut -c 1-$((16 + ${#word})))" "usage: ./negoex $word"
     expect "$word --help" "$(./negoex "$word" --help; echo $?)" "$(./negoex help "$word"; echo 0)"
 done
@@ -43,7 +43,7 @@ expect 'refused' "$(./negoex list crates/examples/data/refused-2-empty >/dev/nul
 expect 'missing' "$(./negoex list "$work/missing" >/dev/null 2>&1; echo $?)" 1
 
 # Standard output that cannot be written.
-for word in list blank converse; do
+for word in list blank converse replay; do
     expect "$word, closed" "$(./negoex "$word" "crates/$word/data/example" 2>&1 >&-; echo $?)" "negoex: standard output cannot be written
 1"
     [ -c /dev/full ] || continue

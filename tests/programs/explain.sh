@@ -26,7 +26,7 @@ for file in crates/examples/data/*; do
     sh tools/explain.sh token "$file" "$number" "${answer#*at=}" >"$work/words"
     expect "$file: number" "$(head -n 1 "$work/words" | cut -d : -f 1)" "refused $number"
     case $number in
-        1) fault='^the token has [0-9]* octets$' ;;
+        1) fault='^it has [0-9]* octets$' ;;
         2) fault='octets are left, from octet [0-9]* on$\|^the token is empty$' ;;
         5 | 13) fault='^octets .*, and not ' ;;
         6) fault='^octets .* message length: .*\(below\|left$\)' ;;

@@ -1,5 +1,5 @@
 #!/bin/sh
-# What README.md shows of the programs is what they print: listings and the damaged capture whole, and what is said beside a refusal; of the script and its answers each line (`..` stands for
+# What README.md shows of the programs is what they print: listings, the damaged capture and the replay whole, and what is said beside a refusal; of the script and its answers each line (`..` stands for
 # anything). The piece of a program that it shows stands in that program.
 set -u
 cd "$(dirname "$0")/../.." || exit 1
@@ -42,6 +42,12 @@ shown './negoex recover' >"$work/recovered"
 ./negoex recover </dev/null >"$work/printed" 2>/dev/null
 cmp -s "$work/recovered" "$work/printed" || fail 'the damaged capture is another'
 
+shown './negoex replay' >"$work/replayed"
+./negoex replay </dev/null >"$work/printed" 2>/dev/null
+cmp -s "$work/replayed" "$work/printed" || fail 'the replay is another'
+sed -n 's/^    \(initiator .*\)$/\1/p; s/^    \(acceptor .*\)$/\1/p; s/^    \([ia] [0-9].*\)$/\1/p' README.md >"$work/case"
+grep -v '^#' crates/replay/data/example | cmp -s "$work/case" - || fail 'the case is another'
+
 shown './negoex converse' >"$work/answers"
 ./negoex converse </dev/null >"$work/printed" 2>/dev/null
 [ -s "$work/answers" ] || fail 'no answers are shown'
@@ -56,5 +62,5 @@ while IFS= read -r line; do
     grep -qxF -- "$line" crates/converse/data/example || fail "no such call in the bundled script: $line"
 done <"$work/calls"
 
-printf 'tests/programs/readme.sh: %d lines shown, %d not so\n' "$(cat "$work/listing" "$work/recovered" "$work/beside" "$work/piece" "$work/answers" "$work/calls" | wc -l)" "$failures"
+printf 'tests/programs/readme.sh: %d lines shown, %d not so\n' "$(cat "$work/listing" "$work/recovered" "$work/replayed" "$work/case" "$work/beside" "$work/piece" "$work/answers" "$work/calls" | wc -l)" "$failures"
 [ "$failures" -eq 0 ]

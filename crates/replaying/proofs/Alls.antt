@@ -23,7 +23,7 @@ use Rattle.replaying.specs.declared.Found.{Found}
 use Rattle.replaying.specs.declared.Fault.{Fault}
 use Rattle.replaying.specs.declared.Replay.{Replay}
 use Rattle.replaying.proofs.Befores.{fault-none}
-use Rattle.replaying.specs.Playing.{fileIf, caseWith, endingAs, Summary, summary, counted, sidesIn, playedAs, leftOf, marked, restOf, begunWith, Fine, turnIn, Further, Ended, Goes}
+use Rattle.replaying.specs.Playing.{fileIf, caseWith, endingAs, Summary, summary, counted, sidesIn, playedAs, leftOf, marked, restOf, begunWith, Begun, Fine, turnIn, Further, Ended, Goes}
 
 -- 1. the loop
 
@@ -152,12 +152,15 @@ module _ (il al : List ℕ) (m : Marks) (f : Found) (i a : List ℕ) (x : Fault)
   abbrev the-case : Case
   the-case = caseWith il al m f i a
 
-  pub whole-ended : (d : List ℕ) → q ≡ true → (r : Replay) → r ≡ begunWith il al (replicate 16 0) x false → playedAs r d ≡ summary (replayOf (caseWith il al m f i a) d)
-  unfolding replayOf
-  whole-ended d e r r-is =
-      ap (λ (z : Replay). playedAs z d) r-is
-      ∙ sym (ap (λ (z : Ending). summary (endedBy z (opened the-case [] d) (playFrom the-case (opened the-case (turnsIn the-case) d) (turnsIn the-case)))) (sym x-is)
-      ∙ ap summary (ended-first x (opened the-case [] d) (playFrom the-case (opened the-case (turnsIn the-case) d) (turnsIn the-case)) (sym q-is ∙ e)))
+  ended-come : q ≡ true → (d : List ℕ) → restOf m i a (begunWith il al (replicate 16 0) x false) d ≡ replayOf the-case d
+  unfolding restOf replayOf
+  ended-come e d =
+      sym (ap (λ (z : Ending). endedBy z (opened the-case [] d) (playFrom the-case (opened the-case (turnsIn the-case) d) (turnsIn the-case))) (sym x-is)
+      ∙ ended-first x (opened the-case [] d) (playFrom the-case (opened the-case (turnsIn the-case) d) (turnsIn the-case)) (sym q-is ∙ e))
+
+  pub start-ended : q ≡ true → (r : Replay) → r ≡ begunWith il al (replicate 16 0) x false → Begun (caseWith il al m f i a) m i a r
+  start-ended e r r-is =
+      subst (λ (z : Replay). Begun the-case m i a z) (sym r-is) (record { going = λ h. no-true h; none-yet = refl; come = ended-come e })
 
   module _ (none : q ≡ false) where
     none-before : before the-case ≡ finished
@@ -226,27 +229,44 @@ module _ (il al : List ℕ) (m : Marks) (f : Found) (i a : List ℕ) (x : Fault)
             (refl, fault-none x (sym q-is ∙ none) .0),
           )
 
-      pub whole-fine : Fine i a s
-      whole-fine = whole-begins .0
-
-      pub whole-more : s .more ≡ true
-      whole-more = whole-begins .1 .0
-
-      pub whole-open : endingAs (s .fault) ≡ finished
-      whole-open = whole-begins .1 .1
-
-      whole-left : (d : List ℕ) → summary (restOf m i a s d) ≡ summary (replayOf the-case d)
+      whole-left : (d : List ℕ) → restOf m i a s d ≡ replayOf the-case d
       unfolding restOf
       whole-left d =
-          ap (λ (z : Replay). summary (restOf m i a z d)) s-is
-          ∙ ap (λ (w : List ℕ). summary (playFrom (marked m) (sidesIn (begunWith il al w x true) d) (turnsOf (messagesOf i) (messagesOf a)))) v-is
-          ∙ ap summary (sym (whole-is d ∙ same-marks il al m f i a (opened the-case (turnsOf (messagesOf i) (messagesOf a)) d) (turnsOf (messagesOf i) (messagesOf a))))
+          ap (λ (z : Replay). restOf m i a z d) s-is
+          ∙ ap (λ (w : List ℕ). playFrom (marked m) (sidesIn (begunWith il al w x true) d) (turnsOf (messagesOf i) (messagesOf a))) v-is
+          ∙ sym (whole-is d ∙ same-marks il al m f i a (opened the-case (turnsOf (messagesOf i) (messagesOf a)) d) (turnsOf (messagesOf i) (messagesOf a)))
 
-      pub whole-played : (d : List ℕ) (r : Replay) (d′ : List ℕ) → playedAs r d′ ≡ counted (s .turns) (summary (restOf m i a s d)) → playedAs r d′ ≡ summary (replayOf (caseWith il al m f i a) d)
-      whole-played d r d′ e =
-          let z : s .turns ≡ 0 = ap (λ (z : Replay). z .turns) s-is in
-          e ∙ ap (λ (k : ℕ). counted k (summary (restOf m i a s d))) z ∙ counted-none (summary (restOf m i a s d)) ∙ whole-left d
+      pub start-goes : Begun (caseWith il al m f i a) m i a s
+      start-goes = record {
+        going = λ h. (whole-begins .0, whole-begins .1 .1);
+        none-yet = ap (λ (z : Replay). z .turns) s-is;
+        come = whole-left;
+      }
+
+-- from a replay before its first turn to the whole
+module _ (c : Case) (m : Marks) (i a : List ℕ) (s : Replay) (begun : Begun c m i a s) where
+  pub begun-fine : s .more ≡ true → Fine i a s
+  begun-fine h = begun .going h .0
+
+  pub begun-open : s .more ≡ true → endingAs (s .fault) ≡ finished
+  begun-open h = begun .going h .1
+
+  begun-counted : (d : List ℕ) → counted (s .turns) (summary (restOf m i a s d)) ≡ summary (replayOf c d)
+  begun-counted d = ap (λ (k : ℕ). counted k (summary (restOf m i a s d))) (begun .none-yet) ∙ counted-none (summary (restOf m i a s d)) ∙ ap summary (begun .come d)
+
+  pub whole-ended : (d : List ℕ) → s .more ≡ false → playedAs s d ≡ summary (replayOf c d)
+  unfolding restOf
+  whole-ended d e =
+      let z : s .turns ≡ 0 = begun .none-yet in
+      ap (λ (k : ℕ). record { turns = k; sides = sidesIn s d; ending = endingAs (s .fault) }) z
+      ∙ sym (ap (λ (b : Bool). summary (cond b (playFrom (marked m) (sidesIn s d) (leftOf s i a)) (record { turns = []; sides = sidesIn s d; ending = endingAs (s .fault) }))) e)
+      ∙ ap summary (begun .come d)
+
+  pub whole-played : (d : List ℕ) (r : Replay) (d′ : List ℕ) → playedAs r d′ ≡ counted (s .turns) (summary (restOf m i a s d)) → playedAs r d′ ≡ summary (replayOf c d)
+  whole-played d r d′ e = e ∙ begun-counted d
 
 pub ruleset alls = (all-begins, all-fine, all-open, all-ends, all-on, all-less)
 
-pub ruleset wholes = (whole-ended, whole-short-i, whole-short-a, whole-fine, whole-more, whole-open, whole-played)
+pub ruleset starts = (start-ended, whole-short-i, whole-short-a, start-goes)
+
+pub ruleset wholes = (begun-fine, begun-open, whole-ended, whole-played)

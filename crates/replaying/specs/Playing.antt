@@ -12,6 +12,7 @@
 --   restOf             what is left to be played of a replay at work
 --   begunWith          a replay before its first turn
 --   Fine i a s         a replay at work is inside the files i and a, and its records are level: both have read and written the same
+--   Begun              a replay at work has not begun: what is left of it is the whole
 --   Stood, stood       a replay at work, with its transcript
 --   roleOf x s         the record of a role
 --   wentOn, endedWith  a replay at work behind an accepted turn, and behind a refused one; whoseIn: whose the refusal is
@@ -29,7 +30,7 @@ use lib.ListN.{length, take, drop}
 use lib.Dec.{eqb}
 use Rattle.token.specs.Walk.{Accepts}
 use Rattle.sides.specs.Merging.{Turn, token, messagesOf, inRow}
-use Rattle.sides.specs.Replay.{Case, Whose, initiator, acceptor, neither, Ending, finished, refused, unopened, firstEnding, fileEnding, fileOf, Sides, Played, withTurn, playFrom, choiceOf}
+use Rattle.sides.specs.Replay.{Case, Whose, initiator, acceptor, neither, Ending, finished, refused, unopened, firstEnding, fileEnding, fileOf, Sides, Played, withTurn, playFrom, choiceOf, replayOf}
 use Rattle.sides.specs.Turning.{owed, heardTurn, spoke}
 use Rattle.conversation.specs.declared.Record.{Record}
 use Rattle.conversation.specs.Outcomes.{Outcome, zeroId}
@@ -112,6 +113,12 @@ pub record Fine (i a : List ℕ) (s : Replay) : Type 0 where
   pub few-a : s .acceptor .count ≤ 16
   pub used : s .initiator .used ≡ s .acceptor .used
   pub sequence : s .initiator .sequence ≡ s .acceptor .sequence
+
+-- before the first turn all is left, and it goes on where nothing ended it before play
+pub record Begun (c : Case) (m : Marks) (i a : List ℕ) (s : Replay) : Type 0 where
+  pub going : s .more ≡ true → Fine i a s × (endingAs (s .fault) ≡ finished)
+  pub none-yet : s .turns ≡ 0
+  pub come : (d : List ℕ) → restOf m i a s d ≡ replayOf c d
 
 pub record Stood : Type 0 where
   pub replay : Replay

@@ -5,7 +5,7 @@ ghost use Prim.Native.Nat.{_+_, _*_, _-_, _<_, _≤_};
 ghost use lib.ListN.{length, take, drop};
 ghost use Rattle.sides.specs.Merging.{messagesOf, turnsOf};
 ghost use Rattle.sides.specs.Replay.{finished, conversationIn, replayOf};
-ghost use Rattle.replaying.specs.Playing.{caseWith, endingAs, summary, playedAs, begunWith, counted, restOf, Fine, stood, endedWith, whoseIn, afterTurn, Ready, Goes};
+ghost use Rattle.replaying.specs.Playing.{caseWith, endingAs, summary, playedAs, begunWith, Begun, counted, restOf, Fine, stood, endedWith, whoseIn, afterTurn, Ready, Goes};
 use super::Fault;
 use super::Found;
 use super::Marks;
@@ -62,6 +62,25 @@ fn begin_with(
         more,
         fault,
     }
+}
+
+// Two files before their first turn, each record opened with the list of its side, 16 octets a scheme; or what ends a replay before play.
+pub fn start(
+    ilist: &[u8],
+    alist: &[u8],
+    marks: Marks,
+    found: Found,
+    ifile: &[u8],
+    afile: &[u8],
+) -> Replay
+    ensures { λ r. ⌜ Begun (caseWith (now (ilist .entry)) (now (alist .entry)) marks found (now (ifile .entry)) (now (afile .entry))) marks (now (ifile .entry)) (now (afile .entry)) r ⌝ }
+{
+    let f = fault_before(ilist, alist, marks, found, ifile, afile);
+    if is_fault(f) {
+        return begin_with(ilist, alist, [0u8; 16], f, false);
+    }
+    let conversation = first_conversation(ifile, afile);
+    begin_with(ilist, alist, conversation, f, true)
 }
 
 // The number of a role's side.
@@ -206,11 +225,9 @@ pub fn play(
 ) -> Replay
     ensures { λ r. ⌜ playedAs r (now (transcript .exit)) ≡ summary (replayOf (caseWith (now (ilist .entry)) (now (alist .entry)) marks found (now (ifile .entry)) (now (afile .entry))) (now (transcript .entry))) ⌝ }
 {
-    let f = fault_before(ilist, alist, marks, found, ifile, afile);
-    if is_fault(f) {
-        return begin_with(ilist, alist, [0u8; 16], f, false);
+    let s = start(ilist, alist, marks, found, ifile, afile);
+    if s.more {} else {
+        return s;
     }
-    let conversation = first_conversation(ifile, afile);
-    let s = begin_with(ilist, alist, conversation, f, true);
     play_all(s, marks, ifile, afile, transcript)
 }

@@ -2,3 +2,4 @@ pub mod Places
 pub mod Ids
 pub mod Lines
 pub mod Items
+pub mod Givens

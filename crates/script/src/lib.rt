@@ -22,6 +22,7 @@ use value::number_in;
 use value::rest_in;
 
 mod field;
+pub mod given;
 mod item;
 mod value;
 

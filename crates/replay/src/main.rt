@@ -1,0 +1,12 @@
+// Replays the case in the file whose name stands on standard input's first line.
+use bytes::scan::find;
+use libc::STDIN_FILENO;
+use replay_files::replay_file;
+
+fn main() {
+    let mut input = io::buffer();
+    let n = io::read_full(STDIN_FILENO, &mut input);
+    let end = find(&input, 0, n, b'\n');
+    let mut buf = [0u8; 65536];
+    replay_file(&input[..end], &mut buf);
+}

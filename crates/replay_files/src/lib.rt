@@ -1,0 +1,103 @@
+// Replaying a case: its text and its two files read, and what the replay says written to standard output.
+ghost use Rattle.console.specs.Console.{holds};
+use case::Case;
+use case::name_behind;
+use case::read_case;
+use console::Loaded;
+use console::load;
+use fields::part;
+use libc::STDOUT_FILENO;
+use replaying::Found;
+use replaying::Marks;
+use turns::show_replay;
+
+mod case;
+mod turns;
+
+// Whether a file was read, and how many octets of it.
+struct Opened {
+    found: bool,
+    octets: usize,
+}
+
+fn file_of(loaded: Loaded) -> Opened {
+    match loaded {
+        Loaded::Octets(n) => Opened {
+            found: true,
+            octets: n,
+        },
+        Loaded::Nothing => Opened {
+            found: false,
+            octets: 0,
+        },
+    }
+}
+
+// The marks of a side: four digits say no more than 65,535.
+fn marks_of(n: u32) -> u16 {
+    (n % 65536) as u16
+}
+
+// Replays the files of a case, by the lists of its two sides. One octet more than a file may have is asked for, so that a longer one is seen.
+fn replay_files(c: Case, text: &[u8], ilist: &[u8], alist: &[u8]) {
+    let mut ibuf = [0u8; 65536];
+    let mut abuf = [0u8; 65536];
+    let i = file_of(load(name_behind(text, b"initiator "), &mut ibuf));
+    let a = file_of(load(name_behind(text, b"acceptor "), &mut abuf));
+    let found = Found {
+        initiator: i.found,
+        acceptor: a.found,
+    };
+    let marks = Marks {
+        initiator: marks_of(c.initiator.marks),
+        acceptor: marks_of(c.acceptor.marks),
+    };
+    show_replay(
+        ilist,
+        alist,
+        marks,
+        found,
+        part(&ibuf, 0, i.octets),
+        part(&abuf, 0, a.octets),
+    );
+}
+
+// Replays a case. Each list has room for all ids that its text can have.
+fn replay_case(text: &[u8]) {
+    let mut ilist = [0u8; 65536];
+    let mut alist = [0u8; 65536];
+    let c = read_case(text, &mut ilist, &mut alist);
+    if c.lines != Case::WHOLE {
+        io::write_all(STDOUT_FILENO, b"bad case\n");
+        return;
+    }
+    let i = c.initiator.length;
+    let a = c.acceptor.length;
+    replay_files(c, text, part(&ilist, 0, i), part(&alist, 0, a));
+}
+
+// Replays the case in the first n octets of a buffer; one that fills it is too long.
+fn replay_front(buf: &[u8], n: usize) {
+    if n == buf.len() {
+        io::write_all(STDOUT_FILENO, b"bad case\n");
+        return;
+    }
+    replay_case(part(buf, 0, n));
+}
+
+// Replays the case in the file with a name, by way of a buffer that the caller lends, and writes what is to be seen of it to standard output.
+pub fn replay_file(name: &[u8], buf: &mut [u8]) -> Loaded
+    ensures { λ r. ⌜ holds r (now (buf .exit)) ⌝ }
+{
+    let loaded = load(name, buf);
+    match loaded {
+        Loaded::Octets(n) => {
+            replay_front(buf, n);
+            Loaded::Octets(n)
+        }
+        Loaded::Nothing => {
+            io::write_all(STDOUT_FILENO, b"no file\n");
+            Loaded::Nothing
+        }
+    }
+}
