@@ -79,8 +79,8 @@ refused 'an empty name' 1 'negoex: the file has no name' list ''
 refused 'two files' 2 "negoex: 'list' takes one file" list a b
 refused 'an unknown option' 2 "negoex: unknown option '--binary': --raw, --hex, --dump or --base64" list --binary a
 refused 'an argument too many' 2 "negoex: 'examples' takes no argument" examples a
-refused 'no word' 2 'negoex: say what to do: list, recover, blank, converse, unwrap, wrap, tally, examples, library, wireshark, test or help'
-refused 'an unknown word' 2 "negoex: unknown word 'show': list, recover, blank, converse, unwrap, wrap, tally, examples, library, wireshark, test or help" show
+refused 'no word' 2 'negoex: say what to do: list, recover, blank, converse, replay, unwrap, wrap, tally, examples, library, wireshark, test or help'
+refused 'an unknown word' 2 "negoex: unknown word 'show': list, recover, blank, converse, replay, unwrap, wrap, tally, examples, library, wireshark, test or help" show
 mkdir "$work/bin"
 ln -s "$(command -v dirname)" "$(command -v readlink)" "$work/bin"
 got=$(PATH=$work/bin /bin/sh "$root/negoex" test 2>&1)
