@@ -67,6 +67,10 @@ done
 one_line 'list, an unknown option' 2 "unknown option '--all': --raw, --hex, --dump or --base64" list --all
 one_line 'tally, an option' 2 "'tally' has no option '--all'; a file of that name is './--all'" tally --all
 for word in examples wireshark test; do one_line "$word, a file" 2 "'$word' takes no argument" "$word" a; done
+for word in $files tally; do
+    expect "$word, standard input that is closed" "$(./negoex "$word" - 2>&1 <&-; echo $?)" 'negoex: standard input cannot be read
+1'
+done
 one_line 'library, two folders' 2 "'library' takes one folder" library a b
 one_line 'library, no name' 1 'the folder has no name' library ''
 

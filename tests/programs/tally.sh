@@ -125,6 +125,7 @@ said 'a folder and a missing file' 1 "negoex: 2 of the files cannot be opened, t
 said 'an empty name' 1 'negoex: 1 of the files cannot be opened, the first of them: ' ''
 printf 'all-types\nmissing' >"$work/names"
 said 'a missing file, named on standard input' 1 'negoex: 1 of the files cannot be opened, the first of them: missing' <"$work/names"
+expect 'names on standard input, by a dash' "$(echo "$data/all-types" | ./negoex tally -)" "$types"
 said 'a name with a line end' 1 'negoex: a name with a line end in it cannot be given on' "$(printf 'two\nlines')"
 expect 'the bundled captures' "$(./negoex tally </dev/null 2>"$work/errors")" "$(cd "$captures" && LC_ALL=C ls *.negoex | "$tally")"
 expect 'the bundled captures: said' "$(cat "$work/errors")" 'negoex: no FILE is given: these are the bundled captures, crates/examples/data/*.negoex'
