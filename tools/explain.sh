@@ -2,6 +2,8 @@
 # What stands behind a refusal, in words; nothing here decides one.
 #   explain.sh token FILE NUMBER PLACE   `refused NUMBER at=PLACE` was answered to the token in FILE: which octets to look at
 #   explain.sh script FILE ANSWERS       the lines of the script in FILE that were bad or refused, by ANSWERS, what was printed
+#   explain.sh envelope FILE ANSWERS     why the envelope in FILE, or the token in it, was refused, by ANSWERS, what was printed
+#   explain.sh text NUMBER               `refused NUMBER at=0` was answered to a text that says an envelope
 #   explain.sh replay CASE ANSWERS       what ended the replay of CASE, by ANSWERS, what was printed; the case names files from the current folder
 # Places are counted from the token's first octet, from 0. docs/RULES.md has the rules.
 set -u
@@ -26,14 +28,14 @@ no room in the transcript
 no common scheme is left after the marks of this end
 the call is not of this stage (after a refusal 12 none is), or the record is outside its limits
 an own list that is empty, above 16 or repeats a scheme; marks beyond the list; or empty metadata
-(not of a conversation)
-(not of a conversation)
-(not of a conversation)
-(not of a conversation)
+a tag, the identifier of the wrapper or a state is another, a required element or all mechanisms are missing, or a length goes past its holder
+a length is indefinite or not the shortest
+octets are left over, or a tag is unknown or misplaced
+a seventeenth mechanism
 a number from 0 to the highest is missing, stands twice, or stands behind a higher one in its file
 more than 8 extensions or alerts, or a value of more than 4,096 octets
 a critical extension outside a test call
-(not of a conversation)
+the file cannot be opened
 the schemes of a NEGO, or the choice of the initiator, are not what the list and marks of its end give, or these leave none'
 export meanings
 meaning='BEGIN { split(ENVIRON["meanings"], meaning, "\n"); CONVFMT = OFMT = "%.0f" }
@@ -282,7 +284,35 @@ of_replay() {
     esac
 }
 
+# A refused envelope has one line; else the last one is that of the token in it, which is cut out of the file by the line that says where it stands.
+of_envelope() {
+    number=$(tail -n 1 "$2" | sed -n 's/^refused \([0-9]*\) .*/\1/p')
+    place=$(tail -n 1 "$2" | sed -n 's/.* at=//p')
+    start=$(sed -n 's/^token at=\([0-9]*\) .*/\1/p' "$2")
+    length=$(sed -n 's/^token at=.* length=//p' "$2")
+    case $number in
+        '') ;;
+        1) of_token "$1" 1 0 ;;
+        2?) awk -v number="$number" "$meaning"'BEGIN { print "refused " number ": " meaning[number] }' ;;
+        *)
+            echo "the token begins at octet $start of the file; octets are counted from there"
+            tail -c "+$((start + 1))" "$1" | head -c "$length" | of_token /dev/stdin "$number" "$place"
+            ;;
+    esac
+}
+
+# What a writing is refused with is about the text, and not about elements that were read.
+of_text() {
+    case $1 in
+        1) echo 'refused 1: the envelope would have more than 65,535 octets, or the text has more than 262,143' ;;
+        20) echo 'refused 20: an Init names no mechanism, or the state is above 3' ;;
+        23) echo 'refused 23: more than 16 mechanisms' ;;
+    esac
+}
+
 case ${1-} in
+    envelope) of_envelope "$2" "$3" ;;
+    text) of_text "$2" ;;
     replay) of_replay "$2" "$3" ;;
     token) of_token "$2" "$3" "$4" ;;
     script) of_script "$2" "$3" ;;

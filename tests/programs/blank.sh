@@ -112,12 +112,10 @@ expect 'too long: status' "$status" 3
 expect 'too long: what is said first' "$(head -n 1 "$work/said")" 'refused 1 at=0'
 door "$work/missing"
 expect 'missing: status' "$status" 1
-refused 'missing' "no file
-negoex: no such file: $work/missing"
+refused 'missing' "negoex: no such file: $work/missing"
 door "$work/folder"
 expect 'a folder: status' "$status" 1
-refused 'a folder' "no file
-negoex: a folder, and no file: $work/folder"
+refused 'a folder' "negoex: a folder, and no file: $work/folder"
 door "$data/example" "$data/pads"
 expect 'two files: status' "$status" 2
 

@@ -29,13 +29,64 @@ for name in nx ny; do
 done
 expect 'nothing is made beside a link' "$(ls "$work/bin" | tr '\n' ' ')" 'nx ny '
 
-# Help.
-for word in list blank converse replay examples library wireshark test; do
+# Help: a line for each word, and more of each.
+files='list recover blank converse replay unwrap wrap'
+for word in $files tally examples library wireshark test; do
+    expect "help: $word" "$(./negoex help | grep -c "^[ usage:]* \./negoex $word ")" 1
     expect "help $word" "$(./negoex help "$word" | head -n 1 | cut -c 1-$((16 + ${#word})))" "usage: ./negoex $word"
     expect "$word --help" "$(./negoex "$word" --help; echo $?)" "$(./negoex help "$word"; echo 0)"
 done
 expect 'help' "$(./negoex --help; echo $?)" "$(./negoex help; echo 0)"
-expect 'help of an unknown word' "$(./negoex help show 2>/dev/null; echo $?)" 2
+expect 'help help' "$(./negoex help help; echo $?)" "$(./negoex help; echo 0)"
+expect 'README has the words of help' "$(awk '/^    \.\/negoex list / { on = 1 } on && /^$/ { exit } on { print $2 }' README.md)" "$(./negoex help | sed -n 's/^.*\.\/negoex \([a-z]*\) .*/\1/p')"
+
+# one_line WHAT STATUS LINE WORDS..: the front door answers with one line on standard error, nothing else, and the status
+one_line() {
+    what=$1 status=$2 line=$3
+    shift 3
+    got=$(./negoex "$@" </dev/null 2>"$work/errors"; echo "status $?")
+    expect "$what" "$got" "status $status"
+    expect "$what: line" "$(cat "$work/errors")" "negoex: $line"
+}
+words='list, recover, blank, converse, replay, unwrap, wrap, tally, examples, library, wireshark, test or help'
+one_line 'no word' 2 "say what to do: $words"
+one_line 'an unknown word' 2 "unknown word 'show': $words" show
+one_line 'help of an unknown word' 2 "unknown word 'show': $words" help show
+one_line 'help of two words' 2 "'help' takes one word" help list blank
+mkdir "$work/folder"
+touch "$work/unreadable"
+chmod 000 "$work/unreadable"
+for word in $files; do
+    one_line "$word, a missing file" 1 "no such file: $work/missing" "$word" "$work/missing"
+    one_line "$word, a folder" 1 "a folder, and no file: $work/folder" "$word" "$work/folder"
+    one_line "$word, an empty name" 1 'the file has no name' "$word" ''
+    one_line "$word, two files" 2 "'$word' takes one file" "$word" a b
+    [ "$(id -u)" -eq 0 ] || one_line "$word, a file that may not be read" 1 "the file cannot be read: $work/unreadable" "$word" "$work/unreadable"
+    [ "$word" = list ] || one_line "$word, an option" 2 "'$word' has no option '--raw'; a file of that name is './--raw'" "$word" --raw
+done
+one_line 'list, an unknown option' 2 "unknown option '--all': --raw, --hex, --dump or --base64" list --all
+one_line 'tally, an option' 2 "'tally' has no option '--all'; a file of that name is './--all'" tally --all
+for word in examples wireshark test; do one_line "$word, a file" 2 "'$word' takes no argument" "$word" a; done
+for word in $files tally; do
+    expect "$word, standard input that is closed" "$(./negoex "$word" - 2>&1 <&-; echo $?)" 'negoex: standard input cannot be read
+1'
+done
+one_line 'library, two folders' 2 "'library' takes one folder" library a b
+one_line 'library, no name' 1 'the folder has no name' library ''
+
+# Without a file the bundled one, which standard error names; the answer is the one that is kept beside the program. An empty file has an answer too.
+: >"$work/empty"
+for word in $files; do
+    ./negoex "$word" </dev/null >"$work/out" 2>"$work/errors"
+    expect "$word, bundled: status" "$?" 0
+    expect "$word, bundled: said" "$(head -n 1 "$work/errors")" "negoex: no FILE is given: this is the bundled example, crates/$word/data/example"
+    case $word in blank) kept=crates/blank/data/example.blanked ;; *) kept=crates/$word/stdout ;; esac
+    cmp -s "$work/out" "$kept" || expect "$word, bundled" another "that of $kept"
+    case $word in recover | converse) status=0 ;; *) status=3 ;; esac
+    ./negoex "$word" "$work/empty" >"$work/out" 2>"$work/errors"
+    expect "$word, an empty file: status" "$?" "$status"
+    expect "$word, an empty file: an answer" "$(cat "$work/out" "$work/errors" | head -n 1 | cut -d ' ' -f 1)" "$(case $word in recover) echo end ;; converse) echo used ;; replay | wrap) echo bad ;; *) echo refused ;; esac)"
+done
 
 # Status.
 expect 'accepted' "$(./negoex list crates/list/data/example >/dev/null 2>&1; echo $?)" 0

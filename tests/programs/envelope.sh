@@ -69,11 +69,47 @@ mkdir "$work/folder"
 for program in unwrap wrap; do
     expect "$program: a folder" "$(run "$program" "$work/folder")" 'no file'
     expect "$program: no name" "$("$root/target/bin/$program" </dev/null)" 'no file'
-    expect "$program: the front door" "$("$root/negoex" "$program")" "$(cat "crates/$program/stdout")"
+    expect "$program: the front door" "$("$root/negoex" "$program" </dev/null 2>/dev/null)" "$(cat "crates/$program/stdout")"
     "$root/negoex" "$program" "$work/missing" 2>/dev/null && expect "$program: a missing file" 'status 0' 'another status'
 done
 head -c 262144 /dev/zero | tr '\0' '#' >"$work/long"
 expect 'wrap: a text of 262,144 octets' "$(run wrap "$work/long")" 'refused 1 at=0'
+
+# The front door: what is said of a refusal. says STATUS LAST WORD FILE LINE..: of the file
+says() {
+    status=$1 last=$2 word=$3 file=$4
+    shift 4
+    ./negoex "$word" "$file" >"$work/output" 2>"$work/errors"
+    expect "$word $file: status" "$?" "$status"
+    expect "$word $file: last line" "$(tail -n 1 "$work/output")" "$last"
+    expect "$word $file: words" "$(cat "$work/errors")" "$(printf 'negoex: %s\n' "$@")"
+}
+read_there='README.md, "What an envelope looks like", has the numbers of an envelope, docs/RULES.md those of a token'
+written_there='README.md, "What an envelope looks like", has the form of a text and the numbers'
+says 3 'refused 1 at=0' unwrap "$data/refused-1-65536-octets" 'refused 1: longer than 65,535 octets' 'it has 65536 octets' "$read_there"
+says 3 'refused 20 at=0' unwrap "$data/refused-20-state-4" \
+    'refused 20: a tag, the identifier of the wrapper or a state is another, a required element or all mechanisms are missing, or a length goes past its holder' "$read_there"
+says 3 'refused 21 at=0' unwrap "$data/refused-21-indefinite" 'refused 21: a length is indefinite or not the shortest' "$read_there"
+says 3 'refused 22 at=0' unwrap "$data/refused-22-field-a4" 'refused 22: octets are left over, or a tag is unknown or misplaced' "$read_there"
+says 3 'refused 23 at=0' unwrap "$data/refused-23-seventeen" 'refused 23: a seventeenth mechanism' "$read_there"
+
+# A refused token in an envelope: the lines that `list` says of it, counted from where it stands.
+token=$tokens/refused-11-second-of-three
+{ echo init; echo 'mechanism 2B06010401823702021E'; echo "token $(hex "$token")"; } >"$work/text"
+./negoex wrap "$work/text" 2>/dev/null | sed 's/.* //' >"$work/hex"
+sh tools/decode.sh hex "$work/hex" "$work/envelope" >/dev/null
+./negoex list "$token" 2>&1 >/dev/null | sed 's/^negoex: //' >"$work/said"
+start=$(($(wc -c <"$work/envelope") - $(wc -c <"$token")))
+says 3 'refused 11 at=112' unwrap "$work/envelope" "the token begins at octet $start of the file; octets are counted from there" \
+    "$(sed -n 1p "$work/said")" "$(sed -n 2p "$work/said")" "$(sed -n 3p "$work/said")" "$read_there"
+
+echo init >"$work/text"
+says 3 'refused 20 at=0' wrap "$work/text" 'refused 20: an Init names no mechanism, or the state is above 3' "$written_there"
+{ echo init; yes 'mechanism 06' | head -n 17; } >"$work/text"
+says 3 'refused 23 at=0' wrap "$work/text" 'refused 23: more than 16 mechanisms' "$written_there"
+says 3 'refused 1 at=0' wrap "$work/long" 'refused 1: the envelope would have more than 65,535 octets, or the text has more than 262,143' "$written_there"
+echo resp, >"$work/text"
+says 3 'bad line' wrap "$work/text" "$written_there"
 
 [ "$failures" -eq 0 ] || exit 1
 echo "envelope: $cases cases"

@@ -1,6 +1,6 @@
 #!/bin/sh
-# What README.md shows of the programs is what they print: listings, the damaged capture and the replay whole, and what is said beside a refusal; of the script and its answers each line (`..` stands for
-# anything). The piece of a program that it shows stands in that program.
+# What README.md shows of the programs is what they print: listings, the damaged capture and the replay whole, and what is said beside a refusal; of the script and its answers, the envelope, the writing of
+# one and the tally each line (`..` stands for anything). The piece of a program that it shows stands in that program.
 set -u
 cd "$(dirname "$0")/../.." || exit 1
 work=$(mktemp -d) || exit 1
@@ -48,13 +48,16 @@ cmp -s "$work/replayed" "$work/printed" || fail 'the replay is another'
 sed -n 's/^    \(initiator .*\)$/\1/p; s/^    \(acceptor .*\)$/\1/p; s/^    \([ia] [0-9].*\)$/\1/p' README.md >"$work/case"
 grep -v '^#' crates/replay/data/example | cmp -s "$work/case" - || fail 'the case is another'
 
-shown './negoex converse' >"$work/answers"
-./negoex converse </dev/null >"$work/printed" 2>/dev/null
-[ -s "$work/answers" ] || fail 'no answers are shown'
-while IFS= read -r line; do
-    pattern=$(printf '%s\n' "$line" | sed 's/[][*^$\\]/\\&/g; s/\.\./.*/g')
-    grep -qx -- "$pattern" "$work/printed" || fail "no such answer: $line"
-done <"$work/answers"
+for word in converse unwrap wrap tally; do
+    shown "./negoex $word" >"$work/some"
+    ./negoex "$word" </dev/null >"$work/printed" 2>/dev/null
+    [ -s "$work/some" ] || fail "no answers of $word are shown"
+    while IFS= read -r line; do
+        pattern=$(printf '%s\n' "$line" | sed 's/[][*^$\\]/\\&/g; s/\.\./.*/g')
+        grep -qx -- "$pattern" "$work/printed" || fail "no such answer of $word: $line"
+    done <"$work/some"
+    cat "$work/some" >>"$work/answers"
+done
 
 sed -n 's/^    \(open [ia] .*\)$/\1/p; s/^    \([ia] [a-z][a-z]* .*\)$/\1/p; s/^    \([ia] read\)$/\1/p' README.md | grep -v 'ROOM' >"$work/calls"
 [ -s "$work/calls" ] || fail 'no calls are shown'

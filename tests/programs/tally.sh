@@ -105,9 +105,30 @@ expect '5,000 names' "$(cat "$work/output")" "$(text "$none" 0 0 0 'refused 27 c
 # The front door.
 expect 'no arguments' "$(echo "$data/all-types" | ./negoex tally)" "$types"
 expect 'an argument' "$(./negoex tally "$data/all-types" </dev/null)" "$types"
-expect 'names as they are seen by the caller' "$(cd "$data" && "$root/negoex" tally all-types missing)" \
+expect 'names as they are seen by the caller' "$(cd "$data" && "$root/negoex" tally all-types missing 2>/dev/null)" \
     "$(text '1 1 1 1 1 1 1 1' 600 105 0 'refused 27 count=1
 scheme 3C1596DE-AD1F-5CEA-6768-F19B064F1C96 count=2' 0 0)"
+
+# said WHAT STATUS LINE WORDS..: the front door ends with the status, and with the line on standard error
+said() {
+    what=$1 status=$2 line=$3
+    shift 3
+    (cd "$data" && "$root/negoex" tally "$@") >/dev/null 2>"$work/errors"
+    expect "$what: status" "$?" "$status"
+    expect "$what: line" "$(cat "$work/errors")" "$line"
+}
+mkdir "$work/folder"
+said 'all there' 0 '' all-types values-apart
+said 'refused' 0 '' refused-critical all-types
+said 'a missing file' 1 'negoex: 1 of the files cannot be opened, the first of them: missing' all-types missing
+said 'a folder and a missing file' 1 "negoex: 2 of the files cannot be opened, the first of them: $work/folder" all-types "$work/folder" missing
+said 'an empty name' 1 'negoex: 1 of the files cannot be opened, the first of them: ' ''
+printf 'all-types\nmissing' >"$work/names"
+said 'a missing file, named on standard input' 1 'negoex: 1 of the files cannot be opened, the first of them: missing' <"$work/names"
+expect 'names on standard input, by a dash' "$(echo "$data/all-types" | ./negoex tally -)" "$types"
+said 'a name with a line end' 1 'negoex: a name with a line end in it cannot be given on' "$(printf 'two\nlines')"
+expect 'the bundled captures' "$(./negoex tally </dev/null 2>"$work/errors")" "$(cd "$captures" && LC_ALL=C ls *.negoex | "$tally")"
+expect 'the bundled captures: said' "$(cat "$work/errors")" 'negoex: no FILE is given: these are the bundled captures, crates/examples/data/*.negoex'
 
 printf 'tests/programs/tally.sh: %d cases, %d failed\n' "$cases" "$failures"
 [ "$failures" -eq 0 ]
