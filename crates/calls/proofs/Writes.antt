@@ -38,11 +38,11 @@ changed n w = record {
   marks = w .marks;
   common = n .common;
   kept = n .kept;
-  told = w .told;
-  asked = w .asked;
+  metadata = w .metadata;
+  requested = w .requested;
   chosen = n .chosen;
-  verified = w .verified;
-  heard = n .heard;
+  attested = w .attested;
+  confirmed = n .confirmed;
   sequence = n .sequence;
   used = n .used;
 }

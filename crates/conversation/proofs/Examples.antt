@@ -29,7 +29,7 @@ use Rattle.conversation.specs.State.{fresh}
 use Rattle.conversation.specs.Outcomes.{answered}
 use Rattle.conversation.specs.Turns as turns
 use Rattle.conversation.specs.Writing.{offering, replying, writingMetadata, schemeNow, request, speaking}
-use Rattle.conversation.specs.Admitting.{messagesAt, schemeFits, heardFor, passed, admit}
+use Rattle.conversation.specs.Admitting.{messagesAt, schemeFits, confirmedFor, passed, admit}
 use Rattle.conversation.specs.Reading.{conversationOf, judge, judged, commonAfter, keptAfter, finish, readingToken}
 use Rattle.conversation.specs.Choosing.{choosing}
 use Rattle.conversation.specs.Runs.{Call, offer, reply, metadata, speak, read, choose, Opening, world, Entry, run, MarksKept, NotLost, act}
@@ -38,11 +38,11 @@ use Rattle.conversation.specs.Worked.{scheme, plain, ordinary, critical,
 use Rattle.conversation.proofs.Demand.{demand3, run-calls}
 
 pub whole-conversation : WholeConversation
-unfolding opened plain offsetOf itemOctets itemsFit itemsOf sumFrom smallFrom elementsFit ordinaryFrom le signed32 sameOctets sameId keepsRule shown shapeOf headOf elementsAt contentOf vectorsOf commonRows allKeepRule noneCritical contentRows bodyRows frontRows idsAt schemesIn orderRows nextRows chainOf put encoded mem place distinct setOf left has mentions ones openPlaces keptBelow turns.writing turns.reading turns.kindOf turns.typeOf turns.afterOpening turns.afterFurther turns.after offering replying writingMetadata speaking schemeNow messagesAt schemeFits heardFor passed admit conversationOf judge judged commonAfter keptAfter finish readingToken choosing act
+unfolding opened plain offsetOf itemOctets itemsFit itemsOf sumFrom smallFrom elementsFit ordinaryFrom le signed32 sameOctets sameId keepsRule shown shapeOf headOf elementsAt contentOf vectorsOf commonRows allKeepRule noneCritical contentRows bodyRows frontRows idsAt schemesIn orderRows nextRows chainOf put encoded mem place distinct setOf left has mentions ones openPlaces keptBelow turns.writing turns.reading turns.classOf turns.typeOf turns.afterOpening turns.afterFurther turns.after offering replying writingMetadata speaking schemeNow messagesAt schemeFits confirmedFor passed admit conversationOf judge judged commonAfter keptAfter finish readingToken choosing act
 whole-conversation = refl
 
 pub whole-logs : WholeLogs
-unfolding opened plain offsetOf itemOctets itemsFit itemsOf sumFrom smallFrom elementsFit ordinaryFrom le signed32 sameOctets sameId keepsRule shown shapeOf headOf elementsAt contentOf vectorsOf commonRows allKeepRule noneCritical contentRows bodyRows frontRows idsAt schemesIn orderRows nextRows chainOf put encoded mem place distinct setOf left has mentions ones openPlaces keptBelow turns.writing turns.reading turns.kindOf turns.typeOf turns.afterOpening turns.afterFurther turns.after offering replying writingMetadata speaking schemeNow messagesAt schemeFits heardFor passed admit conversationOf judge judged commonAfter keptAfter finish readingToken choosing act messagesIn
+unfolding opened plain offsetOf itemOctets itemsFit itemsOf sumFrom smallFrom elementsFit ordinaryFrom le signed32 sameOctets sameId keepsRule shown shapeOf headOf elementsAt contentOf vectorsOf commonRows allKeepRule noneCritical contentRows bodyRows frontRows idsAt schemesIn orderRows nextRows chainOf put encoded mem place distinct setOf left has mentions ones openPlaces keptBelow turns.writing turns.reading turns.classOf turns.typeOf turns.afterOpening turns.afterFurther turns.after offering replying writingMetadata speaking schemeNow messagesAt schemeFits confirmedFor passed admit conversationOf judge judged commonAfter keptAfter finish readingToken choosing act messagesIn
 whole-logs = (refl, refl)
 
 -- two runs without marks, the second with longer lists
@@ -102,7 +102,7 @@ abbrev chosen : Entry
 chosen = fifth (run (world opened) (negotiation 0 0)) none-such
 
 first-choice : saysOf chosen ≡ names (scheme 2) 2
-unfolding opened plain offsetOf itemOctets itemsFit itemsOf sumFrom smallFrom elementsFit ordinaryFrom le signed32 sameOctets sameId keepsRule shown shapeOf headOf elementsAt contentOf vectorsOf commonRows allKeepRule noneCritical contentRows bodyRows frontRows idsAt schemesIn orderRows nextRows chainOf put encoded mem place distinct setOf left has mentions ones openPlaces keptBelow turns.writing turns.reading turns.kindOf turns.typeOf turns.afterOpening turns.afterFurther turns.after offering replying writingMetadata speaking schemeNow messagesAt schemeFits heardFor passed admit conversationOf judge judged commonAfter keptAfter finish readingToken choosing act
+unfolding opened plain offsetOf itemOctets itemsFit itemsOf sumFrom smallFrom elementsFit ordinaryFrom le signed32 sameOctets sameId keepsRule shown shapeOf headOf elementsAt contentOf vectorsOf commonRows allKeepRule noneCritical contentRows bodyRows frontRows idsAt schemesIn orderRows nextRows chainOf put encoded mem place distinct setOf left has mentions ones openPlaces keptBelow turns.writing turns.reading turns.classOf turns.typeOf turns.afterOpening turns.afterFurther turns.after offering replying writingMetadata speaking schemeNow messagesAt schemeFits confirmedFor passed admit conversationOf judge judged commonAfter keptAfter finish readingToken choosing act
 first-choice = refl
 
 -- so no call of the second run is refused with 17, and its choice, by rule 2, stands no later
@@ -114,29 +114,29 @@ longer-run y h =
 
 -- the second run, computed
 pub choices : LongerChoice
-unfolding longerLists plain offsetOf itemOctets itemsFit itemsOf sumFrom smallFrom elementsFit ordinaryFrom le signed32 sameOctets sameId keepsRule shown shapeOf headOf elementsAt contentOf vectorsOf commonRows allKeepRule noneCritical contentRows bodyRows frontRows idsAt schemesIn orderRows nextRows chainOf put encoded mem place distinct setOf left has mentions ones openPlaces keptBelow turns.writing turns.reading turns.kindOf turns.typeOf turns.afterOpening turns.afterFurther turns.after offering replying writingMetadata speaking schemeNow messagesAt schemeFits heardFor passed admit conversationOf judge judged commonAfter keptAfter finish readingToken choosing act
+unfolding longerLists plain offsetOf itemOctets itemsFit itemsOf sumFrom smallFrom elementsFit ordinaryFrom le signed32 sameOctets sameId keepsRule shown shapeOf headOf elementsAt contentOf vectorsOf commonRows allKeepRule noneCritical contentRows bodyRows frontRows idsAt schemesIn orderRows nextRows chainOf put encoded mem place distinct setOf left has mentions ones openPlaces keptBelow turns.writing turns.reading turns.classOf turns.typeOf turns.afterOpening turns.afterFurther turns.after offering replying writingMetadata speaking schemeNow messagesAt schemeFits confirmedFor passed admit conversationOf judge judged commonAfter keptAfter finish readingToken choosing act
 choices = refl
 
 -- the choosing call, by each of its refusals
 
 pub at-once : AtOnce
-unfolding opened plain offsetOf itemOctets itemsFit itemsOf sumFrom smallFrom elementsFit ordinaryFrom le signed32 sameOctets sameId keepsRule shown shapeOf headOf elementsAt contentOf vectorsOf commonRows allKeepRule noneCritical contentRows bodyRows frontRows idsAt schemesIn orderRows nextRows chainOf put encoded mem place distinct setOf left has mentions ones openPlaces keptBelow turns.writing turns.reading turns.kindOf turns.typeOf turns.afterOpening turns.afterFurther turns.after offering replying writingMetadata speaking schemeNow messagesAt schemeFits heardFor passed admit conversationOf judge judged commonAfter keptAfter finish readingToken choosing act
+unfolding opened plain offsetOf itemOctets itemsFit itemsOf sumFrom smallFrom elementsFit ordinaryFrom le signed32 sameOctets sameId keepsRule shown shapeOf headOf elementsAt contentOf vectorsOf commonRows allKeepRule noneCritical contentRows bodyRows frontRows idsAt schemesIn orderRows nextRows chainOf put encoded mem place distinct setOf left has mentions ones openPlaces keptBelow turns.writing turns.reading turns.classOf turns.typeOf turns.afterOpening turns.afterFurther turns.after offering replying writingMetadata speaking schemeNow messagesAt schemeFits confirmedFor passed admit conversationOf judge judged commonAfter keptAfter finish readingToken choosing act
 at-once = refl
 
 -- early VERIFYs, that count and that do not
 
 pub early-verify : EarlyVerify
-unfolding opened longerLists plain offsetOf itemOctets itemsFit itemsOf sumFrom smallFrom elementsFit ordinaryFrom le signed32 sameOctets sameId keepsRule shown shapeOf headOf elementsAt contentOf vectorsOf commonRows allKeepRule noneCritical contentRows bodyRows frontRows idsAt schemesIn orderRows nextRows chainOf put encoded mem place distinct setOf left has mentions ones openPlaces keptBelow turns.writing turns.reading turns.kindOf turns.typeOf turns.afterOpening turns.afterFurther turns.after offering replying writingMetadata speaking schemeNow messagesAt schemeFits heardFor passed admit conversationOf judge judged commonAfter keptAfter finish readingToken choosing act
+unfolding opened longerLists plain offsetOf itemOctets itemsFit itemsOf sumFrom smallFrom elementsFit ordinaryFrom le signed32 sameOctets sameId keepsRule shown shapeOf headOf elementsAt contentOf vectorsOf commonRows allKeepRule noneCritical contentRows bodyRows frontRows idsAt schemesIn orderRows nextRows chainOf put encoded mem place distinct setOf left has mentions ones openPlaces keptBelow turns.writing turns.reading turns.classOf turns.typeOf turns.afterOpening turns.afterFurther turns.after offering replying writingMetadata speaking schemeNow messagesAt schemeFits confirmedFor passed admit conversationOf judge judged commonAfter keptAfter finish readingToken choosing act
 early-verify = (refl, refl)
 
 -- extensions and several alerts, by each of their refusals, and test calls
 
 pub extended : Extended
-unfolding opened plain ordinary critical tooMany offsetOf itemOctets itemsFit itemsOf sumFrom smallFrom elementsFit ordinaryFrom le signed32 sameOctets sameId keepsRule shown shapeOf headOf elementsAt contentOf vectorsOf commonRows allKeepRule noneCritical contentRows bodyRows frontRows idsAt schemesIn orderRows nextRows chainOf put encoded mem place distinct setOf left has mentions ones openPlaces keptBelow turns.writing turns.reading turns.kindOf turns.typeOf turns.afterOpening turns.afterFurther turns.after offering replying writingMetadata speaking schemeNow messagesAt schemeFits heardFor passed admit conversationOf judge judged commonAfter keptAfter finish readingToken choosing act
+unfolding opened plain ordinary critical tooMany offsetOf itemOctets itemsFit itemsOf sumFrom smallFrom elementsFit ordinaryFrom le signed32 sameOctets sameId keepsRule shown shapeOf headOf elementsAt contentOf vectorsOf commonRows allKeepRule noneCritical contentRows bodyRows frontRows idsAt schemesIn orderRows nextRows chainOf put encoded mem place distinct setOf left has mentions ones openPlaces keptBelow turns.writing turns.reading turns.classOf turns.typeOf turns.afterOpening turns.afterFurther turns.after offering replying writingMetadata speaking schemeNow messagesAt schemeFits confirmedFor passed admit conversationOf judge judged commonAfter keptAfter finish readingToken choosing act
 extended = (refl, refl)
 
 -- a critical extension, and then a good token
 
 pub stays-rejected : StaysRejected
-unfolding opened plain offsetOf itemOctets itemsFit itemsOf sumFrom smallFrom elementsFit ordinaryFrom le signed32 sameOctets sameId keepsRule shown shapeOf headOf elementsAt contentOf vectorsOf commonRows allKeepRule noneCritical contentRows bodyRows frontRows idsAt schemesIn orderRows nextRows chainOf put encoded mem place distinct setOf left has mentions ones openPlaces keptBelow turns.writing turns.reading turns.kindOf turns.typeOf turns.afterOpening turns.afterFurther turns.after offering replying writingMetadata speaking schemeNow messagesAt schemeFits heardFor passed admit conversationOf judge judged commonAfter keptAfter finish readingToken choosing act
+unfolding opened plain offsetOf itemOctets itemsFit itemsOf sumFrom smallFrom elementsFit ordinaryFrom le signed32 sameOctets sameId keepsRule shown shapeOf headOf elementsAt contentOf vectorsOf commonRows allKeepRule noneCritical contentRows bodyRows frontRows idsAt schemesIn orderRows nextRows chainOf put encoded mem place distinct setOf left has mentions ones openPlaces keptBelow turns.writing turns.reading turns.classOf turns.typeOf turns.afterOpening turns.afterFurther turns.after offering replying writingMetadata speaking schemeNow messagesAt schemeFits confirmedFor passed admit conversationOf judge judged commonAfter keptAfter finish readingToken choosing act
 stays-rejected = (refl, refl)

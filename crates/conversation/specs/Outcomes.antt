@@ -55,12 +55,12 @@ fits r d size = row 16 (leb (r .used + size) (room d))
 
 pub record WrittenAs : Type 0 where
   pub marks : ℕ
-  pub told : ℕ
-  pub asked : ℕ
-  pub verified : Bool
+  pub metadata : ℕ
+  pub requested : ℕ
+  pub attested : Bool
 
 abbrev pub unchanged : Record → WrittenAs
-unchanged r = record { marks = r .marks; told = r .told; asked = r .asked; verified = r .verified }
+unchanged r = record { marks = r .marks; metadata = r .metadata; requested = r .requested; attested = r .attested }
 
 abbrev pub wrote : Record → ℕ → ℕ → WrittenAs → Record
 wrote r position size w = record {
@@ -73,11 +73,11 @@ wrote r position size w = record {
   marks = w .marks;
   common = r .common;
   kept = r .kept;
-  told = w .told;
-  asked = w .asked;
+  metadata = w .metadata;
+  requested = w .requested;
   chosen = r .chosen;
-  verified = w .verified;
-  heard = r .heard;
+  attested = w .attested;
+  confirmed = r .confirmed;
   sequence = r .sequence + 1;
   used = r .used + size;
 }

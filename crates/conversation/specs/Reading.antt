@@ -37,7 +37,7 @@ unfoldable pub conversationOf : Record → List ℕ → Id
 conversationOf r t = cond (eqb (reads r) FIRST) (octets 16 t 24) (r .conversation)
 
 abbrev pub startOf : Record → Scan
-startOf r = record { position = 0; named = 0; asked = r .asked; chosen = r .chosen; heard = r .heard }
+startOf r = record { position = 0; named = 0; requested = r .requested; chosen = r .chosen; confirmed = r .confirmed }
 
 pub data Judged : Type 0 where
   whole : (messages : ℕ) → Scan → Judged
@@ -70,7 +70,7 @@ keptAfter r t = cond (eqb (reads r) ANSWER) (padTo 16 (keptPlaces (ownOf r) (lis
 
 -- C-15: an early VERIFY of the acceptor counts, behind its first later token, if the chosen scheme is the AP_REQUEST's
 abbrev pub countsBehind : Record → Scan → Bool
-countsBehind r c = cond (eqb (r .stage) REPLY) (r .verified && eqb (c .chosen) (r .asked)) (r .verified)
+countsBehind r c = cond (eqb (r .stage) REPLY) (r .attested && eqb (c .chosen) (r .requested)) (r .attested)
 
 -- the stage behind the first token is REPLY, behind the reply CHOOSING, behind a later one LATER; where no token is read (`mayRead`), none is taken
 abbrev pub taken : Record → List ℕ → ℕ → Scan → Record
@@ -84,11 +84,11 @@ taken r t n c = record {
   marks = r .marks;
   common = commonAfter r t;
   kept = keptAfter r t;
-  told = 0;
-  asked = c .asked;
+  metadata = 0;
+  requested = c .requested;
   chosen = c .chosen;
-  verified = countsBehind r c;
-  heard = c .heard;
+  attested = countsBehind r c;
+  confirmed = c .confirmed;
   sequence = r .sequence + n;
   used = r .used + length t;
 }

@@ -40,14 +40,14 @@ token-small r token e = omega (arith, reading-small (r .acceptor) (r .stage))
 
 -- the own VERIFY behind a token
 module _ (r : Record) (c : Scan) where
-  pub counts-stage : (r .stage ≡ 1 → ⊥) → r .verified ≡ countsBehind r c
+  pub counts-stage : (r .stage ≡ 1 → ⊥) → r .attested ≡ countsBehind r c
   counts-stage h = rw (ne-eqb _ _ h)
 
   module _ (s : r .stage ≡ 1) where
-    pub counts-none : r .verified ≡ false → false ≡ countsBehind r c
+    pub counts-none : r .attested ≡ false → false ≡ countsBehind r c
     counts-none e = rw (eq-eqb _ _ s, e)
 
-    pub counts-early : r .verified ≡ true → eqb (c .chosen) (r .asked) ≡ countsBehind r c
+    pub counts-early : r .attested ≡ true → eqb (c .chosen) (r .requested) ≡ countsBehind r c
     counts-early e = rw (eq-eqb _ _ s, e)
 
 pub ruleset countings = (counts-stage, counts-none, counts-early)

@@ -53,11 +53,11 @@ withSets r x k = record {
   marks = r .marks;
   common = x;
   kept = k;
-  told = r .told;
-  asked = r .asked;
+  metadata = r .metadata;
+  requested = r .requested;
   chosen = r .chosen;
-  verified = r .verified;
-  heard = r .heard;
+  attested = r .attested;
+  confirmed = r .confirmed;
   sequence = r .sequence;
   used = r .used;
 }

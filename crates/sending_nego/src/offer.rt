@@ -10,11 +10,11 @@ ghost use Rattle.sending_nego.specs.Ready.{tested};
 use super::nego::HEADER;
 use super::nego::append_nego;
 use super::nego::extension_refusal;
-use calls::NEGO;
 use calls::answer;
 use calls::has_room;
 use calls::stage_refusal;
 use conversation::Answer;
+use conversation::Class;
 use conversation::Record;
 use elements::Elements;
 use elements::size_of;
@@ -24,7 +24,7 @@ use vector::TokenPlace;
 fn offer_refusal(r: Record, test: bool, extensions: Elements, values: &[u8], len: usize) -> u32
     ensures { λ a. ⌜ a ≡ writeRefusal r NEGO (offerRows r (tested test extensions (now (values .entry)))) (96 + 16 * r .count + handedSize extensions (now (values .entry))) len ⌝ }
 {
-    let n = stage_refusal(r, NEGO);
+    let n = stage_refusal(r, Class::NEGO);
     if n != 0 {
         return n;
     }

@@ -15,12 +15,12 @@ ghost use Rattle.sending_nego.specs.Ready.{tested, ReplyReady};
 use super::nego::HEADER;
 use super::nego::append_nego;
 use super::nego::extension_refusal;
-use calls::NEGO;
 use calls::answer;
 use calls::has_room;
 use calls::naming;
 use calls::stage_refusal;
 use conversation::Answer;
+use conversation::Class;
 use conversation::Record;
 use elements::Elements;
 use elements::size_of;
@@ -41,7 +41,7 @@ fn reply_refusal(
 ) -> u32
     ensures { λ a. ⌜ a ≡ writeRefusal r NEGO (replyRows r marks (tested test extensions (now (values .entry)))) (96 + 16 * length (left (ownOf r) (r .common) marks) + handedSize extensions (now (values .entry))) len ⌝ }
 {
-    let n = stage_refusal(r, NEGO);
+    let n = stage_refusal(r, Class::NEGO);
     if n != 0 {
         return n;
     }
@@ -76,7 +76,7 @@ fn reply_with(
     values: &[u8],
 ) -> Answer
     requires { ⌜ ReplyReady r (now transcript) marks random extensions (now values) ⌝ }
-    ensures { λ a. ⌜ _≡_ {A = Outcome} (record { answer = a; transcript = now (transcript .exit) }) (naming (left (ownOf r) (r .common) marks) (appended r (now (transcript .entry)) (placeAfter r NEGO) (messageOf r NEGO (negoOf random (joinIds (left (ownOf r) (r .common) marks)) (itemsOf extensions (now (values .entry))))) (record { marks = marks; told = r .told; asked = r .asked; verified = r .verified }))) ⌝ }
+    ensures { λ a. ⌜ _≡_ {A = Outcome} (record { answer = a; transcript = now (transcript .exit) }) (naming (left (ownOf r) (r .common) marks) (appended r (now (transcript .entry)) (placeAfter r NEGO) (messageOf r NEGO (negoOf random (joinIds (left (ownOf r) (r .common) marks)) (itemsOf extensions (now (values .entry))))) (record { marks = marks; metadata = r .metadata; requested = r .requested; attested = r .attested }))) ⌝ }
 {
     let list = r.list;
     let s = gather(list, r.count, r.common & !marks);

@@ -15,7 +15,7 @@ use Rattle.schemes.specs.Sets.{setOf, left, has, mentions, ones, openPlaces, ke
 use Rattle.schemes.specs.Answers.{withBit}
 use Rattle.conversation.specs.Turns as turns
 use Rattle.conversation.specs.Writing.{offering, replying, writingMetadata, schemeNow, speaking, opening}
-use Rattle.conversation.specs.Admitting.{messagesAt, schemeFits, heardFor, passed, admit}
+use Rattle.conversation.specs.Admitting.{messagesAt, schemeFits, confirmedFor, passed, admit}
 use Rattle.conversation.specs.Reading.{conversationOf, judge, judged, commonAfter, keptAfter, finish, readingToken}
 use Rattle.conversation.specs.Choosing.{choosing}
 use Rattle.conversation.specs.Runs.{act}
@@ -27,9 +27,9 @@ use Rattle.sides.specs.Replay.{cutEnding, before, choiceOf, playFrom, re
 use Rattle.sides.specs.Worked.{WholeReplayed, Endings}
 
 pub whole-replayed : WholeReplayed
-unfolding opened plain offsetOf itemOctets itemsFit itemsOf sumFrom smallFrom elementsFit ordinaryFrom le signed32 sameOctets sameId keepsRule shown shapeOf headOf elementsAt contentOf vectorsOf commonRows allKeepRule noneCritical contentRows bodyRows frontRows idsAt schemesIn orderRows nextRows chainOf put encoded mem place distinct setOf left has mentions ones openPlaces keptBelow turns.writing turns.reading turns.kindOf turns.typeOf turns.afterOpening turns.afterFurther turns.after offering replying writingMetadata speaking schemeNow messagesAt schemeFits heardFor passed admit conversationOf judge judged commonAfter keptAfter finish readingToken choosing act messagesIn withBit listOk opening cutFrom runFrom turnsFrom together begun owed heardTurn said saidAll cutEnding before choiceOf playFrom replayOf
+unfolding opened plain offsetOf itemOctets itemsFit itemsOf sumFrom smallFrom elementsFit ordinaryFrom le signed32 sameOctets sameId keepsRule shown shapeOf headOf elementsAt contentOf vectorsOf commonRows allKeepRule noneCritical contentRows bodyRows frontRows idsAt schemesIn orderRows nextRows chainOf put encoded mem place distinct setOf left has mentions ones openPlaces keptBelow turns.writing turns.reading turns.classOf turns.typeOf turns.afterOpening turns.afterFurther turns.after offering replying writingMetadata speaking schemeNow messagesAt schemeFits confirmedFor passed admit conversationOf judge judged commonAfter keptAfter finish readingToken choosing act messagesIn withBit listOk opening cutFrom runFrom turnsFrom together begun owed heardTurn said saidAll cutEnding before choiceOf playFrom replayOf
 whole-replayed = refl
 
 pub endings : Endings
-unfolding opened plain offsetOf itemOctets itemsFit itemsOf sumFrom smallFrom elementsFit ordinaryFrom le signed32 sameOctets sameId keepsRule shown shapeOf headOf elementsAt contentOf vectorsOf commonRows allKeepRule noneCritical contentRows bodyRows frontRows idsAt schemesIn orderRows nextRows chainOf put encoded mem place distinct setOf left has mentions ones openPlaces keptBelow turns.writing turns.reading turns.kindOf turns.typeOf turns.afterOpening turns.afterFurther turns.after offering replying writingMetadata speaking schemeNow messagesAt schemeFits heardFor passed admit conversationOf judge judged commonAfter keptAfter finish readingToken choosing act messagesIn withBit listOk opening cutFrom runFrom turnsFrom together begun owed heardTurn said saidAll cutEnding before choiceOf playFrom replayOf
+unfolding opened plain offsetOf itemOctets itemsFit itemsOf sumFrom smallFrom elementsFit ordinaryFrom le signed32 sameOctets sameId keepsRule shown shapeOf headOf elementsAt contentOf vectorsOf commonRows allKeepRule noneCritical contentRows bodyRows frontRows idsAt schemesIn orderRows nextRows chainOf put encoded mem place distinct setOf left has mentions ones openPlaces keptBelow turns.writing turns.reading turns.classOf turns.typeOf turns.afterOpening turns.afterFurther turns.after offering replying writingMetadata speaking schemeNow messagesAt schemeFits confirmedFor passed admit conversationOf judge judged commonAfter keptAfter finish readingToken choosing act messagesIn withBit listOk opening cutFrom runFrom turnsFrom together begun owed heardTurn said saidAll cutEnding before choiceOf playFrom replayOf
 endings = (refl, (refl, (refl, (refl, (refl, (refl, (refl, (refl, (refl, (refl, (refl, (refl, (refl, tt)))))))))))))

@@ -20,7 +20,7 @@ use Rattle.schemes.specs.Lists.{Id, place, joinIds}
 use Rattle.schemes.specs.Answers.{withBit}
 use Rattle.conversation.specs.declared.Record.{Record}
 use Rattle.conversation.specs.State.{ownOf, replied, limitRows}
-use Rattle.conversation.specs.Turns.{FIRST, ANSWER, METADATA, EXCHANGE, VERIFY, kindOf, writes, placeAfter}
+use Rattle.conversation.specs.Turns.{FIRST, ANSWER, METADATA, EXCHANGE, VERIFY, classOf, writes, placeAfter}
 use Rattle.conversation.specs.Outcomes.{Outcome, decide, WrittenAs, wrote}
 use Rattle.conversation.specs.Writing.{someLeft, firstOr}
 use Rattle.conversation.specs.Admitting.{schemeIn, listedBy}
@@ -43,11 +43,11 @@ withMarks m r = record {
   marks = m;
   common = r .common;
   kept = r .kept;
-  told = r .told;
-  asked = r .asked;
+  metadata = r .metadata;
+  requested = r .requested;
   chosen = r .chosen;
-  verified = r .verified;
-  heard = r .heard;
+  attested = r .attested;
+  confirmed = r .confirmed;
   sequence = r .sequence;
   used = r .used;
 }
@@ -80,15 +80,15 @@ heardTurn ok r d t = decide (limitRows r ++ tokenRows r (length t)) r d (finish 
 abbrev pub saidAs : Record → ℕ → Id → WrittenAs
 saidAs w kind id = record {
   marks = w .marks;
-  told = cond (eqb kind METADATA && ltb (place (ownOf w) id) (w .count)) (withBit (w .told) (place (ownOf w) id)) (w .told);
-  asked = cond (eqb kind EXCHANGE && eqb (writes w) FIRST) 0 (w .asked);
-  verified = eqb kind VERIFY || w .verified;
+  metadata = cond (eqb kind METADATA && ltb (place (ownOf w) id) (w .count)) (withBit (w .metadata) (place (ownOf w) id)) (w .metadata);
+  requested = cond (eqb kind EXCHANGE && eqb (writes w) FIRST) 0 (w .requested);
+  attested = eqb kind VERIFY || w .attested;
 }
 
 unfoldable pub said : Record → List ℕ → Record
 said w m =
-    wrote w (placeAfter w (kindOf (w .acceptor) (headOf m .kind))) (length m)
-    (saidAs w (kindOf (w .acceptor) (headOf m .kind)) (schemeIn m))
+    wrote w (placeAfter w (classOf (w .acceptor) (headOf m .kind))) (length m)
+    (saidAs w (classOf (w .acceptor) (headOf m .kind)) (schemeIn m))
 
 unfoldable pub saidAll : Record → List (List ℕ) → Record
 saidAll w [] = w

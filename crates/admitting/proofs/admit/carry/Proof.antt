@@ -13,14 +13,14 @@ reading-token-requires c κs = search needs
 named-behind-requires : tie.Need-named-behind-requires
 named-behind-requires c κs = search needs
 
-asked-behind-requires : tie.Need-asked-behind-requires
-asked-behind-requires c κs = search needs
+requested-behind-requires : tie.Need-requested-behind-requires
+requested-behind-requires c κs = search needs
 
 chosen-behind-requires : tie.Need-chosen-behind-requires
 chosen-behind-requires c κs = search needs
 
-heard-behind-requires : tie.Need-heard-behind-requires
-heard-behind-requires c κs = search needs
+confirmed-behind-requires : tie.Need-confirmed-behind-requires
+confirmed-behind-requires c κs = search needs
 
 returns : tie.Need-returns
 returns c = search carryings
@@ -32,7 +32,7 @@ carry-spec =
     find-own-requires
     reading-token-requires
     named-behind-requires
-    asked-behind-requires
+    requested-behind-requires
     chosen-behind-requires
-    heard-behind-requires
+    confirmed-behind-requires
     returns)

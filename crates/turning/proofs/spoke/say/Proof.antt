@@ -7,29 +7,29 @@ use Rattle.turning.proofs.spoke.say.Tie as tie
 le-u32-requires : tie.Need-le-u32-requires
 le-u32-requires c κs = search needs
 
-kind-of-requires : tie.Need-kind-of-requires
-kind-of-requires c κs = search needs
+class-of-requires : tie.Need-class-of-requires
+class-of-requires c κs = search needs
 
 writing-token-requires : tie.Need-writing-token-requires
 writing-token-requires c κs = search needs
 
-sub-told-behind : tie.Need-sub-told-behind
-sub-told-behind c = search needs
+sub-metadata-behind : tie.Need-sub-metadata-behind
+sub-metadata-behind c = search needs
 
-part-told-behind-start : tie.Need-part-told-behind-start
-part-told-behind-start c = search needs
+part-metadata-behind-start : tie.Need-part-metadata-behind-start
+part-metadata-behind-start c = search needs
 
-part-told-behind-end : tie.Need-part-told-behind-end
-part-told-behind-end c = search needs
+part-metadata-behind-end : tie.Need-part-metadata-behind-end
+part-metadata-behind-end c = search needs
 
-told-behind-requires : tie.Need-told-behind-requires
-told-behind-requires c κs = search needs
+metadata-behind-requires : tie.Need-metadata-behind-requires
+metadata-behind-requires c κs = search needs
 
-asked-behind-requires : tie.Need-asked-behind-requires
-asked-behind-requires c κs = search needs
+requested-behind-requires : tie.Need-requested-behind-requires
+requested-behind-requires c κs = search needs
 
-verified-behind-requires : tie.Need-verified-behind-requires
-verified-behind-requires c κs = search needs
+attested-behind-requires : tie.Need-attested-behind-requires
+attested-behind-requires c κs = search needs
 
 after-message-requires : tie.Need-after-message-requires
 after-message-requires c κs = search needs
@@ -42,13 +42,13 @@ say-spec =
     tie.close
     (tie.spec
     le-u32-requires
-    kind-of-requires
+    class-of-requires
     writing-token-requires
-    sub-told-behind
-    part-told-behind-start
-    part-told-behind-end
-    told-behind-requires
-    asked-behind-requires
-    verified-behind-requires
+    sub-metadata-behind
+    part-metadata-behind-start
+    part-metadata-behind-end
+    metadata-behind-requires
+    requested-behind-requires
+    attested-behind-requires
     after-message-requires
     returns)

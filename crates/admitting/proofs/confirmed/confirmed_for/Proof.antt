@@ -1,8 +1,8 @@
 -- Assumes nothing.
 use Rattle.admitting.proofs.Spent.{hearings}
 use borrow.Author.Needs.{needs}
-use Rattle.admitting.proofs.heard.heard_for.Statement.{statement}
-use Rattle.admitting.proofs.heard.heard_for.Tie as tie
+use Rattle.admitting.proofs.confirmed.confirmed_for.Statement.{statement}
+use Rattle.admitting.proofs.confirmed.confirmed_for.Tie as tie
 
 returns : tie.Need-returns
 returns c = search hearings
@@ -19,5 +19,5 @@ early-counts-requires c κs = search needs
 returns-4 : tie.Need-returns-4
 returns-4 c = search hearings
 
-pub heard-for-spec : {M : Type 1} → statement M
-heard-for-spec = tie.close (tie.spec returns returns-2 returns-3 early-counts-requires returns-4)
+pub confirmed-for-spec : {M : Type 1} → statement M
+confirmed-for-spec = tie.close (tie.spec returns returns-2 returns-3 early-counts-requires returns-4)

@@ -1,8 +1,8 @@
 -- Assumes nothing.
 use Rattle.admitting.proofs.Spent.{hearings}
 use borrow.Author.Needs.{needs}
-use Rattle.admitting.proofs.heard.early_counts.Statement.{statement}
-use Rattle.admitting.proofs.heard.early_counts.Tie as tie
+use Rattle.admitting.proofs.confirmed.early_counts.Statement.{statement}
+use Rattle.admitting.proofs.confirmed.early_counts.Tie as tie
 
 is-at-requires : tie.Need-is-at-requires
 is-at-requires c κs = search needs
