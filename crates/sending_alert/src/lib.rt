@@ -4,8 +4,8 @@ ghost use mathlib.Core.Bool.{true};
 ghost use Rattle.elements.specs.Elements.{itemsOf, elementsFit};
 ghost use Rattle.encode.specs.Encode.{alertOf};
 ghost use Rattle.conversation.specs.Turns.{ALERT};
-ghost use Rattle.conversation.specs.Outcomes.{Outcome};
-ghost use Rattle.conversation.specs.Writing.{alarm, speaking};
+ghost use Rattle.conversation.specs.Outcomes.{leaving};
+ghost use Rattle.conversation.specs.Writing.{alarm, speaking, alertContent};
 ghost use Rattle.conversation.specs.Choosing.{choosing};
 ghost use Rattle.calls.specs.Calls.{Ready, Appended};
 use calls::answer;
@@ -55,7 +55,7 @@ pub fn write_alert(
     alerts: Elements,
     values: &[u8],
 ) -> Answer
-    ensures { λ a. ⌜ _≡_ {A = Outcome} (record { answer = a; transcript = now (transcript .exit) }) (speaking r (now (transcript .entry)) (alarm (record { code = code; alerts = alerts; values = now (values .entry) }))) ⌝ }
+    ensures { λ a. ⌜ leaving a (now (transcript .exit)) ≡ speaking r (now (transcript .entry)) (alarm (alertContent code alerts (now (values .entry)))) ⌝ }
 {
     let fit = fits(alerts, values);
     let size = size_of(alerts, values);
@@ -77,7 +77,7 @@ pub fn choose_alert(
     alerts: Elements,
     values: &[u8],
 ) -> Answer
-    ensures { λ a. ⌜ _≡_ {A = Outcome} (record { answer = a; transcript = now (transcript .exit) }) (choosing r (now (transcript .entry)) marks (alarm (record { code = code; alerts = alerts; values = now (values .entry) }))) ⌝ }
+    ensures { λ a. ⌜ leaving a (now (transcript .exit)) ≡ choosing r (now (transcript .entry)) marks (alarm (alertContent code alerts (now (values .entry)))) ⌝ }
 {
     let fit = fits(alerts, values);
     let n = choice_refusal(r, Class::ALERT, marks, fit);

@@ -1,7 +1,7 @@
 // AP_REQUEST and CHALLENGE.
 ghost use mathlib.Core.Path.{_≡_};
 ghost use Rattle.encode.specs.Encode.{ofExchange};
-ghost use Rattle.conversation.specs.Outcomes.{Outcome};
+ghost use Rattle.conversation.specs.Outcomes.{leaving};
 ghost use Rattle.conversation.specs.Writing.{request, requestedBy, speaking};
 ghost use Rattle.conversation.specs.Choosing.{choosing};
 ghost use Rattle.calls.specs.Calls.{Ready, Appended};
@@ -53,7 +53,7 @@ fn requested_by(r: Record) -> usize
 
 // Writes an exchange of the rule's scheme.
 pub fn write_exchange(r: Record, transcript: &mut [u8], value: &[u8]) -> Answer
-    ensures { λ a. ⌜ _≡_ {A = Outcome} (record { answer = a; transcript = now (transcript .exit) }) (speaking r (now (transcript .entry)) (request (now (value .entry)))) ⌝ }
+    ensures { λ a. ⌜ leaving a (now (transcript .exit)) ≡ speaking r (now (transcript .entry)) (request (now (value .entry))) ⌝ }
 {
     let n = named_refusal(
         r,
@@ -75,7 +75,7 @@ pub fn write_exchange(r: Record, transcript: &mut [u8], value: &[u8]) -> Answer
 
 // Chooses, and writes an AP_REQUEST of the chosen scheme. Where it is refused, nothing is chosen and nothing written.
 pub fn choose_exchange(r: Record, transcript: &mut [u8], marks: u16, value: &[u8]) -> Answer
-    ensures { λ a. ⌜ _≡_ {A = Outcome} (record { answer = a; transcript = now (transcript .exit) }) (choosing r (now (transcript .entry)) marks (request (now (value .entry)))) ⌝ }
+    ensures { λ a. ⌜ leaving a (now (transcript .exit)) ≡ choosing r (now (transcript .entry)) marks (request (now (value .entry))) ⌝ }
 {
     let n = choice_refusal(r, Class::EXCHANGE, marks, true);
     if n != 0 {

@@ -2,7 +2,7 @@
 ghost use mathlib.Core.Path.{_≡_};
 ghost use Prim.Native.Nat.{_+_};
 ghost use Rattle.conversation.specs.Turns.{METADATA};
-ghost use Rattle.conversation.specs.Outcomes.{Outcome};
+ghost use Rattle.conversation.specs.Outcomes.{leaving};
 ghost use Rattle.conversation.specs.Writing.{metadataAllowed, metadataRows, writingMetadata};
 ghost use Rattle.calls.specs.Calls.{writeRefusal, Inside};
 use super::exchange::HEADER;
@@ -55,7 +55,7 @@ fn metadata_refusal(r: Record, id: [u8; 16], n: usize, len: usize) -> u32
 
 // Writes metadata of a scheme that the own NEGO lists.
 pub fn write_metadata(r: Record, transcript: &mut [u8], id: [u8; 16], value: &[u8]) -> Answer
-    ensures { λ a. ⌜ _≡_ {A = Outcome} (record { answer = a; transcript = now (transcript .exit) }) (writingMetadata r (now (transcript .entry)) id (now (value .entry))) ⌝ }
+    ensures { λ a. ⌜ leaving a (now (transcript .exit)) ≡ writingMetadata r (now (transcript .entry)) id (now (value .entry)) ⌝ }
 {
     let n = metadata_refusal(r, id, value.len(), transcript.len());
     if n != 0 {

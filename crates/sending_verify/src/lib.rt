@@ -2,7 +2,7 @@
 ghost use mathlib.Core.Path.{_≡_};
 ghost use Rattle.encode.specs.Encode.{ofVerify};
 ghost use Rattle.conversation.specs.Turns.{VERIFY};
-ghost use Rattle.conversation.specs.Outcomes.{Outcome};
+ghost use Rattle.conversation.specs.Outcomes.{leaving};
 ghost use Rattle.conversation.specs.Writing.{checksum as Speech·checksum, speaking};
 ghost use Rattle.conversation.specs.Choosing.{choosing};
 ghost use Rattle.calls.specs.Calls.{Ready, Appended};
@@ -43,7 +43,7 @@ fn append_verify(
 
 // Writes a VERIFY of the chosen scheme: the checksum's type and its value.
 pub fn write_verify(r: Record, transcript: &mut [u8], checksum: i32, value: &[u8]) -> Answer
-    ensures { λ a. ⌜ _≡_ {A = Outcome} (record { answer = a; transcript = now (transcript .exit) }) (speaking r (now (transcript .entry)) (Speech·checksum checksum (now (value .entry)))) ⌝ }
+    ensures { λ a. ⌜ leaving a (now (transcript .exit)) ≡ speaking r (now (transcript .entry)) (Speech·checksum checksum (now (value .entry))) ⌝ }
 {
     let n = named_refusal(
         r,
@@ -70,7 +70,7 @@ pub fn choose_verify(
     checksum: i32,
     value: &[u8],
 ) -> Answer
-    ensures { λ a. ⌜ _≡_ {A = Outcome} (record { answer = a; transcript = now (transcript .exit) }) (choosing r (now (transcript .entry)) marks (Speech·checksum checksum (now (value .entry)))) ⌝ }
+    ensures { λ a. ⌜ leaving a (now (transcript .exit)) ≡ choosing r (now (transcript .entry)) marks (Speech·checksum checksum (now (value .entry))) ⌝ }
 {
     let n = choice_refusal(r, Class::VERIFY, marks, true);
     if n != 0 {

@@ -2,7 +2,7 @@
 ghost use mathlib.Core.Path.{_≡_};
 ghost use Prim.Native.Nat.{_≤_};
 ghost use lib.ListN.{length};
-ghost use Rattle.conversation.specs.Outcomes.{Outcome};
+ghost use Rattle.conversation.specs.Outcomes.{leaving};
 ghost use Rattle.sides.specs.Turning.{heardTurn};
 ghost use Rattle.turning.specs.Hearing.{owedBefore};
 use calls::answer;
@@ -27,7 +27,7 @@ fn owed_before(r: Record, a: Answer) -> Answer
 // A turn, read into its reader's record; `good` says that its first message is what its writer's list and marks give.
 pub fn hear(good: bool, r: Record, transcript: &mut [u8], t: &[u8]) -> Answer
     requires { ⌜ 64 ≤ length (now t) ⌝ }
-    ensures { λ a. ⌜ _≡_ {A = Outcome} (record { answer = a; transcript = now (transcript .exit) }) (heardTurn good r (now (transcript .entry)) (now (t .entry))) ⌝ }
+    ensures { λ a. ⌜ leaving a (now (transcript .exit)) ≡ heardTurn good r (now (transcript .entry)) (now (t .entry)) ⌝ }
 {
     if good {
         return read(r, transcript, t);
