@@ -1,4 +1,4 @@
-// 14 and 15 of one message, and what is carried on behind it.
+// 14 and 15 of one message, and what is carried on after it.
 ghost use mathlib.Core.Path.{_≡_};
 ghost use mathlib.Core.Bool.{cond, not, _&&_};
 ghost use Prim.Native.Nat.{_+_, _≤_};
@@ -9,7 +9,7 @@ ghost use Rattle.conversation.specs.Admitting.{confirmedFor, passed, admit};
 ghost use Rattle.calls.specs.Calls.{Inside};
 ghost use Rattle.admitting.specs.Admissions.{admitted};
 use super::Admission;
-use super::confirmed::confirmed_behind;
+use super::confirmed::confirmed_after;
 use super::confirmed::confirmed_for;
 use super::fits::scheme_fits;
 use calls::find_own;
@@ -18,7 +18,7 @@ use conversation::Record;
 use conversation::Scan;
 use conversation::Turn;
 use conversation::turns::class_of;
-use conversation::turns::place_behind;
+use conversation::turns::place_after;
 use conversation::turns::reading_token;
 use message::field;
 use octets::le_u32;
@@ -26,8 +26,8 @@ use octets::le_u32;
 // Where the scheme of a message that is no NEGO ends.
 const SCHEME_END: usize = field::SCHEME + field::ID;
 
-// How many metadata messages there are behind a message.
-fn named_behind(named: u32, class: u8) -> u32
+// How many metadata messages there are after a message.
+fn named_after(named: u32, class: u8) -> u32
     requires { ⌜ named ≤ 65535 ⌝ }
     ensures { λ a. ⌜ a ≡ cond (eqb class 2) (named + 1) named ⌝ }
 {
@@ -38,7 +38,7 @@ fn named_behind(named: u32, class: u8) -> u32
 }
 
 // The own place of the first token's AP_REQUEST, where the message is it.
-fn requested_behind(requested: usize, class: u8, token: u8, place: usize) -> usize
+fn requested_after(requested: usize, class: u8, token: u8, place: usize) -> usize
     ensures { λ a. ⌜ a ≡ cond (eqb class 3 && eqb token 0) place requested ⌝ }
 {
     if class == Class::EXCHANGE {
@@ -51,7 +51,7 @@ fn requested_behind(requested: usize, class: u8, token: u8, place: usize) -> usi
 }
 
 // The own place of the chosen scheme: that of every message of a later token.
-fn chosen_behind(chosen: usize, token: u8, place: usize) -> usize
+fn chosen_after(chosen: usize, token: u8, place: usize) -> usize
     ensures { λ a. ⌜ a ≡ cond (eqb token 2) place chosen ⌝ }
 {
     if token == Turn::FURTHER {
@@ -60,7 +60,7 @@ fn chosen_behind(chosen: usize, token: u8, place: usize) -> usize
     chosen
 }
 
-// What is carried on behind a message, where `confirmed` says whether the peer's one VERIFY was spent for it.
+// What is carried on after a message, where `confirmed` says whether the peer's one VERIFY was spent for it.
 fn carry(r: Record, c: Scan, confirmed: bool, class: u8, position: u8, id: &[u8]) -> Scan
     requires { ⌜ Inside r × (c .named ≤ 65535) × (confirmed ≡ confirmedFor r c (now id)) ⌝ }
     ensures { λ a. ⌜ a ≡ passed r c class position (now (id .entry)) ⌝ }
@@ -69,10 +69,10 @@ fn carry(r: Record, c: Scan, confirmed: bool, class: u8, position: u8, id: &[u8]
     let token = reading_token(r.acceptor, r.stage);
     Scan {
         position,
-        named: named_behind(c.named, class),
-        requested: requested_behind(c.requested, class, token, place),
-        chosen: chosen_behind(c.chosen, token, place),
-        confirmed: confirmed_behind(confirmed, class),
+        named: named_after(c.named, class),
+        requested: requested_after(c.requested, class, token, place),
+        chosen: chosen_after(c.chosen, token, place),
+        confirmed: confirmed_after(confirmed, class),
     }
 }
 
@@ -94,7 +94,7 @@ pub fn admit_message(r: Record, t: &[u8], c: Scan, m: &[u8]) -> Admission
     let class = peer_class(r.acceptor, le_u32(m, field::TYPE));
     let token = reading_token(r.acceptor, r.stage);
     let confirmed = confirmed_for(r, c, &m[field::SCHEME..SCHEME_END]);
-    let position = place_behind(token, c.position, confirmed, class);
+    let position = place_after(token, c.position, confirmed, class);
     if position == 0 {
         return Admission::Stop(14);
     }

@@ -40,8 +40,8 @@ pub(crate) fn confirmed_for(r: Record, c: Scan, id: &[u8]) -> bool
     early_counts(r, id)
 }
 
-// Whether it is spent behind the message.
-pub(crate) fn confirmed_behind(confirmed: bool, class: u8) -> bool
+// Whether it is spent after the message.
+pub(crate) fn confirmed_after(confirmed: bool, class: u8) -> bool
     ensures { λ a. ⌜ a ≡ (confirmed || eqb class 4) ⌝ }
 {
     if confirmed {

@@ -76,7 +76,7 @@ module _ (r : Record) (arrays : Arrays r) (d : List ℕ) (kind : ℕ) (rows : Li
     unfolding writeRefusal
     write-passed action = call-passed r (row 18 (mayWrite r kind) ∷ (rows ++ (fits r d size ∷ []))) n n-is sure z d action ∙ by-length action
 
-    -- w says what the call changes in the record behind the message
+    -- w says what the call changes in the record after the message
     pub write-written : (w : Record → WrittenAs) (v : Contents) → v ≡ c → (d' : List ℕ) (next : Record) → Appended r d kind v d' next → (a : Answer) → a ≡ answered 0 0 (changed next (w next))
         → _≡_ {A = Outcome} (record { answer = a; transcript = d' }) (called r d kind rows c (appended r d (placeAfter r kind) (messageOf r kind c) (w (wrote r (placeAfter r kind) (length (messageOf r kind c)) (unchanged r)))))
     write-written w v v-is d' next y a a-is =

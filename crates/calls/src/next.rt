@@ -1,4 +1,4 @@
-// The next message of an end: its common fields, and the record behind it.
+// The next message of an end: its common fields, and the record after it.
 ghost use mathlib.Core.Path.{_≡_};
 ghost use mathlib.Core.Bool.{cond};
 ghost use Prim.Native.Nat.{_+_, _≤_};
@@ -53,7 +53,7 @@ pub fn heading_of(r: Record, class: u8) -> Heading
     }
 }
 
-// The record behind a written message. It asks that sequence number and used length can rise: a record's limits and 16 have shown it before a message
+// The record after a written message. It asks that sequence number and used length can rise: a record's limits and 16 have shown it before a message
 // is written.
 pub fn after_message(r: Record, class: u8, size: usize) -> Record
     requires { ⌜ (r .sequence ≤ 1023) × (r .used + size ≤ 65535) ⌝ }

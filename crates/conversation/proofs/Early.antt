@@ -1,4 +1,4 @@
--- Calls that write a VERIFY for a scheme: behind one there is no other, at either end.
+-- Calls that write a VERIFY for a scheme: after one there is no other, at either end.
 -- Assumes nothing.
 use Prim.Native.Nat.{ℕ, zero, suc, _+_, _-_, _^_, _≤_, _<_}
 use mathlib.Core.Path.{_≡_, refl, sym, ap, subst, _∙_}
@@ -130,7 +130,7 @@ module _ (r : Record) (t : List ℕ) (f : eqb (reads r) FURTHER ≡ true) where
     unfolding judged
     judged-kept n c e = judge-keeps Kept r t kept-on 0 (startOf r) (chainFor r t) n c (record { low′ = low; same = refl }) e .same
 
--- the AP_REQUEST that the record keeps is another behind the first token alone
+-- the AP_REQUEST that the record keeps is another after the first token alone
 pub judged-requested : (r : Record) (t : List ℕ) (n : ℕ) (c : Scan) → eqb (reads r) 0 ≡ false → judged r t ≡ whole n c → c .requested ≡ r .requested
 unfolding judged
 judged-requested r t n c f e = judge-keeps (λ x. x .requested ≡ r .requested) r t step 0 (startOf r) (chainFor r t) n c refl e where
@@ -574,7 +574,7 @@ module _ (id : Id) where
     | inr v ↦ rw v (once (next w (c .0) (c .1)) x cs (invs-kept w (c .0) (c .1) h))
   ]
 
-  -- behind a VERIFY for the scheme the scheme is gone
+  -- after a VERIFY for the scheme the scheme is gone
 
   gone-behind : (w : World) (x : Bool) (cs : List (Bool × Call)) → Invs w → Gone (recordAt x w) → Gone (recordAt x (ends w cs))
   gone-behind w x [] h s = s

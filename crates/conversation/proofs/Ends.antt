@@ -157,7 +157,7 @@ module _ (o : Opening) (Q : ℕ → Type 0)
       abbrev IniGoal : (k : Call) (P : Answer → Type 0) → Outcome → Type 0
       IniGoal = Goal e IniOk beside
 
-      -- a message behind the NEGO
+      -- a message after the NEGO
       ini-more : (kind n : ℕ) (w : WrittenAs) (x : List ℕ) → NotFirst kind → mayWrite r kind ≡ true → IniAt r (e .turn) → IniAt (wrote r (placeAfter r kind) n w) (e .turn ++ x)
       unfolding writing
       ini-more kind n w x nf h (ini-fresh st p t) =

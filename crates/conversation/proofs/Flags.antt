@@ -23,7 +23,7 @@ use Rattle.conversation.specs.State.{ownOf, schemeAt, limitRows}
 use Rattle.conversation.specs.Turns.{NEGO, METADATA, VERIFY, writing, reading, reads, placeAfter, mayWrite}
 use Rattle.conversation.specs.Outcomes.{Outcome, refused, decide, row, room, WrittenAs, unchanged, wrote}
 use Rattle.conversation.specs.Writing.{stageRows, thenFits, offered, offerRows, offering, replyMessage, replyRows, replying, metadataMessage, metadataRows, writingMetadata, schemeNow, namedRows, Speech, request, checksum, alarm, classIn, speechFits, spoken, requestedBy, spokenAs, speaking}
-use Rattle.conversation.specs.Reading.{Judged, whole, halted, judged, countsBehind, finish, tokenRows, readingToken}
+use Rattle.conversation.specs.Reading.{Judged, whole, halted, judged, countsAfter, finish, tokenRows, readingToken}
 use Rattle.conversation.specs.Choosing.{openTo, firstPlace, chose, choosing}
 use Rattle.conversation.specs.Runs.{Sized, NegoCall, Call, offer, reply, metadata, speak, read, choose, End, act, Opening, World, world, next, ends, isAccepted}
 use Rattle.conversation.specs.Claims.{recordAt}
@@ -167,14 +167,14 @@ module _ (id : Id) where
 
     -- a token, read
     module _ (t : List ℕ) (limits : AllTrue (limitRows r)) (j : ℕ) (c : Scan) (w : judged r t ≡ whole j c) where
-      later-flag : r .stage ≡ 3 → countsBehind r c ≡ true → id ≡ schemeAt r (cond (eqb (reads r + 1) 3) (c .chosen) (c .requested)) → 1 ≤ n
+      later-flag : r .stage ≡ 3 → countsAfter r c ≡ true → id ≡ schemeAt r (cond (eqb (reads r + 1) 3) (c .chosen) (c .requested)) → 1 ≤ n
       later-flag st v q =
           let f : reads r ≡ 2 = later-reads r st in
           let q′ : id ≡ schemeAt r (c .chosen) = q ∙ ap (schemeAt r) (rw f) in
           has .had (λ y. omega arith) (rw st at v) (q′ ∙ judged-kept r t (eq-eqb _ _ f) limits (ok .low st) j c w ∙ ap (schemeAt r) (rw st))
 
       -- by the role and the stage
-      flag-taken : (a : Bool) → r .acceptor ≡ a → (reads r + 1 ≡ 4 → ⊥) → countsBehind r c ≡ true → id ≡ schemeAt r (cond (eqb (reads r + 1) 3) (c .chosen) (c .requested)) → 1 ≤ n
+      flag-taken : (a : Bool) → r .acceptor ≡ a → (reads r + 1 ≡ 4 → ⊥) → countsAfter r c ≡ true → id ≡ schemeAt r (cond (eqb (reads r + 1) 3) (c .chosen) (c .requested)) → 1 ≤ n
       unfolding reading
       flag-taken true e z v q = elim (which (eqb (r .stage) 0)) [
         | inl h ↦ absurd (has .none-first e (eqb-true _ _ h) (let st : r .stage ≡ 0 = eqb-true _ _ h in rw st at v))

@@ -173,7 +173,7 @@ module _ (id : Id) where
         let at : place (ownOf r) (schemeIn m) ≡ d .chosen = sym (rw f) ∙ chosen-then r t c d m e in
         record { low = subst (λ (n : ℕ). n < r .count) at (place-own r (schemeIn m) own); scheme = ap (schemeAt r) (sym at) ∙ place-at (ownOf r) (schemeIn m) own; fits = g }
 
-    -- behind a message, where the flag said before it how many of its scheme there were
+    -- after a message, where the flag said before it how many of its scheme there were
     then-later : (c d : Scan) (m : List ℕ) (n : ℕ) (e : admit r t c m ≡ on d) → n ≤ 1 → (id ≡ schemeIn m → n ≡ cond (confirmedFor r c (schemeIn m)) 1 0) → Later d (n + one m)
     then-later c d m n e most says = go (which (eqb (kind r t c d m e) VERIFY)) where
       x : Names c d m
@@ -245,7 +245,7 @@ module _ (id : Id) where
               let own : mem id (ownOf r) ≡ true = subst (λ (i : Id). mem i (ownOf r) ≡ true) (sym z) (further-mem r (c .chosen) (schemeIn m) (names c d m e .fits)) in
               is ∙ early own ∙ ap (λ (i : Id). cond (r .confirmed && isAt r (r .requested) i) 1 0) z ∙ ap (λ (b : Bool). cond b 1 0) (sym flag)
 
-  -- 4. the first token and the reply: a VERIFY stands at place 2, and nothing behind it
+  -- 4. the first token and the reply: a VERIFY stands at place 2, and nothing after it
 
   module _ (token : ℕ) (o : leb token 1 ≡ true) where
     opens-low : (p : ℕ) (h : Bool) (k : ℕ) → eqb k VERIFY ≡ false → after token p h k ≤ 2

@@ -148,7 +148,7 @@ chosen-below r m h = go (openTo r m) (open-below (r .count) (r .kept) (r .common
   go [] f s = no-true s
   go (k ∷ ks) f s = unfold leftOf in f (λ z. omega arith)
 
--- behind the choice a message names the chosen scheme
+-- after the choice a message names the chosen scheme
 pub now-chosen : (r : Record) (m : ℕ) → schemeNow (chose r m) ≡ firstPlace (openTo r m)
 unfolding schemeNow writing
 now-chosen r m = go (r .acceptor) where
@@ -203,7 +203,7 @@ module _ (r : Record) (t : List ℕ) where
     ]
   ]
 
--- 7. the limits behind each kind of call
+-- 7. the limits after each kind of call
 
 module _ (r : Record) (limits : AllTrue (limitRows r)) where
   pub limits-wrote : (position size : ℕ) (w : WrittenAs) → below (r .count) (w .marks) ≡ true → below (r .count) (w .metadata) ≡ true → 64 ≤ size → r .used + size ≤ 65535 → AllTrue (limitRows (wrote r position size w))

@@ -29,7 +29,7 @@ use Rattle.conversation.specs.Writing.{negoIn, extensionRows, offered, h
 use Rattle.conversation.specs.Reading.{conversationOf, startOf, Judged, whole, halted, chainFor, judged, taken, finish, readingToken}
 use Rattle.conversation.specs.Choosing.{openTo, chose, choosing}
 use Rattle.conversation.specs.Runs.{Sized, NegoCall, Call, offer, reply, metadata, speak, read, choose, End, act, turnAfter, moved, Opening, World, world, outcomeAt, next, ends, Entry, run}
-use Rattle.conversation.specs.Logs.{messagesIn, added, logged, Logs, nextLogs, logsBehind, Counted, InStep, EveryRun}
+use Rattle.conversation.specs.Logs.{messagesIn, added, logged, Logs, nextLogs, logsAfter, Counted, InStep, EveryRun}
 use Rattle.conversation.specs.Claims.{Arrays, isTest, NoTest, TwelveNeverRun}
 use Rattle.conversation.proofs.Decides.{all-first}
 use Rattle.conversation.proofs.Rows.{decide-out, back-true, true-behind}
@@ -185,7 +185,7 @@ module _ (e f : End) (le lf : List (List ℕ)) (ok : Sound (e .record-of) (e .tr
     metadata : below (r .count) (w .metadata) ≡ true
     plain : isTest k ≡ false → PlainAs r kind c
 
-  -- the log behind a message that is written
+  -- the log after a message that is written
   more-plain : (kind : ℕ) (c : Contents) → Whole c → leb (r .used + length (messageOf r kind c)) (room d) ≡ true → PlainAs r kind c → AllPlain le → AllPlain (le ++ (messageOf r kind c ∷ []))
   more-plain kind c ids fit p u = plain-more le (messageOf r kind c ∷ []) u (message-written r d (e .turn) le lf ok here kind c ids fit .plain p, tt)
 
@@ -339,7 +339,7 @@ module _ (e f : End) (le lf : List (List ℕ)) (ok : Sound (e .record-of) (e .tr
         transcript = put-end d (r .used) t (used-inside r d (e .turn) le lf ok here) ∙ ap (λ (l : List ℕ). l ++ t) (ok .transcript) ∙ ap (λ (l : List ℕ). join le ++ l) (sym (k .joins)) ∙ sym (join-append le ms);
       }
 
-  -- behind it, the two logs are the same
+  -- after it, the two logs are the same
   read-here : (n : ℕ) (c : Scan) → judged r t ≡ whole n c → InStep [] (le ++ ms) lf
   read-here n c w = record {
     shared = le ++ ms;
@@ -449,7 +449,7 @@ goes-on w l b true k =
 pub both-next : (w : World) (l : Logs) → Both w l → (x : Bool) (k : Call) → Both (next w x k) (nextLogs w x k l)
 both-next w l b x k = goes-on w l b x k .both
 
-both-behind : (w : World) (l : Logs) → Both w l → (cs : List (Bool × Call)) → Both (ends w cs) (logsBehind w l cs)
+both-behind : (w : World) (l : Logs) → Both w l → (cs : List (Bool × Call)) → Both (ends w cs) (logsAfter w l cs)
 both-behind w l b [] = b
 both-behind w l b (c ∷ cs) = both-behind (next w (c .0) (c .1)) (nextLogs w (c .0) (c .1) l) (both-next w l b (c .0) (c .1)) cs
 

@@ -37,7 +37,7 @@ abbrev Spent : Bool → Record → Type 0
 Spent true r = ((r .stage ≡ 1) × (1 ≤ r .position)) ⊎ ((r .stage ≡ 3) ⊎ (r .stage ≡ 4))
 Spent false r = (r .stage ≡ 3) ⊎ (r .stage ≡ 4)
 
--- behind the call k at an end of the role x: the role is kept, what is spent stays so, and an accepted call with marks spends
+-- after the call k at an end of the role x: the role is kept, what is spent stays so, and an accepted call with marks spends
 record Behind (x : Bool) (r : Record) (k : Call) (a : Answer) : Type 0 where
   role : a .next .acceptor ≡ x
   stays : Spent x r → Spent x (a .next)
@@ -61,7 +61,7 @@ module _ (x : Bool) (r : Record) (d : List ℕ) (role : r .acceptor ≡ x) where
   stopped : (k : Call) (rows : List Row) → without 0 rows ≡ true → (n : ℕ) → FirstFails n rows → Goes k (refused r d n 0)
   stopped k rows z n g = refusal k n 0 (fails-other 0 rows n z g)
 
-  -- a written message leaves the stage, and stands at a place behind the turn's start
+  -- a written message leaves the stage, and stands at a place after the turn's start
   wrote-stays : (b : Bool) (kind n : ℕ) (w : WrittenAs) → mayWrite r kind ≡ true → Spent b r → Spent b (wrote r (placeAfter r kind) n w)
   wrote-stays true kind n w h (inl s) = inl (s .0, positive (placeAfter r kind) h)
   wrote-stays true kind n w h (inr s) = inr s

@@ -204,7 +204,7 @@ module _ (e : End) (peer : List ℕ) (arrays : Arrays (e .record-of)) where
       let k = speech-kinds s (schemeAt r (schemeNow r)) in
       sends r d arrays (classIn s) (namedRows r (speechFits s)) c _ refl (k .0) (k .1) range (λ l t. speech-whole s (schemeAt r (schemeNow r)) (now-sized r d arrays l (t .1 .0)) (t .0)) refl refl
 
-  -- a choosing call's message is written in the record behind the choice
+  -- a choosing call's message is written in the record after the choice
   chooses : (n : ℕ) (s : Speech) → Reads (choose n s) (record { heading = heading r (classIn s); contents = contentsIn (schemeAt r (schemeNow (chose r n))) s })
   unfolding act choosing
   chooses n s = λ range.

@@ -5,9 +5,9 @@
 -- Glossary
 --   openTo r m     the own places of the reply's schemes that m does not mark, in the reply's order
 --   firstPlace ks  the first of places, NONE where there is none
---   chose r m      the record behind the choice, in which the message is written
+--   chose r m      the record after the choice, in which the message is written
 --   mayChoose r    18: the stage is the one to choose in, and the end is the initiator
---   maySpeak       18: the message may be written behind the choice
+--   maySpeak       18: the message may be written after the choice
 --   choosing       the call; its table: the limits, then choiceRows, 18, 19, 25, 17, 18, then 16
 use Prim.Native.Nat.{ℕ}
 use mathlib.Core.Bool.{Bool, not, _&&_}

@@ -13,7 +13,7 @@
 --   decides            an answer that is no refusal, or that closes the record
 --   RefusedStays       a call that does not decide leaves the two ends as they were
 --   acceptedOf         the calls of a list that are accepted, in order; decidingOf: those that decide
---   DecidingEnds       any two ends behind a list of calls are those of its deciding calls alone
+--   DecidingEnds       any two ends after a list of calls are those of its deciding calls alone
 --   AcceptedEnds       the two ends of a run without a test call are those of its accepted calls alone
 --   OpeningFresh       the records that a run starts with are those that opening answers
 --   leftWith o ma mi   what rule 2 leaves of the lists of an opening, with the marks of either end; replyWith o m: the reply's list with the acceptor's
@@ -176,7 +176,7 @@ NoneRefused =
 
 -- "the acceptor's, by its own marks alone, is answered when its NEGO is written": the first and the number of the common schemes less its marks; 17 is
 -- given only where there is none, and wherever there is none and none of 18, 19, 25 and 26 goes before (15 is not asked of this call, and 16 comes
--- behind 17)
+-- after 17)
 pub record ReplyAnswer (o : Opening) (m : ℕ) (a : Answer) : Type 0 where
   pub refuses : a .refusal ≡ 17 → replyWith o m ≡ []
   pub answers : isAccepted a ≡ true → (first (replyWith o m) ≡ some (a .choice)) × (a .left ≡ length (replyWith o m))
@@ -251,7 +251,7 @@ recordAt true w = w .a .record-of
 abbrev pub chosenIn : Record → Id
 chosenIn r = schemeAt r (r .chosen)
 
--- C-15: "Such a VERIFY counts as the end's one only if its scheme is the one chosen": behind the choice `attested` is set exactly where the one that
+-- C-15: "Such a VERIFY counts as the end's one only if its scheme is the one chosen": after the choice `attested` is set exactly where the one that
 -- counts is written, early or later
 abbrev pub FlagSays : Type 0
 FlagSays =

@@ -5,12 +5,12 @@
 --   zeroId           sixteen zeros: no choice
 --   answered n p r   the answer with the number n, the place p and the record r, and nothing else to say
 --   refused r d n p  "Each returns its number and the token place of the message at fault": n and p, with the record r and the transcript d
---   closedBy n r     the record behind a reading that the number n refuses: closed by 12, else as it was
+--   closedBy n r     the record after a reading that the number n refuses: closed by 12, else as it was
 --   decide           the first row that fails refuses; where all hold, the action; row makes a row
 --   room d           "Its room is the smaller of the buffer's length and 65,535."
 --   fits             16: used plus the length to add is within the room
 --   WrittenAs        what a written message changes in a record beside position, sequence and used; unchanged: nothing; marking m: the marks
---   wrote            the record behind a written message
+--   wrote            the record after a written message
 --   appended         a written message at the transcript's end
 use Prim.Native.Nat.{ℕ, _+_, min}
 use mathlib.Core.Bool.{Bool, cond}

@@ -91,7 +91,7 @@ module _ (r : Record) (m : ℕ) (fit : Bool) (kind n : ℕ) (n-is : n ≡ firstF
 
 pub ruleset choice-refusals = (limits-stop, choice-role, choice-stage, choice-kind, choice-marks, choice-unfit, choice-none, choice-some)
 
--- ---- the record behind the choice, and the answer
+-- ---- the record after the choice, and the answer
 module _ (r : Record) (m : ℕ) (y : ChoiceReady r m) (l : Left) (l-is : l ≡ leftOf (openPlaces (r .kept) (r .common) m)) where
   found : (l .place < r .count) × ((octets 16 (r .list) (16 * l .place) ≡ firstOr (named (ownOf r) (openTo r m))) × (l .place ≡ firstPlace (openTo r m)))
   found = open-first (r .list) (r .count) l (openTo r m) l-is (kept-inside (r .count) (r .kept) (r .common) m (y .kept)) (y .some)
@@ -112,7 +112,7 @@ choice-kept r m a h b b-is = b-is ∙ rw (ne-eqb (a .refusal) 0 h)
 
 pub ruleset choices = (choice-place, choice-made, choice-named, choice-kept)
 
--- ---- the call, by its refusal: the message is that of the writer in the record behind the choice
+-- ---- the call, by its refusal: the message is that of the writer in the record after the choice
 decide-last : (xs : List Row) (x : Row) (r : Record) (d : List ℕ) (action : Outcome) → AllTrue xs → decide (xs ++ (x ∷ [])) r d action ≡ cond (x .test) action (refused r d (x .number) 0)
 decide-last [] x r d action h = refl
 decide-last (y ∷ xs) x r d action h = rw (h .0) (decide-last xs x r d action (h .1))
@@ -135,7 +135,7 @@ module _ (r : Record) (m : ℕ) (fit : Bool) (kind n : ℕ) (n-is : n ≡ callRe
       let (may, (marks, (keeps, (some, (speaks, end))))) = back-true (limitRows r) (choiceRows r m fit kind) given in
       record { inside = limits-inside r (choiceRows r m fit kind) given; kept = kept; some = some }
 
-  -- the tests of the writer before 16 pass in the record behind the choice
+  -- the tests of the writer before 16 pass in the record after the choice
   passed : AllTrue (stageRows (chose r m) kind ++ namedRows (chose r m) fit)
   passed =
       let (may, (marks, (keeps, (some, (speaks, end))))) = back-true (limitRows r) (choiceRows r m fit kind) given in

@@ -23,7 +23,7 @@ use Rattle.conversation.specs.State.{fresh}
 use Rattle.conversation.specs.Outcomes.{zeroId, answered}
 use Rattle.conversation.specs.Writing.{opening}
 
--- a list put into zeros has zeros behind it
+-- a list put into zeros has zeros after it
 pub put-zeros : (n : ℕ) (own : List ℕ) → length own ≤ n → put (replicate n 0) 0 own ≡ padTo n own
 unfolding put
 put-zeros n own h = ap (λ (v : List ℕ). v ++ drop (0 + length own) (replicate n 0)) (sym (take-length own)) ∙ simp sub-zero at (paste-pad n [] own 0 (length own) refl refl (omega arith))

@@ -11,13 +11,13 @@ use conversation::Answer;
 use conversation::Record;
 use conversation::Turn;
 use conversation::limits::outside;
-use conversation::turns::place_behind;
+use conversation::turns::place_after;
 use schemes::choosing::choose_kept;
 use schemes::list::id_of;
 use schemes::set::within;
 use vector::TokenPlace;
 
-// Whether an early VERIFY counts behind a choice: it is for the AP_REQUEST's scheme.
+// Whether an early VERIFY counts after a choice: it is for the AP_REQUEST's scheme.
 fn counts_for(early: bool, place: usize, requested: usize) -> bool
     ensures { λ a. ⌜ a ≡ (early && eqb place requested) ⌝ }
 {
@@ -53,13 +53,13 @@ pub fn choice_refusal(r: Record, class: u8, marks: u16, fit: bool) -> u32
         return 17;
     }
     let spent = counts_for(r.attested, left.place as usize, r.requested);
-    if place_behind(Turn::FURTHER, 0, spent, class) == 0 {
+    if place_after(Turn::FURTHER, 0, spent, class) == 0 {
         return 18;
     }
     0
 }
 
-// The record behind the choice: the first kept place that is not marked. The message is written in it.
+// The record after the choice: the first kept place that is not marked. The message is written in it.
 pub fn chosen_record(r: Record, marks: u16) -> Record
     requires { ⌜ ChoiceReady r marks ⌝ }
     ensures { λ a. ⌜ a ≡ chose r marks ⌝ }
@@ -77,7 +77,7 @@ pub fn chosen_record(r: Record, marks: u16) -> Record
     next
 }
 
-// The answer behind the message: it names the choice and how many were left. Where the message was refused, nothing is chosen.
+// The answer after the message: it names the choice and how many were left. Where the message was refused, nothing is chosen.
 pub fn name_choice(r: Record, marks: u16, a: Answer) -> Answer
     requires { ⌜ ChoiceReady r marks ⌝ }
     ensures { λ b. ⌜ b ≡ namedChoice r marks a ⌝ }

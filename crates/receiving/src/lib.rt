@@ -44,7 +44,7 @@ fn refusal_before(r: Record, size: usize) -> u32
     0
 }
 
-// The record behind a token's refusal: 12 closes it.
+// The record after a token's refusal: 12 closes it.
 fn closed_by(number: u32, r: Record) -> Record
     ensures { λ a. ⌜ a ≡ closedBy number r ⌝ }
 {

@@ -1,7 +1,7 @@
-// The record behind an accepted token.
+// The record after an accepted token.
 ghost use mathlib.Core.Path.{_≡_};
 ghost use lib.ListN.{length};
-ghost use Rattle.conversation.specs.Reading.{countsBehind, taken};
+ghost use Rattle.conversation.specs.Reading.{countsAfter, taken};
 ghost use Rattle.receiving.specs.Receiving.{Taking, movedBy};
 use super::judge::conversation_of;
 use admitting::named::listed;
@@ -13,9 +13,9 @@ use schemes::reply::kept_places;
 use schemes::set::common_set;
 use schemes::set::full_set;
 
-// Whether the own one VERIFY is spent behind a token: the acceptor's first later token fixes the choice, and with it whether an early one counts.
-fn counts_behind(r: Record, c: Scan) -> bool
-    ensures { λ a. ⌜ a ≡ countsBehind r c ⌝ }
+// Whether the own one VERIFY is spent after a token: the acceptor's first later token fixes the choice, and with it whether an early one counts.
+fn counts_after(r: Record, c: Scan) -> bool
+    ensures { λ a. ⌜ a ≡ countsAfter r c ⌝ }
 {
     if r.stage != Record::REPLY {
         return r.attested;
@@ -33,7 +33,7 @@ fn moved(r: Record, t: &[u8], n: u32, c: Scan) -> Record
 {
     let token = reading_token(r.acceptor, r.stage);
     let conversation = conversation_of(r, t);
-    let attested = counts_behind(r, c);
+    let attested = counts_after(r, c);
     let mut next = r;
     next.stage = token + 1;
     next.position = 0;
@@ -48,7 +48,7 @@ fn moved(r: Record, t: &[u8], n: u32, c: Scan) -> Record
     next
 }
 
-// The record behind a token of n messages: the first gives the common schemes, the reply the kept places too.
+// The record after a token of n messages: the first gives the common schemes, the reply the kept places too.
 pub(crate) fn taken_record(r: Record, t: &[u8], n: u32, c: Scan) -> Record
     requires { ⌜ Taking r (length (now t)) n ⌝ }
     ensures { λ a. ⌜ a ≡ taken r (now (t .entry)) n c ⌝ }

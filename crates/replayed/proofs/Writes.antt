@@ -1,4 +1,4 @@
--- A call of a run that writes: its message, and the writer's record behind it, are what a replay makes of the message.
+-- A call of a run that writes: its message, and the writer's record after it, are what a replay makes of the message.
 -- Assumes nothing.
 use Prim.Native.Nat.{ℕ, _+_, _*_, _^_, _<_, _≤_}
 use mathlib.Core.Path.{_≡_, refl, sym, ap, subst, _∙_}

@@ -1,4 +1,4 @@
--- The writer's record behind its messages, in the words of the code.
+-- The writer's record after its messages, in the words of the code.
 -- Assumes nothing.
 use Prim.Native.Nat.{ℕ, _+_, _*_, _-_, _<_, _≤_}
 use mathlib.Core.Path.{_≡_, refl, sym, ap, subst, _∙_}

@@ -68,7 +68,7 @@ module _ (ks : List ℕ) (z : Left) (is : z ≡ leftOf ks) where
 
 pub ruleset opens = (open-none, open-first)
 
--- the record behind the choice, and the one in which a turn begins
+-- the record after the choice, and the one in which a turn begins
 abbrev chosenAs : Record → ℕ → ℕ → Bool → Bool → Record
 chosenAs w marks place attested confirmed = record {
   acceptor = w .acceptor;

@@ -1,4 +1,4 @@
-// What a turn's reader answers, with 28 behind the first message's 15.
+// What a turn's reader answers, with 28 after the first message's 15.
 ghost use mathlib.Core.Path.{_≡_};
 ghost use Prim.Native.Nat.{_≤_};
 ghost use lib.ListN.{length};
@@ -11,7 +11,7 @@ use conversation::Record;
 use receiving::read;
 use vector::TokenPlace;
 
-// The refusal of the first message, or else 28: a later message's and 16 come behind it.
+// The refusal of the first message, or else 28: a later message's and 16 come after it.
 fn owed_before(r: Record, a: Answer) -> Answer
     ensures { λ b. ⌜ b ≡ owedBefore r a ⌝ }
 {

@@ -1,4 +1,4 @@
-// The writer's record behind its turn, as if it had written it.
+// The writer's record after its turn, as if it had written it.
 ghost use mathlib.Core.Path.{_≡_};
 ghost use mathlib.Core.Bool.{cond, _&&_, _||_};
 ghost use Prim.Native.Nat.{_+_, _*_, _≤_};
@@ -40,7 +40,7 @@ fn first_open(w: Record, marks: u16) -> usize
     left.place as usize
 }
 
-// Whether an early VERIFY counts behind a choice.
+// Whether an early VERIFY counts after a choice.
 fn counts_for(early: bool, place: usize, requested: usize) -> bool
     ensures { λ a. ⌜ a ≡ (early && eqb place requested) ⌝ }
 {
@@ -50,7 +50,7 @@ fn counts_for(early: bool, place: usize, requested: usize) -> bool
     false
 }
 
-// The record behind the choice.
+// The record after the choice.
 fn chosen(w: Record, marks: u16) -> Record
     ensures { λ r. ⌜ r ≡ chose w marks ⌝ }
 {
@@ -81,7 +81,7 @@ fn begin(w: Record, marks: u16) -> Record
 }
 
 // The schemes that have metadata, with that of a message, where it is metadata for an own scheme.
-fn metadata_behind(w: Record, class: u8, id: &[u8]) -> u16
+fn metadata_after(w: Record, class: u8, id: &[u8]) -> u16
     requires { ⌜ w .count ≤ 16 ⌝ }
     ensures { λ r. ⌜ r ≡ cond (eqb class 2 && ltb (place (ownOf w) (now (id .entry))) (w .count)) (withBit (w .metadata) (place (ownOf w) (now (id .entry)))) (w .metadata) ⌝ }
 {
@@ -96,7 +96,7 @@ fn metadata_behind(w: Record, class: u8, id: &[u8]) -> u16
 }
 
 // The place of the first token's AP_REQUEST, where a message is it.
-fn requested_behind(requested: usize, class: u8, token: u8) -> usize
+fn requested_after(requested: usize, class: u8, token: u8) -> usize
     ensures { λ r. ⌜ r ≡ cond (eqb class 3 && eqb token 0) 0 requested ⌝ }
 {
     if class != Class::EXCHANGE {
@@ -108,8 +108,8 @@ fn requested_behind(requested: usize, class: u8, token: u8) -> usize
     0
 }
 
-// Whether the own one VERIFY is spent behind a message.
-fn attested_behind(attested: bool, class: u8) -> bool
+// Whether the own one VERIFY is spent after a message.
+fn attested_after(attested: bool, class: u8) -> bool
     ensures { λ r. ⌜ r ≡ (eqb class 4 || attested) ⌝ }
 {
     if class == Class::VERIFY {
@@ -118,16 +118,16 @@ fn attested_behind(attested: bool, class: u8) -> bool
     attested
 }
 
-// The writer's record behind a message of its own.
+// The writer's record after a message of its own.
 fn say(w: Record, m: &[u8]) -> Record
     requires { ⌜ (w .count ≤ 16) × (w .sequence ≤ 1023) × (w .used + length (now m) ≤ 65535) × (64 ≤ length (now m)) ⌝ }
     ensures { λ r. ⌜ r ≡ said w (now (m .entry)) ⌝ }
 {
     let class = class_of(w.acceptor, le_u32(m, field::TYPE));
     let token = writing_token(w.acceptor, w.stage);
-    let metadata = metadata_behind(w, class, &m[field::SCHEME..SCHEME_END]);
-    let requested = requested_behind(w.requested, class, token);
-    let attested = attested_behind(w.attested, class);
+    let metadata = metadata_after(w, class, &m[field::SCHEME..SCHEME_END]);
+    let requested = requested_after(w.requested, class, token);
+    let attested = attested_after(w.attested, class);
     let mut next = after_message(w, class, m.len());
     next.metadata = metadata;
     next.requested = requested;
@@ -135,7 +135,7 @@ fn say(w: Record, m: &[u8]) -> Record
     next
 }
 
-// The writer's record behind its turn t.
+// The writer's record after its turn t.
 pub fn speak(w: Record, marks: u16, t: &[u8]) -> Record
     requires { ⌜ (w .count ≤ 16) × (64 * w .sequence ≤ w .used) × (w .used + length (now t) ≤ 65535) ⌝ }
     ensures { λ r. ⌜ r ≡ spoke marks w (messagesOf (now (t .entry))) ⌝ }

@@ -25,8 +25,8 @@ part-confirmed-for-end c = search needs
 confirmed-for-requires : tie.Need-confirmed-for-requires
 confirmed-for-requires c κs = search needs
 
-place-behind-requires : tie.Need-place-behind-requires
-place-behind-requires c κs = search needs
+place-after-requires : tie.Need-place-after-requires
+place-after-requires c κs = search needs
 
 returns : tie.Need-returns
 returns c = search admits
@@ -72,7 +72,7 @@ admit-message-spec =
     part-confirmed-for-start
     part-confirmed-for-end
     confirmed-for-requires
-    place-behind-requires
+    place-after-requires
     returns
     sub-scheme-fits
     part-scheme-fits-start

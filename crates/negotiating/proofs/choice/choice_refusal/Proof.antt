@@ -42,8 +42,8 @@ cast-counts-for c = search needs
 counts-for-requires : tie.Need-counts-for-requires
 counts-for-requires c κs = search needs
 
-place-behind-requires : tie.Need-place-behind-requires
-place-behind-requires c κs = search needs
+place-after-requires : tie.Need-place-after-requires
+place-after-requires c κs = search needs
 
 returns-7 : tie.Need-returns-7
 returns-7 c = search choice-refusals
@@ -67,6 +67,6 @@ choice-refusal-spec =
     returns-6
     cast-counts-for
     counts-for-requires
-    place-behind-requires
+    place-after-requires
     returns-7
     returns-8)

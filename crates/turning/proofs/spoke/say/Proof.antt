@@ -13,23 +13,23 @@ class-of-requires c κs = search needs
 writing-token-requires : tie.Need-writing-token-requires
 writing-token-requires c κs = search needs
 
-sub-metadata-behind : tie.Need-sub-metadata-behind
-sub-metadata-behind c = search needs
+sub-metadata-after : tie.Need-sub-metadata-after
+sub-metadata-after c = search needs
 
-part-metadata-behind-start : tie.Need-part-metadata-behind-start
-part-metadata-behind-start c = search needs
+part-metadata-after-start : tie.Need-part-metadata-after-start
+part-metadata-after-start c = search needs
 
-part-metadata-behind-end : tie.Need-part-metadata-behind-end
-part-metadata-behind-end c = search needs
+part-metadata-after-end : tie.Need-part-metadata-after-end
+part-metadata-after-end c = search needs
 
-metadata-behind-requires : tie.Need-metadata-behind-requires
-metadata-behind-requires c κs = search needs
+metadata-after-requires : tie.Need-metadata-after-requires
+metadata-after-requires c κs = search needs
 
-requested-behind-requires : tie.Need-requested-behind-requires
-requested-behind-requires c κs = search needs
+requested-after-requires : tie.Need-requested-after-requires
+requested-after-requires c κs = search needs
 
-attested-behind-requires : tie.Need-attested-behind-requires
-attested-behind-requires c κs = search needs
+attested-after-requires : tie.Need-attested-after-requires
+attested-after-requires c κs = search needs
 
 after-message-requires : tie.Need-after-message-requires
 after-message-requires c κs = search needs
@@ -44,11 +44,11 @@ say-spec =
     le-u32-requires
     class-of-requires
     writing-token-requires
-    sub-metadata-behind
-    part-metadata-behind-start
-    part-metadata-behind-end
-    metadata-behind-requires
-    requested-behind-requires
-    attested-behind-requires
+    sub-metadata-after
+    part-metadata-after-start
+    part-metadata-after-end
+    metadata-after-requires
+    requested-after-requires
+    attested-after-requires
     after-message-requires
     returns)

@@ -1,8 +1,8 @@
 -- Assumes nothing.
 use Rattle.turning.proofs.Tests.{tellings}
 use borrow.Author.Needs.{needs}
-use Rattle.turning.proofs.spoke.metadata_behind.Statement.{statement}
-use Rattle.turning.proofs.spoke.metadata_behind.Tie as tie
+use Rattle.turning.proofs.spoke.metadata_after.Statement.{statement}
+use Rattle.turning.proofs.spoke.metadata_after.Tie as tie
 
 returns : tie.Need-returns
 returns c = search (needs, tellings)
@@ -22,6 +22,6 @@ with-bit-requires c κs = search needs
 returns-3 : tie.Need-returns-3
 returns-3 c = search (needs, tellings)
 
-pub metadata-behind-spec : {M : Type 1} → statement M
-metadata-behind-spec =
+pub metadata-after-spec : {M : Type 1} → statement M
+metadata-after-spec =
     tie.close (tie.spec returns find-requires returns-2 cast-with-bit with-bit-requires returns-3)
