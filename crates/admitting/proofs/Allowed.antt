@@ -53,7 +53,7 @@ module _ (r : Record) (t id l : List ℕ) (l-is : l ≡ listedIn t) (a : Bool) (
     pub exchange-first : token ≡ 0 → true ≡ exchangeFits r t id
     exchange-first e = rw (starts, first, ← token-is, eq-eqb _ _ e)
 
-    pub exchange-reply : (token ≡ 0 → ⊥) → (b : Bool) → b ≡ isAt r (r .asked) id → b ≡ exchangeFits r t id
+    pub exchange-reply : (token ≡ 0 → ⊥) → (b : Bool) → b ≡ isAt r (r .requested) id → b ≡ exchangeFits r t id
     exchange-reply e b b-is = rw (starts, first, ← token-is, ne-eqb _ _ e) b-is
 
 -- a later token

@@ -10,7 +10,7 @@ use Rattle.schemes.specs.Lists.{mem}
 use Rattle.conversation.specs.declared.Record.{Record}
 use Rattle.conversation.specs.declared.Scan.{Scan}
 use Rattle.conversation.specs.State.{replied}
-use Rattle.conversation.specs.Admitting.{isAt, heardFor}
+use Rattle.conversation.specs.Admitting.{isAt, confirmedFor}
 
 module _ (a x y : Bool) (a-is : a ≡ x) where
   pub counts-other : a ≡ false → false ≡ (x && y)
@@ -20,25 +20,25 @@ module _ (a x y : Bool) (a-is : a ≡ x) where
   counts-same e b b-is = rw (← a-is, e) b-is
 
 module _ (r : Record) (c : Scan) (id : List ℕ) where
-  pub heard-stage : (r .stage ≡ 1 → ⊥) → c .heard ≡ heardFor r c id
-  unfolding heardFor
-  heard-stage h = rw (ne-eqb _ _ h)
+  pub confirmed-stage : (r .stage ≡ 1 → ⊥) → c .confirmed ≡ confirmedFor r c id
+  unfolding confirmedFor
+  confirmed-stage h = rw (ne-eqb _ _ h)
 
   module _ (s : r .stage ≡ 1) where
-    pub heard-chosen : (c .chosen ≡ 255 → ⊥) → c .heard ≡ heardFor r c id
-    unfolding heardFor
-    heard-chosen h = rw (eq-eqb _ _ s, ne-eqb _ _ h)
+    pub confirmed-chosen : (c .chosen ≡ 255 → ⊥) → c .confirmed ≡ confirmedFor r c id
+    unfolding confirmedFor
+    confirmed-chosen h = rw (eq-eqb _ _ s, ne-eqb _ _ h)
 
     module _ (n : c .chosen ≡ 255) where
-      pub heard-none : c .heard ≡ false → false ≡ heardFor r c id
-      unfolding heardFor
-      heard-none e = rw (eq-eqb _ _ s, eq-eqb _ _ n, e)
+      pub confirmed-none : c .confirmed ≡ false → false ≡ confirmedFor r c id
+      unfolding confirmedFor
+      confirmed-none e = rw (eq-eqb _ _ s, eq-eqb _ _ n, e)
 
-      pub heard-early : c .heard ≡ true → (b : Bool) → b ≡ (isAt r (r .asked) id && mem id (replied r)) → b ≡ heardFor r c id
-      unfolding heardFor
-      heard-early e b b-is = rw (eq-eqb _ _ s, eq-eqb _ _ n, e) b-is
+      pub confirmed-early : c .confirmed ≡ true → (b : Bool) → b ≡ (isAt r (r .requested) id && mem id (replied r)) → b ≡ confirmedFor r c id
+      unfolding confirmedFor
+      confirmed-early e b b-is = rw (eq-eqb _ _ s, eq-eqb _ _ n, e) b-is
 
-pub heard-now : (heard : Bool) (kind : ℕ) → heard ≡ false → eqb kind 4 ≡ (heard || eqb kind 4)
-heard-now heard kind e = rw e
+pub confirmed-now : (confirmed : Bool) (kind : ℕ) → confirmed ≡ false → eqb kind 4 ≡ (confirmed || eqb kind 4)
+confirmed-now confirmed kind e = rw e
 
-pub ruleset hearings = (counts-other, counts-same, heard-stage, heard-chosen, heard-none, heard-early, heard-now)
+pub ruleset hearings = (counts-other, counts-same, confirmed-stage, confirmed-chosen, confirmed-none, confirmed-early, confirmed-now)

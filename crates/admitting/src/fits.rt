@@ -8,11 +8,11 @@ ghost use Rattle.calls.specs.Calls.{Inside};
 use super::named::listed;
 use super::named::metadata_fits;
 use super::named::starts_with;
-use calls::METADATA;
-use calls::NEGO;
 use calls::in_reply;
+use conversation::Class;
 use conversation::Record;
 use conversation::Scan;
+use conversation::Turn;
 use conversation::turns::reading_token;
 use message::field;
 use octets::same_id;
@@ -47,10 +47,10 @@ fn exchange_fits(r: Record, t: &[u8], id: &[u8]) -> bool
         return false;
     }
     let token = reading_token(r.acceptor, r.stage);
-    if token == 0 {
+    if token == Turn::FIRST {
         return true;
     }
-    is_at(r, r.asked, id)
+    is_at(r, r.requested, id)
 }
 
 // 15 for a message of a later token, where `chosen` is the own place of the chosen scheme, or none.
@@ -67,19 +67,19 @@ fn further_fits(r: Record, chosen: usize, id: &[u8]) -> bool
     is_at(r, chosen, id)
 }
 
-// 15 by the kind.
-pub(crate) fn scheme_fits(r: Record, t: &[u8], c: Scan, kind: u8, id: &[u8]) -> bool
+// 15 by the class.
+pub(crate) fn scheme_fits(r: Record, t: &[u8], c: Scan, class: u8, id: &[u8]) -> bool
     requires { ⌜ Inside r × (length (now id) ≡ 16) ⌝ }
-    ensures { λ a. ⌜ a ≡ schemeFits r (now (t .entry)) c kind (now (id .entry)) ⌝ }
+    ensures { λ a. ⌜ a ≡ schemeFits r (now (t .entry)) c class (now (id .entry)) ⌝ }
 {
-    if kind == NEGO {
+    if class == Class::NEGO {
         return true;
     }
-    if kind == METADATA {
+    if class == Class::METADATA {
         return metadata_fits(t, c.named, id);
     }
     let token = reading_token(r.acceptor, r.stage);
-    if token == 2 {
+    if token == Turn::FURTHER {
         return further_fits(r, c.chosen, id);
     }
     exchange_fits(r, t, id)

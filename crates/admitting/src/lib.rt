@@ -2,8 +2,8 @@
 use conversation::Scan;
 
 pub mod admit;
+mod confirmed;
 pub mod fits;
-mod heard;
 pub mod named;
 
 // What 14 and 15 say of a message: let through, with what is carried on, or stopped.

@@ -1,4 +1,4 @@
--- Refusals, in the words of the code: the room, the tests of a call behind a record's limits, and those of a call that writes.
+-- Refusals, in the words of the code: the room, the tests of a call after a record's limits, and those of a call that writes.
 -- Assumes nothing.
 use Prim.Native.Nat.{ℕ, _+_, _-_, _≤_, _<_, min}
 use mathlib.Core.Path.{_≡_, refl, sym, ap, _∙_}
@@ -37,7 +37,7 @@ module _ (used header n len whole : ℕ) (is : whole ≡ min len 65535) where
 
 pub ruleset rooms = (room-over, room-header, room-last)
 
--- ---- the tests of a call behind a record's limits
+-- ---- the tests of a call after a record's limits
 pub limits-inside : (r : Record) (rows : List Row) → AllTrue (limitRows r ++ rows) → Inside r
 limits-inside r rows h =
     let (some, (few, (different, (marks, (common, (told, (kept, (chosen, (used, (sequence, rest)))))))))) = h in

@@ -38,11 +38,11 @@ changed n w = record {
   marks = w .marks;
   common = n .common;
   kept = n .kept;
-  told = w .told;
-  asked = w .asked;
+  metadata = w .metadata;
+  requested = w .requested;
   chosen = n .chosen;
-  verified = w .verified;
-  heard = n .heard;
+  attested = w .attested;
+  confirmed = n .confirmed;
   sequence = n .sequence;
   used = n .used;
 }
@@ -76,7 +76,7 @@ module _ (r : Record) (arrays : Arrays r) (d : List ℕ) (kind : ℕ) (rows : Li
     unfolding writeRefusal
     write-passed action = call-passed r (row 18 (mayWrite r kind) ∷ (rows ++ (fits r d size ∷ []))) n n-is sure z d action ∙ by-length action
 
-    -- w says what the call changes in the record behind the message
+    -- w says what the call changes in the record after the message
     pub write-written : (w : Record → WrittenAs) (v : Contents) → v ≡ c → (d' : List ℕ) (next : Record) → Appended r d kind v d' next → (a : Answer) → a ≡ answered 0 0 (changed next (w next))
         → _≡_ {A = Outcome} (record { answer = a; transcript = d' }) (called r d kind rows c (appended r d (placeAfter r kind) (messageOf r kind c) (w (wrote r (placeAfter r kind) (length (messageOf r kind c)) (unchanged r)))))
     write-written w v v-is d' next y a a-is =

@@ -3,7 +3,7 @@
 --
 -- Glossary
 --   roomFor              16: used plus the length to add is within the room of a transcript of a length
---   callRefusal r rows   the first refusal of a call that makes these tests behind a record's limits, or 0
+--   callRefusal r rows   the first refusal of a call that makes these tests after a record's limits, or 0
 --   stageRefusal         18 for a call that writes a kind, or 0
 --   writeRefusal         the first refusal of a call that writes a message of a kind and size: 18, the tests of its own, 16; or 0
 --   Inside r             what the calls rely on of a record inside its limits

@@ -15,17 +15,6 @@ use vector::TokenPlace;
 
 pub mod next;
 
-// The kinds of message, whichever end sends them.
-pub const NEGO: u8 = 1;
-
-pub const METADATA: u8 = 2;
-
-pub const EXCHANGE: u8 = 3;
-
-pub const VERIFY: u8 = 4;
-
-pub const ALERT: u8 = 5;
-
 // An answer with a refusal's number, 0 for none, its place, and the record to go on with.
 pub fn answer(number: u32, place: TokenPlace, next: Record) -> Answer
     ensures { λ a. ⌜ a ≡ answered number (place .0) next ⌝ }
@@ -76,15 +65,15 @@ pub fn has_room(used: usize, header: usize, n: usize, len: usize) -> bool
     n <= free - header
 }
 
-// 18 where a record is outside its limits or may not write this kind, else 0.
-pub fn stage_refusal(r: Record, kind: u8) -> u32
-    ensures { λ a. ⌜ a ≡ stageRefusal r kind ⌝ }
+// 18 where a record is outside its limits or may not write this class, else 0.
+pub fn stage_refusal(r: Record, class: u8) -> u32
+    ensures { λ a. ⌜ a ≡ stageRefusal r class ⌝ }
 {
     let n = outside(r);
     if n != 0 {
         return n;
     }
-    if own_place(r, kind) == 0 {
+    if own_place(r, class) == 0 {
         return 18;
     }
     0

@@ -1,14 +1,11 @@
-// The next message of an end: its common fields, and the record behind it.
+// The next message of an end: its common fields, and the record after it.
 ghost use mathlib.Core.Path.{_≡_};
 ghost use mathlib.Core.Bool.{cond};
 ghost use Prim.Native.Nat.{_+_, _≤_};
 ghost use Rattle.conversation.specs.Turns.{typeOf, placeAfter};
 ghost use Rattle.conversation.specs.Outcomes.{wrote, unchanged};
 ghost use Rattle.conversation.specs.Writing.{heading};
-use super::EXCHANGE;
-use super::METADATA;
-use super::NEGO;
-use super::VERIFY;
+use conversation::Class;
 use conversation::Record;
 use conversation::turns::own_place;
 use encode::Heading;
@@ -21,48 +18,48 @@ fn by_role(acceptor: bool, of_acceptor: Kind, of_initiator: Kind) -> Kind
     if acceptor { of_acceptor } else { of_initiator }
 }
 
-// The message type of a kind.
-fn type_of(acceptor: bool, kind: u8) -> Kind
-    ensures { λ a. ⌜ a ≡ record { 0 = typeOf acceptor kind } ⌝ }
+// The message type of a class.
+fn type_of(acceptor: bool, class: u8) -> Kind
+    ensures { λ a. ⌜ a ≡ record { 0 = typeOf acceptor class } ⌝ }
 {
-    if kind == NEGO {
+    if class == Class::NEGO {
         return by_role(acceptor, Kind::acceptor_nego(), Kind::initiator_nego());
     }
-    if kind == METADATA {
+    if class == Class::METADATA {
         return by_role(
             acceptor,
             Kind::acceptor_meta_data(),
             Kind::initiator_meta_data(),
         );
     }
-    if kind == EXCHANGE {
+    if class == Class::EXCHANGE {
         return by_role(acceptor, Kind::challenge(), Kind::ap_request());
     }
-    if kind == VERIFY {
+    if class == Class::VERIFY {
         return Kind::verify();
     }
     Kind::alert()
 }
 
 // The common fields of the next message.
-pub fn heading_of(r: Record, kind: u8) -> Heading
-    ensures { λ a. ⌜ a ≡ heading r kind ⌝ }
+pub fn heading_of(r: Record, class: u8) -> Heading
+    ensures { λ a. ⌜ a ≡ heading r class ⌝ }
 {
     let conversation = r.conversation;
     Heading {
-        kind: type_of(r.acceptor, kind),
+        kind: type_of(r.acceptor, class),
         sequence: r.sequence,
         conversation,
     }
 }
 
-// The record behind a written message. It asks that sequence number and used length can rise: a record's limits and 16 have shown it before a message
+// The record after a written message. It asks that sequence number and used length can rise: a record's limits and 16 have shown it before a message
 // is written.
-pub fn after_message(r: Record, kind: u8, size: usize) -> Record
+pub fn after_message(r: Record, class: u8, size: usize) -> Record
     requires { ⌜ (r .sequence ≤ 1023) × (r .used + size ≤ 65535) ⌝ }
-    ensures { λ a. ⌜ a ≡ wrote r (placeAfter r kind) size (unchanged r) ⌝ }
+    ensures { λ a. ⌜ a ≡ wrote r (placeAfter r class) size (unchanged r) ⌝ }
 {
-    let position = own_place(r, kind);
+    let position = own_place(r, class);
     let mut next = r;
     next.position = position;
     next.sequence = r.sequence + 1;

@@ -1,7 +1,7 @@
 -- The calls of the library that a script's commands stand for. Quotations are README.md's, "What a conversation looks like".
 --
 -- Glossary
---   randomIn o       RANDOM, which is the first 32 octets of o; zeros where there are fewer. The values of the extensions stand behind it
+--   randomIn o       RANDOM, which is the first 32 octets of o; zeros where there are fewer. The values of the extensions stand after it
 --   negoContent c o  what a call that writes a NEGO is given besides marks; alertContent: one that writes an ALERT, whose values are all of o
 --   kept d a         an answer that leaves the transcript d as it is
 --   negoOf, writerOf the calls that write a NEGO, and all that write only

@@ -2,7 +2,7 @@
 ghost use mathlib.Core.Path.{_≡_};
 ghost use Prim.Native.Nat.{_%_};
 ghost use lib.ListN.{drop};
-ghost use Rattle.conversation.specs.Outcomes.{Outcome};
+ghost use Rattle.conversation.specs.Outcomes.{leaving};
 ghost use Rattle.commands.specs.Commands.{randomIn, negoOf, writerOf, chooserOf, callOf};
 use calls::answer;
 use conversation::Answer;
@@ -52,7 +52,7 @@ fn values(octets: &[u8]) -> &[u8]
 
 // The writers of a NEGO. What is no call is not of this stage: 18.
 fn write_nego(c: Command, r: Record, transcript: &mut [u8], octets: &[u8]) -> Answer
-    ensures { λ a. ⌜ _≡_ {A = Outcome} (record { answer = a; transcript = now (transcript .exit) }) (negoOf c r (now (transcript .entry)) (now (octets .entry))) ⌝ }
+    ensures { λ a. ⌜ leaving a (now (transcript .exit)) ≡ negoOf c r (now (transcript .entry)) (now (octets .entry)) ⌝ }
 {
     let extensions = c.elements;
     let v = values(octets);
@@ -68,7 +68,7 @@ fn write_nego(c: Command, r: Record, transcript: &mut [u8], octets: &[u8]) -> An
 
 // The calls that write and do nothing else.
 fn write(c: Command, r: Record, transcript: &mut [u8], octets: &[u8]) -> Answer
-    ensures { λ a. ⌜ _≡_ {A = Outcome} (record { answer = a; transcript = now (transcript .exit) }) (writerOf c r (now (transcript .entry)) (now (octets .entry))) ⌝ }
+    ensures { λ a. ⌜ leaving a (now (transcript .exit)) ≡ writerOf c r (now (transcript .entry)) (now (octets .entry)) ⌝ }
 {
     if c.verb == Command::METADATA {
         let id = c.id;
@@ -89,7 +89,7 @@ fn write(c: Command, r: Record, transcript: &mut [u8], octets: &[u8]) -> Answer
 
 // The calls that choose and write, and all that write.
 fn choose(c: Command, r: Record, transcript: &mut [u8], octets: &[u8]) -> Answer
-    ensures { λ a. ⌜ _≡_ {A = Outcome} (record { answer = a; transcript = now (transcript .exit) }) (chooserOf c r (now (transcript .entry)) (now (octets .entry))) ⌝ }
+    ensures { λ a. ⌜ leaving a (now (transcript .exit)) ≡ chooserOf c r (now (transcript .entry)) (now (octets .entry)) ⌝ }
 {
     let marks = bits(c.marks);
     if c.verb == Command::CHOOSE_EXCHANGE {
@@ -107,7 +107,7 @@ fn choose(c: Command, r: Record, transcript: &mut [u8], octets: &[u8]) -> Answer
 
 // Makes the call of a command with its octets, at an end with the record r.
 pub fn make(c: Command, r: Record, transcript: &mut [u8], octets: &[u8]) -> Answer
-    ensures { λ a. ⌜ _≡_ {A = Outcome} (record { answer = a; transcript = now (transcript .exit) }) (callOf c r (now (transcript .entry)) (now (octets .entry))) ⌝ }
+    ensures { λ a. ⌜ leaving a (now (transcript .exit)) ≡ callOf c r (now (transcript .entry)) (now (octets .entry)) ⌝ }
 {
     if c.verb == Command::OPEN {
         let id = c.id;

@@ -19,7 +19,7 @@ or-false : (a b : Bool) → a || b ≡ false → (a ≡ false) × (b ≡ false)
 or-false true b h = no-true (sym h)
 or-false false b h = (refl, h)
 
--- an end behind a call that does not decide is what it was: record, transcript and turn
+-- an end after a call that does not decide is what it was: record, transcript and turn
 end-stays : (e : End) (peer : List ℕ) (k : Call) → decides (act e peer k .answer) ≡ false → moved e k (act e peer k) ≡ e
 end-stays e peer k h =
     let (a, c) = or-false (isAccepted (act e peer k .answer)) (eqb (act e peer k .answer .refusal) 12) h in

@@ -15,7 +15,7 @@ use Rattle.conversation.specs.declared.Record.{Record}
 use Rattle.conversation.specs.State.{closed, limitRows}
 use Rattle.conversation.specs.Turns.{NEGO, METADATA, writing, reading, reads, mayWrite, mayRead}
 use Rattle.conversation.specs.Outcomes.{Outcome, refused, decide, row, room}
-use Rattle.conversation.specs.Writing.{stageRows, thenFits, offered, offerRows, replyMessage, replyRows, metadataMessage, metadataRows, namedRows, kindIn, speechFits, spoken, offering, replying, writingMetadata, speaking}
+use Rattle.conversation.specs.Writing.{stageRows, thenFits, offered, offerRows, replyMessage, replyRows, metadataMessage, metadataRows, namedRows, classIn, speechFits, spoken, offering, replying, writingMetadata, speaking}
 use Rattle.conversation.specs.Reading.{Judged, whole, halted, judged, finish, tokenRows, readingToken}
 use Rattle.conversation.specs.Choosing.{mayChoose, choosing}
 use Rattle.conversation.specs.Runs.{Call, offer, reply, metadata, speak, read, choose, End, act}
@@ -81,7 +81,7 @@ module _ (e : End) (peer : List ℕ) where
     closes (offer nego) z = stays-open (stageRows r NEGO ++ thenFits (offerRows r (nego .0)) r d (offered r (nego .0))) _ unshut z
     closes (reply m nego) z = stays-open (stageRows r NEGO ++ thenFits (replyRows r m (nego .0)) r d (replyMessage r m (nego .0))) _ unshut z
     closes (metadata id value) z = stays-open (stageRows r METADATA ++ thenFits (metadataRows r (id .0) (length value)) r d (metadataMessage r (id .0) value)) _ unshut z
-    closes (speak s) z = stays-open (stageRows r (kindIn s) ++ thenFits (namedRows r (speechFits s)) r d (spoken r s)) _ unshut z
+    closes (speak s) z = stays-open (stageRows r (classIn s) ++ thenFits (namedRows r (speechFits s)) r d (spoken r s)) _ unshut z
     closes read z = (refl, read-closes z)
     closes (choose m s) z = stays-open (choiceTable r d m s) _ (λ y. omega arith) z
 
@@ -94,7 +94,7 @@ module _ (e : End) (peer : List ℕ) where
     no-token false = refl
 
     writes-none : (kind : ℕ) → mayWrite r kind ≡ false
-    writes-none kind = rw (shut, no-token (r .acceptor), none-written (r .position) (r .verified) kind)
+    writes-none kind = rw (shut, no-token (r .acceptor), none-written (r .position) (r .attested) kind)
 
     reads-none : mayRead r ≡ false
     unfolding reading
@@ -115,7 +115,7 @@ module _ (e : End) (peer : List ℕ) where
     answers-18 (reply m nego) = barred (limitRows r) (mayWrite r NEGO) (thenFits (replyRows r m (nego .0)) r d (replyMessage r m (nego .0))) r d _ refl (writes-none NEGO)
     answers-18 (metadata id value) =
         barred (limitRows r) (mayWrite r METADATA) (thenFits (metadataRows r (id .0) (length value)) r d (metadataMessage r (id .0) value)) r d _ refl (writes-none METADATA)
-    answers-18 (speak s) = barred (limitRows r) (mayWrite r (kindIn s)) (thenFits (namedRows r (speechFits s)) r d (spoken r s)) r d _ refl (writes-none (kindIn s))
+    answers-18 (speak s) = barred (limitRows r) (mayWrite r (classIn s)) (thenFits (namedRows r (speechFits s)) r d (spoken r s)) r d _ refl (writes-none (classIn s))
     answers-18 read = barred (limitRows r) (mayRead r) (row 1 (leb (length peer) 65535) ∷ []) r d _ refl reads-none
     answers-18 (choose m s) =
         decide-out (λ out. out ≡ refused r d 18 0) (choiceTable r d m s) r d _

@@ -165,7 +165,7 @@ no-mem-nil : (s : Id) (l : List Id) → l ≡ [] → mem s l ≡ true → ⊥
 unfolding mem
 no-mem-nil s l e m = no-true (rw e at m)
 
--- 3. a second run behind a longer offer
+-- 3. a second run after a longer offer
 
 module _ (o : Opening) (cs : List (Bool × Call)) (o′ : Opening) (cs′ : List (Bool × Call)) (m ma : ℕ) (s : Speech) (a : Answer) (ok : isAccepted a ≡ true)
     (chosen : List·Memᴰ (record { acceptor = false; call = choose m s; said = a }) (run (world o) cs))

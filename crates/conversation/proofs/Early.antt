@@ -1,4 +1,4 @@
--- Calls that write a VERIFY for a scheme: behind one there is no other, at either end.
+-- Calls that write a VERIFY for a scheme: after one there is no other, at either end.
 -- Assumes nothing.
 use Prim.Native.Nat.{ℕ, zero, suc, _+_, _-_, _^_, _≤_, _<_}
 use mathlib.Core.Path.{_≡_, refl, sym, ap, subst, _∙_}
@@ -22,10 +22,10 @@ use Rattle.conversation.specs.declared.Record.{Record}
 use Rattle.conversation.specs.declared.Answer.{Answer}
 use Rattle.conversation.specs.declared.Scan.{Scan}
 use Rattle.conversation.specs.State.{NONE, ownOf, schemeAt, limitRows}
-use Rattle.conversation.specs.Turns.{FURTHER, NEGO, METADATA, EXCHANGE, VERIFY, ALERT, writing, reading, kindOf, afterOpening, after, writes, reads, placeAfter, mayWrite}
+use Rattle.conversation.specs.Turns.{FURTHER, NEGO, METADATA, EXCHANGE, VERIFY, ALERT, writing, reading, classOf, afterOpening, after, writes, reads, placeAfter, mayWrite}
 use Rattle.conversation.specs.Outcomes.{Outcome, refused, closedBy, decide, row, room, fits, WrittenAs, unchanged, wrote}
-use Rattle.conversation.specs.Writing.{stageRows, thenFits, offered, offerRows, offering, replyMessage, replyRows, replying, metadataMessage, metadataRows, writingMetadata, schemeNow, schemeAllowed, namedRows, Speech, request, checksum, alarm, kindIn, speechFits, spoken, askedBy, spokenAs, speaking}
-use Rattle.conversation.specs.Admitting.{schemeIn, isAt, furtherFits, schemeFits, heardFor, passed, Admitted, on, stop, admit}
+use Rattle.conversation.specs.Writing.{stageRows, thenFits, offered, offerRows, offering, replyMessage, replyRows, replying, metadataMessage, metadataRows, writingMetadata, schemeNow, schemeAllowed, namedRows, Speech, request, checksum, alarm, classIn, speechFits, spoken, requestedBy, spokenAs, speaking}
+use Rattle.conversation.specs.Admitting.{schemeIn, isAt, furtherFits, schemeFits, confirmedFor, passed, Admitted, on, stop, admit}
 use Rattle.conversation.specs.Reading.{conversationOf, startOf, Judged, whole, halted, judge, chainFor, judged, taken, finish, tokenRows, readingToken}
 use Rattle.conversation.specs.Choosing.{openTo, firstPlace, chose, choiceRows, choosing}
 use Rattle.conversation.specs.Runs.{Sized, NegoCall, Call, offer, reply, metadata, speak, read, choose, End, act, Opening, World, world, outcomeAt, next, ends, isAccepted}
@@ -73,11 +73,11 @@ module _ (r : Record) (t : List ℕ) (f : eqb (reads r) FURTHER ≡ true) where
   admit-fits : (c d : Scan) (m : List ℕ) → admit r t c m ≡ on d → Fits c d
   unfolding admit passed schemeFits
   admit-fits c d m e =
-      let kind : ℕ = kindOf (not (r .acceptor)) (headOf m .kind) in
-      let a = not-stop (not (eqb (after (reads r) (c .position) (heardFor r c (schemeIn m)) kind) 0)) 14 _ d e in
+      let kind : ℕ = classOf (not (r .acceptor)) (headOf m .kind) in
+      let a = not-stop (not (eqb (after (reads r) (c .position) (confirmedFor r c (schemeIn m)) kind) 0)) 14 _ d e in
       let b = not-stop (schemeFits r t c kind (schemeIn m)) 15 _ d (a .1) in
-      let is : passed r c kind (after (reads r) (c .position) (heardFor r c (schemeIn m)) kind) (schemeIn m) ≡ d = cc in
-      let k = further-kind r (reads r) (c .position) (heardFor r c (schemeIn m)) kind f (a .0) in
+      let is : passed r c kind (after (reads r) (c .position) (confirmedFor r c (schemeIn m)) kind) (schemeIn m) ≡ d = cc in
+      let k = further-kind r (reads r) (c .position) (confirmedFor r c (schemeIn m)) kind f (a .0) in
       let g : furtherFits r (c .chosen) (schemeIn m) ≡ true = rw (k .0, k .1, f) at (b .0) in
       let own : mem (schemeIn m) (ownOf r) ≡ true = further-mem r (c .chosen) (schemeIn m) g in
       let at : place (ownOf r) (schemeIn m) ≡ d .chosen = sym (rw f) ∙ ap (λ (s : Scan). s .chosen) is in
@@ -130,18 +130,18 @@ module _ (r : Record) (t : List ℕ) (f : eqb (reads r) FURTHER ≡ true) where
     unfolding judged
     judged-kept n c e = judge-keeps Kept r t kept-on 0 (startOf r) (chainFor r t) n c (record { low′ = low; same = refl }) e .same
 
--- the AP_REQUEST that the record keeps is another behind the first token alone
-pub judged-asked : (r : Record) (t : List ℕ) (n : ℕ) (c : Scan) → eqb (reads r) 0 ≡ false → judged r t ≡ whole n c → c .asked ≡ r .asked
+-- the AP_REQUEST that the record keeps is another after the first token alone
+pub judged-requested : (r : Record) (t : List ℕ) (n : ℕ) (c : Scan) → eqb (reads r) 0 ≡ false → judged r t ≡ whole n c → c .requested ≡ r .requested
 unfolding judged
-judged-asked r t n c f e = judge-keeps (λ x. x .asked ≡ r .asked) r t step 0 (startOf r) (chainFor r t) n c refl e where
-  step : (x y : Scan) (m : List ℕ) → x .asked ≡ r .asked → admit r t x m ≡ on y → y .asked ≡ r .asked
+judged-requested r t n c f e = judge-keeps (λ x. x .requested ≡ r .requested) r t step 0 (startOf r) (chainFor r t) n c refl e where
+  step : (x y : Scan) (m : List ℕ) → x .requested ≡ r .requested → admit r t x m ≡ on y → y .requested ≡ r .requested
   step x y m p h = unfold admit passed in (
-      let kind : ℕ = kindOf (not (r .acceptor)) (headOf m .kind) in
-      let a = not-stop (not (eqb (after (reads r) (x .position) (heardFor r x (schemeIn m)) kind) 0)) 14 _ y h in
+      let kind : ℕ = classOf (not (r .acceptor)) (headOf m .kind) in
+      let a = not-stop (not (eqb (after (reads r) (x .position) (confirmedFor r x (schemeIn m)) kind) 0)) 14 _ y h in
       let b = not-stop (schemeFits r t x kind (schemeIn m)) 15 _ y (a .1) in
-      let is : passed r x kind (after (reads r) (x .position) (heardFor r x (schemeIn m)) kind) (schemeIn m) ≡ y = cc in
+      let is : passed r x kind (after (reads r) (x .position) (confirmedFor r x (schemeIn m)) kind) (schemeIn m) ≡ y = cc in
       let none : eqb kind EXCHANGE && eqb (reads r) 0 ≡ false = rw f (and-none (eqb kind EXCHANGE)) in
-      sym (ap (λ (s : Scan). s .asked) is) ∙ (rw none p)) where
+      sym (ap (λ (s : Scan). s .requested) is) ∙ (rw none p)) where
         and-none : (b : Bool) → b && false ≡ false
         and-none true = refl
         and-none false = refl
@@ -168,7 +168,7 @@ verify-at p false h = elim (which (eqb p 2)) [ inl e ↦ eqb-true _ _ e | inr e 
 
 pub writes-some : (r : Record) (kind : ℕ) → mayWrite r kind ≡ true → writes r ≡ 3 → ⊥
 writes-some r kind h z =
-    no-after _ (none-written (r .position) (r .verified) kind) (subst (λ (k : ℕ). not (eqb (after k (r .position) (r .verified) kind) 0) ≡ true) z h)
+    no-after _ (none-written (r .position) (r .attested) kind) (subst (λ (k : ℕ). not (eqb (after k (r .position) (r .attested) kind) 0) ≡ true) z h)
 
 pub acceptor-stage : (st : ℕ) → (writing true st ≡ 3 → ⊥) → (st ≡ 1) ⊎ (st ≡ 3)
 unfolding writing
@@ -188,11 +188,11 @@ initiator-stage st h = elim (which (eqb st 0)) [
 pub later-now : (r : Record) → r .stage ≡ 3 → schemeNow r ≡ r .chosen
 unfolding schemeNow writing
 later-now r st = go (r .acceptor) where
-  go : (a : Bool) → cond (eqb (writing a (r .stage)) 0) 0 (cond (eqb (writing a (r .stage)) 1) (r .asked) (r .chosen)) ≡ r .chosen
+  go : (a : Bool) → cond (eqb (writing a (r .stage)) 0) 0 (cond (eqb (writing a (r .stage)) 1) (r .requested) (r .chosen)) ≡ r .chosen
   go true = rw st
   go false = rw st
 
-pub reply-now : (r : Record) → r .acceptor ≡ true → r .stage ≡ 1 → schemeNow r ≡ r .asked
+pub reply-now : (r : Record) → r .acceptor ≡ true → r .stage ≡ 1 → schemeNow r ≡ r .requested
 unfolding schemeNow writing
 reply-now r e st = rw (e, st)
 
@@ -221,15 +221,15 @@ closed-writes r st = go (r .acceptor) where
   go true = rw st
   go false = rw st
 
-still-verified : (q : Record) (s : Speech) → q .verified ≡ true → spokenAs q s .verified ≡ true
-still-verified q (request value) h = h
-still-verified q (checksum type value) h = refl
-still-verified q (alarm code) h = h
+still-attested : (q : Record) (s : Speech) → q .attested ≡ true → spokenAs q s .attested ≡ true
+still-attested q (request value) h = h
+still-attested q (checksum type value) h = refl
+still-attested q (alarm code) h = h
 
 -- an end that has written its VERIFY writes none
-verified-bars : (r : Record) → mayWrite r VERIFY ≡ true → r .verified ≡ true → ⊥
+attested-bars : (r : Record) → mayWrite r VERIFY ≡ true → r .attested ≡ true → ⊥
 unfolding after
-verified-bars r h v = no-true (rw v at h)
+attested-bars r h v = no-true (rw v at h)
 
 -- 4. when no VERIFY for a scheme can be written any more
 
@@ -262,7 +262,7 @@ verifyCount w x id (c ∷ cs) =
 -- the choice is a place of the list; the initiator's first token has its AP_REQUEST before its VERIFY
 pub record Inv (r : Record) : Type 0 where
   pub low : r .stage ≡ 3 → r .chosen < r .count
-  pub first : r .acceptor ≡ false → r .stage ≡ 0 → 2 ≤ r .position → r .asked ≡ 0
+  pub first : r .acceptor ≡ false → r .stage ≡ 0 → 2 ≤ r .position → r .requested ≡ 0
 
 -- before the choice, in the stages in which an end that has written an early VERIFY can be
 abbrev pub EarlyStage : Bool → ℕ → Type 0
@@ -272,13 +272,13 @@ EarlyStage false st = (st ≡ 0) ⊎ (st ≡ 2)
 module _ (id : Id) where
   pub record Early (r : Record) : Type 0 where
     pub early : EarlyStage (r .acceptor) (r .stage)
-    spent : r .verified ≡ true
-    asked-low : r .asked < r .count
-    zero-asked : r .acceptor ≡ false → r .asked ≡ 0
-    is : id ≡ schemeAt r (r .asked)
+    spent : r .attested ≡ true
+    requested-low : r .requested < r .count
+    zero-requested : r .acceptor ≡ false → r .requested ≡ 0
+    is : id ≡ schemeAt r (r .requested)
 
   abbrev pub Gone : Record → Type 0
-  Gone r = Early r ⊎ (((r .stage ≡ 3) × ((r .verified ≡ true) ⊎ (id ≡ schemeAt r (r .chosen) → ⊥))) ⊎ (r .stage ≡ 4))
+  Gone r = Early r ⊎ (((r .stage ≡ 3) × ((r .attested ≡ true) ⊎ (id ≡ schemeAt r (r .chosen) → ⊥))) ⊎ (r .stage ≡ 4))
 
   record Step (r : Record) (k : Call) (a : Answer) : Type 0 where
     inv : Inv (a .next)
@@ -292,57 +292,57 @@ module _ (id : Id) where
     step-by : (k : Call) (rows : List Row) (action : Outcome) → without 0 rows ≡ true → (AllTrue rows → Step r k (action .answer)) → Step r k (decide rows r d action .answer)
     step-by k rows action z h = decide-out (λ out. Step r k (out .answer)) rows r d action (λ n g. refusal k n 0 (fails-other 0 rows n z g)) h
 
-    wrote-stays : (position n : ℕ) (w : WrittenAs) → (r .verified ≡ true → w .verified ≡ true) → (Early r → w .asked ≡ r .asked) → Gone r → Gone (wrote r position n w)
+    wrote-stays : (position n : ℕ) (w : WrittenAs) → (r .attested ≡ true → w .attested ≡ true) → (Early r → w .requested ≡ r .requested) → Gone r → Gone (wrote r position n w)
     wrote-stays position n w hv ha (inl e) = inl (record {
       early = e .early;
       spent = hv (e .spent);
-      asked-low = subst (λ (k : ℕ). k < r .count) (sym (ha e)) (e .asked-low);
-      zero-asked = λ z. ha e ∙ e .zero-asked z;
+      requested-low = subst (λ (k : ℕ). k < r .count) (sym (ha e)) (e .requested-low);
+      zero-requested = λ z. ha e ∙ e .zero-requested z;
       is = e .is ∙ ap (schemeAt r) (sym (ha e));
     })
     wrote-stays position n w hv ha (inr (inl s)) = inr (inl (s .0, elim (s .1) [ inl v ↦ inl (hv v) | inr f ↦ inr f ]))
     wrote-stays position n w hv ha (inr (inr s)) = inr (inr s)
 
     -- a NEGO or metadata
-    quiet : (kind n : ℕ) (w : WrittenAs) → ((p : ℕ) (v : Bool) → after 0 p v kind ≤ 1) → w .verified ≡ r .verified → w .asked ≡ r .asked → Inv (wrote r (placeAfter r kind) n w) × (Gone r → Gone (wrote r (placeAfter r kind) n w))
+    quiet : (kind n : ℕ) (w : WrittenAs) → ((p : ℕ) (v : Bool) → after 0 p v kind ≤ 1) → w .attested ≡ r .attested → w .requested ≡ r .requested → Inv (wrote r (placeAfter r kind) n w) × (Gone r → Gone (wrote r (placeAfter r kind) n w))
     unfolding writing
     quiet kind n w low hv ha = (
       record {
         low = ok .low;
-        first = λ e st h. absurd (let h′ : 2 ≤ after 0 (r .position) (r .verified) kind = rw (e, st) at h in let l = low (r .position) (r .verified) in omega arith);
+        first = λ e st h. absurd (let h′ : 2 ≤ after 0 (r .position) (r .attested) kind = rw (e, st) at h in let l = low (r .position) (r .attested) in omega arith);
       },
       wrote-stays (placeAfter r kind) n w (λ v. hv ∙ v) (λ e. ha),
     )
 
-    asked-early : Early r → askedBy r ≡ r .asked
+    requested-early : Early r → requestedBy r ≡ r .requested
     unfolding writing
-    asked-early e = go (r .acceptor) refl (e .early) where
-      go : (a : Bool) → r .acceptor ≡ a → EarlyStage a (r .stage) → askedBy r ≡ r .asked
+    requested-early e = go (r .acceptor) refl (e .early) where
+      go : (a : Bool) → r .acceptor ≡ a → EarlyStage a (r .stage) → requestedBy r ≡ r .requested
       go true q st = rw (q, st)
-      go false q (inl st) = rw (q, st) (sym (e .zero-asked q))
+      go false q (inl st) = rw (q, st) (sym (e .zero-requested q))
       go false q (inr st) = rw (q, st)
 
-    speech-asked : (s : Speech) → Early r → spokenAs r s .asked ≡ r .asked
-    speech-asked (request value) e = asked-early e
-    speech-asked (checksum type value) e = refl
-    speech-asked (alarm code) e = refl
+    speech-requested : (s : Speech) → Early r → spokenAs r s .requested ≡ r .requested
+    speech-requested (request value) e = requested-early e
+    speech-requested (checksum type value) e = refl
+    speech-requested (alarm code) e = refl
 
-    speech-first : (s : Speech) → r .acceptor ≡ false → r .stage ≡ 0 → 2 ≤ placeAfter r (kindIn s) → spokenAs r s .asked ≡ 0
+    speech-first : (s : Speech) → r .acceptor ≡ false → r .stage ≡ 0 → 2 ≤ placeAfter r (classIn s) → spokenAs r s .requested ≡ 0
     unfolding writing
     speech-first (request value) e st h = rw (e, st)
     speech-first (checksum type value) e st h =
-        let h′ : 2 ≤ after 0 (r .position) (r .verified) VERIFY = rw (e, st) at h in
-        let z : after 0 (r .position) (r .verified) VERIFY ≡ 0 → ⊥ = λ q. omega arith in
-        let p : r .position ≡ 2 = verify-at (r .position) (r .verified) (rw (ne-eqb _ _ z)) in
+        let h′ : 2 ≤ after 0 (r .position) (r .attested) VERIFY = rw (e, st) at h in
+        let z : after 0 (r .position) (r .attested) VERIFY ≡ 0 → ⊥ = λ q. omega arith in
+        let p : r .position ≡ 2 = verify-at (r .position) (r .attested) (rw (ne-eqb _ _ z)) in
         ok .first e st (omega arith)
     speech-first (alarm code) e st h =
-        let h′ : 2 ≤ after 0 (r .position) (r .verified) ALERT = rw (e, st) at h in absurd (omega (arith, alert-none (r .position) (r .verified)))
+        let h′ : 2 ≤ after 0 (r .position) (r .attested) ALERT = rw (e, st) at h in absurd (omega (arith, alert-none (r .position) (r .attested)))
 
     -- a VERIFY by its writer
     module _ (type : ℤ) (value : List ℕ) (position n : ℕ) (may : mayWrite r VERIFY ≡ true) (allowed : schemeAllowed r ≡ true) (is : id ≡ schemeAt r (schemeNow r)) where
       not-gone : Gone r → ⊥
-      not-gone (inl e) = verified-bars r may (e .spent)
-      not-gone (inr (inl s)) = elim (s .1) [ inl v ↦ verified-bars r may v | inr f ↦ f (is ∙ ap (schemeAt r) (later-now r (s .0))) ]
+      not-gone (inl e) = attested-bars r may (e .spent)
+      not-gone (inr (inl s)) = elim (s .1) [ inl v ↦ attested-bars r may v | inr f ↦ f (is ∙ ap (schemeAt r) (later-now r (s .0))) ]
       not-gone (inr (inr s)) = writes-some r VERIFY may (closed-writes r s)
 
       abbrev then-record : Record
@@ -358,27 +358,27 @@ module _ (id : Id) where
         | inl st ↦ inl (record {
           early = subst (λ (a : Bool). EarlyStage a (r .stage)) (sym q) st;
           spent = refl;
-          asked-low = subst (λ (k : ℕ). k < r .count) (reply-now r q st) (now-below r allowed);
-          zero-asked = λ z. no-true (sym z ∙ q);
+          requested-low = subst (λ (k : ℕ). k < r .count) (reply-now r q st) (now-below r allowed);
+          zero-requested = λ z. no-true (sym z ∙ q);
           is = is ∙ ap (schemeAt r) (reply-now r q st);
         })
       ]
       then-gone false q = elim (initiator-stage (r .stage) (λ z. writes-some r VERIFY may (ap (λ (a : Bool). writing a (r .stage)) q ∙ z))) [
         | inr st ↦ late st
         | inl st ↦
-            let p : r .position ≡ 2 = verify-at (r .position) (r .verified) (rw (q, st) at may) in
-            let zero : r .asked ≡ 0 = ok .first q st (omega arith) in
-            let now : schemeNow r ≡ r .asked = first-now r q st ∙ sym zero in
+            let p : r .position ≡ 2 = verify-at (r .position) (r .attested) (rw (q, st) at may) in
+            let zero : r .requested ≡ 0 = ok .first q st (omega arith) in
+            let now : schemeNow r ≡ r .requested = first-now r q st ∙ sym zero in
             inl (record {
               early = subst (λ (a : Bool). EarlyStage a (r .stage)) (sym q) (inl st);
               spent = refl;
-              asked-low = subst (λ (k : ℕ). k < r .count) now (now-below r allowed);
-              zero-asked = λ z. zero;
+              requested-low = subst (λ (k : ℕ). k < r .count) now (now-below r allowed);
+              zero-requested = λ z. zero;
               is = is ∙ ap (schemeAt r) now;
             })
       ]
 
-    speech-spends : (s : Speech) (position n : ℕ) → mayWrite r (kindIn s) ≡ true → schemeAllowed r ≡ true → isChecksum s && sameOctets id (schemeAt r (schemeNow r)) ≡ true → (Gone r → ⊥) × Gone (wrote r position n (spokenAs r s))
+    speech-spends : (s : Speech) (position n : ℕ) → mayWrite r (classIn s) ≡ true → schemeAllowed r ≡ true → isChecksum s && sameOctets id (schemeAt r (schemeNow r)) ≡ true → (Gone r → ⊥) × Gone (wrote r position n (spokenAs r s))
     speech-spends (request value) position n may allowed v = no-true v
     speech-spends (alarm code) position n may allowed v = no-true v
     speech-spends (checksum type value) position n may allowed v =
@@ -389,12 +389,12 @@ module _ (id : Id) where
     unfolding speaking
     speaks s =
         let rest : List Row = thenFits (namedRows r (speechFits s)) r d (spoken r s) in
-        step-by (speak s) (stageRows r (kindIn s) ++ rest) _ refl
+        step-by (speak s) (stageRows r (classIn s) ++ rest) _ refl
         (λ g. record {
           inv = record { low = ok .low; first = speech-first s };
-          stays = wrote-stays (placeAfter r (kindIn s)) (length (spoken r s)) (spokenAs r s) (still-verified r s) (speech-asked s);
-          spends = λ a v. speech-spends s (placeAfter r (kindIn s)) (length (spoken r s)) (true-behind (limitRows r) (row 18 (mayWrite r (kindIn s))) rest g)
-              (true-behind (stageRows r (kindIn s) ++ (row 25 (speechFits s) ∷ [])) (row 15 (schemeAllowed r)) (fits r d (length (spoken r s)) ∷ []) g) v;
+          stays = wrote-stays (placeAfter r (classIn s)) (length (spoken r s)) (spokenAs r s) (still-attested r s) (speech-requested s);
+          spends = λ a v. speech-spends s (placeAfter r (classIn s)) (length (spoken r s)) (true-behind (limitRows r) (row 18 (mayWrite r (classIn s))) rest g)
+              (true-behind (stageRows r (classIn s) ++ (row 25 (speechFits s) ∷ [])) (row 15 (schemeAllowed r)) (fits r d (length (spoken r s)) ∷ []) g) v;
         })
 
     offers : (nego : NegoCall) → Step r (offer nego) (offering r d (nego .0) .answer)
@@ -408,7 +408,7 @@ module _ (id : Id) where
     replies m nego =
         step-by (reply m nego) (stageRows r NEGO ++ thenFits (replyRows r m (nego .0)) r d (replyMessage r m (nego .0))) _ refl
         (λ g.
-        let w : WrittenAs = record { marks = m; told = r .told; asked = r .asked; verified = r .verified } in
+        let w : WrittenAs = record { marks = m; metadata = r .metadata; requested = r .requested; attested = r .attested } in
         let q = quiet NEGO (length (replyMessage r m (nego .0))) w nego-low refl refl in record { inv = q .0; stays = q .1; spends = λ a v. no-true v })
 
     tells : (scheme : Sized 16) (value : List ℕ) → Step r (metadata scheme value) (writingMetadata r d (scheme .0) value .answer)
@@ -416,7 +416,7 @@ module _ (id : Id) where
     tells scheme value =
         step-by (metadata scheme value) (stageRows r METADATA ++ thenFits (metadataRows r (scheme .0) (length value)) r d (metadataMessage r (scheme .0) value)) _ refl
         (λ g.
-        let w : WrittenAs = record { marks = r .marks; told = r .told + 2 ^ place (ownOf r) (scheme .0); asked = r .asked; verified = r .verified } in
+        let w : WrittenAs = record { marks = r .marks; metadata = r .metadata + 2 ^ place (ownOf r) (scheme .0); requested = r .requested; attested = r .attested } in
         let q = quiet METADATA (length (metadataMessage r (scheme .0) value)) w metadata-low refl refl in record { inv = q .0; stays = q .1; spends = λ a v. no-true v })
 
     -- the choice: an early VERIFY is spent where it is for the chosen place, and else for another scheme
@@ -426,13 +426,13 @@ module _ (id : Id) where
       chose-stays s position n (inr (inr z)) = absurd (omega arith)
       chose-stays s position n (inl e) = inr (inl (
         refl,
-        elim (which (eqb (firstPlace (openTo r m)) (r .asked))) [
-          | inl h ↦ inl (still-verified (chose r m) s (rw (e .spent, h)))
-          | inr h ↦ inr (λ q. eqb-false _ _ h (same-place r limits _ _ low (e .asked-low) (sym q ∙ e .is)))
+        elim (which (eqb (firstPlace (openTo r m)) (r .requested))) [
+          | inl h ↦ inl (still-attested (chose r m) s (rw (e .spent, h)))
+          | inr h ↦ inr (λ q. eqb-false _ _ h (same-place r limits _ _ low (e .requested-low) (sym q ∙ e .is)))
         ],
       ))
 
-      chose-spends : (s : Speech) (position n : ℕ) → mayWrite (chose r m) (kindIn s) ≡ true → isChecksum s && sameOctets id (schemeAt (chose r m) (schemeNow (chose r m))) ≡ true
+      chose-spends : (s : Speech) (position n : ℕ) → mayWrite (chose r m) (classIn s) ≡ true → isChecksum s && sameOctets id (schemeAt (chose r m) (schemeNow (chose r m))) ≡ true
           → (Gone r → ⊥) × Gone (wrote (chose r m) position n (spokenAs (chose r m) s))
       chose-spends (request value) position n may v = no-true v
       chose-spends (alarm code) position n may v = no-true v
@@ -440,9 +440,9 @@ module _ (id : Id) where
         not-yet : Gone r → ⊥
         not-yet (inr (inl z)) = let y = z .0 in omega arith
         not-yet (inr (inr z)) = omega arith
-        not-yet (inl e) = elim (which (eqb (firstPlace (openTo r m)) (r .asked))) [
-          | inl h ↦ verified-bars (chose r m) may (rw (e .spent, h))
-          | inr h ↦ eqb-false _ _ h (same-place r limits _ _ low (e .asked-low) (sym (same-eq _ _ v ∙ ap (schemeAt r) (now-chosen r m)) ∙ e .is))
+        not-yet (inl e) = elim (which (eqb (firstPlace (openTo r m)) (r .requested))) [
+          | inl h ↦ attested-bars (chose r m) may (rw (e .spent, h))
+          | inr h ↦ eqb-false _ _ h (same-place r limits _ _ low (e .requested-low) (sym (same-eq _ _ v ∙ ap (schemeAt r) (now-chosen r m)) ∙ e .is))
         ]
 
     chooses : (m : ℕ) (s : Speech) → Step r (choose m s) (choosing r d m s .answer)
@@ -451,15 +451,15 @@ module _ (id : Id) where
         step-by (choose m s) (choiceTable r d m s) _ refl
         (λ g.
         let p = choice-passed r d m s g in
-        let limits : AllTrue (limitRows r) = front-true (limitRows r) (thenFits (choiceRows r m (speechFits s) (kindIn s)) (chose r m) d (spoken (chose r m) s)) g in
+        let limits : AllTrue (limitRows r) = front-true (limitRows r) (thenFits (choiceRows r m (speechFits s) (classIn s)) (chose r m) d (spoken (chose r m) s)) g in
         let role : r .acceptor ≡ false = not-true _ (and-l (not (r .acceptor)) (eqb (r .stage) 2) (p .may)) in
         let at : r .stage ≡ 2 = eqb-true _ _ (and-r (not (r .acceptor)) (eqb (r .stage) 2) (p .may)) in
         let (l1, (l2, (l3, (l4, (l5, (l6, (l7, rest))))))) = limits in
         let low : firstPlace (openTo r m) < r .count = chosen-below r m (rw role at l7) (p .left) in
         record {
           inv = record { low = λ z. low; first = λ a z. absurd (omega arith) };
-          stays = chose-stays m limits at low s (placeAfter (chose r m) (kindIn s)) (length (spoken (chose r m) s));
-          spends = λ a v. chose-spends m limits at low s (placeAfter (chose r m) (kindIn s)) (length (spoken (chose r m) s)) (p .speaks) v;
+          stays = chose-stays m limits at low s (placeAfter (chose r m) (classIn s)) (length (spoken (chose r m) s));
+          spends = λ a v. chose-spends m limits at low s (placeAfter (chose r m) (classIn s)) (length (spoken (chose r m) s)) (p .speaks) v;
         })
 
     -- a token, read
@@ -475,21 +475,21 @@ module _ (id : Id) where
           let three : reads r + 1 ≡ 3 = omega arith in
           inr (inl (
             three,
-            elim (which (eqb (c .chosen) (r .asked))) [
+            elim (which (eqb (c .chosen) (r .requested))) [
               | inl h ↦ inl (rw (st, e .spent, h))
-              | inr h ↦ inr (λ z. eqb-false _ _ h (same-place r limits _ _ low (e .asked-low) (sym z ∙ e .is)))
+              | inr h ↦ inr (λ z. eqb-false _ _ h (same-place r limits _ _ low (e .requested-low) (sym z ∙ e .is)))
             ],
           ))
       taken-early e false q (inr st) = let f : reads r ≡ 3 = rw (q, st) in inr (inr (let z : reads r + 1 ≡ 4 = omega arith in z))
       taken-early e false q (inl st) =
           let f : reads r ≡ 1 = rw (q, st) in
-          let same : c .asked ≡ r .asked = judged-asked r t n c (rw f) w in
+          let same : c .requested ≡ r .requested = judged-requested r t n c (rw f) w in
           let two : reads r + 1 ≡ 2 = omega arith in
           inl (record {
             early = subst (λ (a : Bool). EarlyStage a (reads r + 1)) (sym q) (inr two);
             spent = rw st (e .spent);
-            asked-low = subst (λ (k : ℕ). k < r .count) (sym same) (e .asked-low);
-            zero-asked = λ z. same ∙ e .zero-asked z;
+            requested-low = subst (λ (k : ℕ). k < r .count) (sym same) (e .requested-low);
+            zero-requested = λ z. same ∙ e .zero-requested z;
             is = e .is ∙ ap (schemeAt r) (sym same);
           })
 
@@ -574,7 +574,7 @@ module _ (id : Id) where
     | inr v ↦ rw v (once (next w (c .0) (c .1)) x cs (invs-kept w (c .0) (c .1) h))
   ]
 
-  -- behind a VERIFY for the scheme the scheme is gone
+  -- after a VERIFY for the scheme the scheme is gone
 
   gone-behind : (w : World) (x : Bool) (cs : List (Bool × Call)) → Invs w → Gone (recordAt x w) → Gone (recordAt x (ends w cs))
   gone-behind w x [] h s = s

@@ -24,7 +24,7 @@ use Rattle.conversation.specs.declared.Record.{Record}
 use Rattle.conversation.specs.declared.Answer.{Answer}
 use Rattle.conversation.specs.declared.Scan.{Scan}
 use Rattle.conversation.specs.State.{closed, ownOf, limitRows, fresh}
-use Rattle.conversation.specs.Turns.{NEGO, writing, reading, kindOf, after, writes, reads, placeAfter, mayWrite, mayRead}
+use Rattle.conversation.specs.Turns.{NEGO, writing, reading, classOf, after, writes, reads, placeAfter, mayWrite, mayRead}
 use Rattle.conversation.specs.Outcomes.{Outcome, answered, refused, row, fits, WrittenAs, unchanged, wrote, appended}
 use Rattle.conversation.specs.Writing.{NegoContent, extensionRows, stageRows, thenFits, offered, offerRows, offering, someLeft, firstOr, replyMessage, naming, replying, Speech, opening}
 use Rattle.conversation.specs.Admitting.{listedBy}
@@ -157,14 +157,14 @@ module _ (o : Opening) (Q : ℕ → Type 0)
       abbrev IniGoal : (k : Call) (P : Answer → Type 0) → Outcome → Type 0
       IniGoal = Goal e IniOk beside
 
-      -- a message behind the NEGO
+      -- a message after the NEGO
       ini-more : (kind n : ℕ) (w : WrittenAs) (x : List ℕ) → NotFirst kind → mayWrite r kind ≡ true → IniAt r (e .turn) → IniAt (wrote r (placeAfter r kind) n w) (e .turn ++ x)
       unfolding writing
       ini-more kind n w x nf h (ini-fresh st p t) =
-          absurd (no-after _ (nf 0 (r .verified) refl) (let h′ : not (eqb (after (writing false 0) 0 (r .verified) kind) 0) ≡ true = rw (ok .role, st, p) at h in h′))
+          absurd (no-after _ (nf 0 (r .attested) refl) (let h′ : not (eqb (after (writing false 0) 0 (r .attested) kind) 0) ≡ true = rw (ok .role, st, p) at h in h′))
       ini-more kind n w x nf h (ini-open st p t) = ini-open st (positive (placeAfter r kind) h) (heads-more 0 (o .initiator) (e .turn) x t)
       ini-more kind n w x nf h (ini-choosing st t ma q ks c) =
-          absurd (no-after _ (none-written (r .position) (r .verified) kind) (let h′ : not (eqb (after (writing false 2) (r .position) (r .verified) kind) 0) ≡ true = rw (ok .role, st) at h in h′))
+          absurd (no-after _ (none-written (r .position) (r .attested) kind) (let h′ : not (eqb (after (writing false 2) (r .position) (r .attested) kind) 0) ≡ true = rw (ok .role, st) at h in h′))
       ini-more kind n w x nf h (ini-later st) = ini-later st
 
       ini-on : (kind : ℕ) (w : WrittenAs) (x d′ : List ℕ) → NotFirst kind → mayWrite r kind ≡ true → IniOk (record { record-of = wrote r (placeAfter r kind) (length x) w; transcript = d′; turn = e .turn ++ x })
@@ -173,11 +173,11 @@ module _ (o : Opening) (Q : ℕ → Type 0)
       ini-nego : (nego : NegoCall) → mayWrite r NEGO ≡ true → AllTrue (limitRows r) → AllTrue (extensionRows (nego .0)) → IniAt r (e .turn) → IniAt (wrote r (placeAfter r NEGO) (length (offered r (nego .0))) (unchanged r)) (e .turn ++ offered r (nego .0))
       unfolding writing
       ini-nego nego h l x (ini-fresh st p t) = ini-open st (positive (placeAfter r NEGO) h) (rw t (heads-offer r nego (ok .role) (ok .bytes) (ok .count) (ok .talk) l x))
-      ini-nego nego h l x (ini-open st p t) = absurd (let z = nego-start (writes r) (r .position) (r .verified) h in omega (arith, z .1))
+      ini-nego nego h l x (ini-open st p t) = absurd (let z = nego-start (writes r) (r .position) (r .attested) h in omega (arith, z .1))
       ini-nego nego h l x (ini-choosing st t ma q ks c) =
-          absurd (no-after _ (none-written (r .position) (r .verified) NEGO) (let h′ : not (eqb (after (writing false 2) (r .position) (r .verified) NEGO) 0) ≡ true = rw (ok .role, st) at h in h′))
+          absurd (no-after _ (none-written (r .position) (r .attested) NEGO) (let h′ : not (eqb (after (writing false 2) (r .position) (r .attested) NEGO) 0) ≡ true = rw (ok .role, st) at h in h′))
       ini-nego nego h l x (ini-later st) =
-          no-true (let z : leb (writing false 3) 1 ≡ true = rw (ok .role, st) at (nego-start (writes r) (r .position) (r .verified) h .0) in z)
+          no-true (let z : leb (writing false 3) 1 ≡ true = rw (ok .role, st) at (nego-start (writes r) (r .position) (r .attested) h .0) in z)
 
       ini-offer : (nego : NegoCall) → IniGoal (offer nego) no17 (offering r d (nego .0))
       unfolding offering
@@ -301,9 +301,9 @@ module _ (o : Opening) (Q : ℕ → Type 0)
       acc-more : (kind n : ℕ) (w : WrittenAs) (x : List ℕ) → NotFirst kind → mayWrite s kind ≡ true → AccAt s (e .turn) → AccAt (wrote s (placeAfter s kind) n w) (e .turn ++ x)
       unfolding writing
       acc-more kind n w x nf h (acc-fresh st t) =
-          absurd (no-after _ (none-written (s .position) (s .verified) kind) (let h′ : not (eqb (after (writing true 0) (s .position) (s .verified) kind) 0) ≡ true = rw (ok .role, st) at h in h′))
+          absurd (no-after _ (none-written (s .position) (s .attested) kind) (let h′ : not (eqb (after (writing true 0) (s .position) (s .attested) kind) 0) ≡ true = rw (ok .role, st) at h in h′))
       acc-more kind n w x nf h (acc-read st p c lc t) =
-          absurd (no-after _ (nf 1 (s .verified) refl) (let h′ : not (eqb (after (writing true 1) 0 (s .verified) kind) 0) ≡ true = rw (ok .role, st, p) at h in h′))
+          absurd (no-after _ (nf 1 (s .attested) refl) (let h′ : not (eqb (after (writing true 1) 0 (s .attested) kind) 0) ≡ true = rw (ok .role, st, p) at h in h′))
       acc-more kind n w x nf h (acc-open st p ma q t) = acc-open st (positive (placeAfter s kind) h) ma q (heads-more 1 (reply-of ma) (e .turn) x t)
       acc-more kind n w x nf h (acc-later st) = acc-later st
 
@@ -333,7 +333,7 @@ module _ (o : Opening) (Q : ℕ → Type 0)
       acc-lists : (m : ℕ) → mayWrite s NEGO ≡ true → AccAt s (e .turn) → Listing m
       unfolding writing
       acc-lists m h (acc-fresh st t) =
-          absurd (no-after _ (none-written (s .position) (s .verified) NEGO) (let h′ : not (eqb (after (writing true 0) (s .position) (s .verified) NEGO) 0) ≡ true = rw (ok .role, st) at h in h′))
+          absurd (no-after _ (none-written (s .position) (s .attested) NEGO) (let h′ : not (eqb (after (writing true 0) (s .position) (s .attested) NEGO) 0) ≡ true = rw (ok .role, st) at h in h′))
       acc-lists m h (acc-read st p c lc t) = record {
         stage = st;
         lists = rw (ok .own, c) (left-keep (o .acceptor) (o .initiator) m (ok-distinct (o .acceptor) (o .acceptor-ok)));
@@ -341,9 +341,9 @@ module _ (o : Opening) (Q : ℕ → Type 0)
         talk = lc;
         none-yet = t;
       }
-      acc-lists m h (acc-open st p ma q t) = absurd (let z = nego-start (writes s) (s .position) (s .verified) h in omega (arith, z .1))
+      acc-lists m h (acc-open st p ma q t) = absurd (let z = nego-start (writes s) (s .position) (s .attested) h in omega (arith, z .1))
       acc-lists m h (acc-later st) =
-          no-true (let z : leb (writing true 3) 1 ≡ true = rw (ok .role, st) at (nego-start (writes s) (s .position) (s .verified) h .0) in z)
+          no-true (let z : leb (writing true 3) 1 ≡ true = rw (ok .role, st) at (nego-start (writes s) (s .position) (s .attested) h .0) in z)
 
       -- refused by the table whose row 17 asks for a scheme left
       reply-refused : (m : ℕ) (nego : NegoCall) (n : ℕ) (last : List Row) → without 0 last ≡ true → without 17 last ≡ true
@@ -383,7 +383,7 @@ module _ (o : Opening) (Q : ℕ → Type 0)
           let last : List Row = fits s b (length (replyMessage s m (nego .0))) ∷ [] in
           let before : List Row = replyBefore m nego in
           decide-out (λ out. (isAccepted (out .answer) ≡ true → Q m) → AccGoal (reply m nego) (ReplyAnswer o m) out) (before ++ (row 17 (someLeft l) ∷ last)) s b
-          (naming l (appended s b (placeAfter s NEGO) (replyMessage s m (nego .0)) (record { marks = m; told = s .told; asked = s .asked; verified = s .verified })))
+          (naming l (appended s b (placeAfter s NEGO) (replyMessage s m (nego .0)) (record { marks = m; metadata = s .metadata; requested = s .requested; attested = s .attested })))
           (λ n g ask. refusal e AccOk along ok tg (reply m nego) (ReplyAnswer o m) n 0 (fails-other 0 (before ++ (row 17 (someLeft l) ∷ last)) n refl g) (reply-refused m nego n last refl refl g))
           (λ g ask.
           let more : List Row = row 18 (s .acceptor) ∷ row 19 (below (s .count) m) ∷ (extensionRows (nego .0) ++ (row 17 (someLeft l) ∷ last)) in
@@ -405,10 +405,10 @@ module _ (o : Opening) (Q : ℕ → Type 0)
 
       -- a NEGO is no message of a later token
       no-nego : (n : ℕ) (c : Scan) → judged s (f .turn) ≡ whole n c → s .stage ≡ 1 → Heads 0 (o .initiator) (f .turn) → ⊥
-      unfolding reading kindOf
+      unfolding reading classOf
       no-nego n c w st t =
           let k = judged-first s (f .turn) n c w in go (k .spent) (k .allowed) where
-            go : (v : Bool) → not (eqb (after (reads s) 0 v (kindOf (not (s .acceptor)) (headOf (f .turn) .kind))) 0) ≡ true → ⊥
+            go : (v : Bool) → not (eqb (after (reads s) 0 v (classOf (not (s .acceptor)) (headOf (f .turn) .kind))) 0) ≡ true → ⊥
             go v h =
                 let h′ : not (eqb (after 2 0 v NEGO) 0) ≡ true = rw (ok .role, st, heads-here 0 (o .initiator) (f .turn) t .0) at h in
                 no-true (nego-start 2 0 v h′ .0)

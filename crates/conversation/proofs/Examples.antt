@@ -11,38 +11,26 @@ use native.Mathlib.Omega.{arith}
 use lib.Dec.{eqb}
 use borrow.Author.Tests.{eqb-true}
 use Rattle.octets.proofs.Bools.{which, no-true, and-l, and-r}
-use Rattle.octets.specs.Octets.{le, signed32, sameOctets, sameId}
+use Rattle.octets.specs.Octets.{sameOctets}
 use Rattle.octets.proofs.Same.{same-eq}
-use Rattle.vector.specs.Vector.{keepsRule, shown}
-use Rattle.message.specs.Layout.{shapeOf, headOf, elementsAt, contentOf, vectorsOf}
-use Rattle.message.specs.Check.{commonRows, allKeepRule, noneCritical, contentRows, bodyRows, frontRows}
-use Rattle.message.specs.Show.{idsAt, schemesIn}
-use Rattle.token.specs.Token.{orderRows, nextRows, chainOf}
-use Rattle.put.specs.Put.{put}
-use Rattle.elements.specs.Elements.{offsetOf, itemOctets, itemsFit, itemsOf, sumFrom, smallFrom, elementsFit, ordinaryFrom}
-use Rattle.encode.specs.Encode.{encoded}
-use Rattle.schemes.specs.Lists.{Id, mem, place, distinct, marked}
-use Rattle.schemes.specs.Sets.{setOf, left, has, mentions, ones, openPlaces, keptBelow}
+use Rattle.schemes.specs.Lists.{Id, mem, marked}
 use Rattle.schemes.specs.Longer.{none-left, kept, gained, Longer}
 use Rattle.schemes.proofs.Offers.{bit-zero}
 use Rattle.conversation.specs.State.{fresh}
 use Rattle.conversation.specs.Outcomes.{answered}
-use Rattle.conversation.specs.Turns as turns
-use Rattle.conversation.specs.Writing.{offering, replying, writingMetadata, schemeNow, request, speaking}
-use Rattle.conversation.specs.Admitting.{messagesAt, schemeFits, heardFor, passed, admit}
-use Rattle.conversation.specs.Reading.{conversationOf, judge, judged, commonAfter, keptAfter, finish, readingToken}
-use Rattle.conversation.specs.Choosing.{choosing}
-use Rattle.conversation.specs.Runs.{Call, offer, reply, metadata, speak, read, choose, Opening, world, Entry, run, MarksKept, NotLost, act}
+use Rattle.conversation.specs.Writing.{request}
+use Rattle.conversation.specs.Runs.{Call, offer, reply, metadata, speak, read, choose, Opening, world, Entry, run, MarksKept, NotLost}
 use Rattle.conversation.specs.Logs.{messagesIn}
-use Rattle.conversation.specs.Worked.{scheme, plain, ordinary, critical, tooMany, opened, negotiation, Says, saysOf, names, longerLists, LongerRun, LongerChoice, WholeConversation, WholeLogs, AtOnce, EarlyVerify, Extended, StaysRejected}
+use Rattle.conversation.specs.Worked.{scheme, ordinary, critical, tooMany, opened, negotiation, Says, saysOf, names, longerLists, LongerRun, LongerChoice, WholeConversation, WholeLogs, AtOnce, EarlyVerify, Extended, StaysRejected}
 use Rattle.conversation.proofs.Demand.{demand3, run-calls}
+use Rattle.conversation.proofs.Computes.{computing}
 
 pub whole-conversation : WholeConversation
-unfolding opened plain offsetOf itemOctets itemsFit itemsOf sumFrom smallFrom elementsFit ordinaryFrom le signed32 sameOctets sameId keepsRule shown shapeOf headOf elementsAt contentOf vectorsOf commonRows allKeepRule noneCritical contentRows bodyRows frontRows idsAt schemesIn orderRows nextRows chainOf put encoded mem place distinct setOf left has mentions ones openPlaces keptBelow turns.writing turns.reading turns.kindOf turns.typeOf turns.afterOpening turns.afterFurther turns.after offering replying writingMetadata speaking schemeNow messagesAt schemeFits heardFor passed admit conversationOf judge judged commonAfter keptAfter finish readingToken choosing act
+unfolding computing
 whole-conversation = refl
 
 pub whole-logs : WholeLogs
-unfolding opened plain offsetOf itemOctets itemsFit itemsOf sumFrom smallFrom elementsFit ordinaryFrom le signed32 sameOctets sameId keepsRule shown shapeOf headOf elementsAt contentOf vectorsOf commonRows allKeepRule noneCritical contentRows bodyRows frontRows idsAt schemesIn orderRows nextRows chainOf put encoded mem place distinct setOf left has mentions ones openPlaces keptBelow turns.writing turns.reading turns.kindOf turns.typeOf turns.afterOpening turns.afterFurther turns.after offering replying writingMetadata speaking schemeNow messagesAt schemeFits heardFor passed admit conversationOf judge judged commonAfter keptAfter finish readingToken choosing act messagesIn
+unfolding computing messagesIn
 whole-logs = (refl, refl)
 
 -- two runs without marks, the second with longer lists
@@ -102,7 +90,7 @@ abbrev chosen : Entry
 chosen = fifth (run (world opened) (negotiation 0 0)) none-such
 
 first-choice : saysOf chosen ≡ names (scheme 2) 2
-unfolding opened plain offsetOf itemOctets itemsFit itemsOf sumFrom smallFrom elementsFit ordinaryFrom le signed32 sameOctets sameId keepsRule shown shapeOf headOf elementsAt contentOf vectorsOf commonRows allKeepRule noneCritical contentRows bodyRows frontRows idsAt schemesIn orderRows nextRows chainOf put encoded mem place distinct setOf left has mentions ones openPlaces keptBelow turns.writing turns.reading turns.kindOf turns.typeOf turns.afterOpening turns.afterFurther turns.after offering replying writingMetadata speaking schemeNow messagesAt schemeFits heardFor passed admit conversationOf judge judged commonAfter keptAfter finish readingToken choosing act
+unfolding computing
 first-choice = refl
 
 -- so no call of the second run is refused with 17, and its choice, by rule 2, stands no later
@@ -114,29 +102,29 @@ longer-run y h =
 
 -- the second run, computed
 pub choices : LongerChoice
-unfolding longerLists plain offsetOf itemOctets itemsFit itemsOf sumFrom smallFrom elementsFit ordinaryFrom le signed32 sameOctets sameId keepsRule shown shapeOf headOf elementsAt contentOf vectorsOf commonRows allKeepRule noneCritical contentRows bodyRows frontRows idsAt schemesIn orderRows nextRows chainOf put encoded mem place distinct setOf left has mentions ones openPlaces keptBelow turns.writing turns.reading turns.kindOf turns.typeOf turns.afterOpening turns.afterFurther turns.after offering replying writingMetadata speaking schemeNow messagesAt schemeFits heardFor passed admit conversationOf judge judged commonAfter keptAfter finish readingToken choosing act
+unfolding computing longerLists
 choices = refl
 
 -- the choosing call, by each of its refusals
 
 pub at-once : AtOnce
-unfolding opened plain offsetOf itemOctets itemsFit itemsOf sumFrom smallFrom elementsFit ordinaryFrom le signed32 sameOctets sameId keepsRule shown shapeOf headOf elementsAt contentOf vectorsOf commonRows allKeepRule noneCritical contentRows bodyRows frontRows idsAt schemesIn orderRows nextRows chainOf put encoded mem place distinct setOf left has mentions ones openPlaces keptBelow turns.writing turns.reading turns.kindOf turns.typeOf turns.afterOpening turns.afterFurther turns.after offering replying writingMetadata speaking schemeNow messagesAt schemeFits heardFor passed admit conversationOf judge judged commonAfter keptAfter finish readingToken choosing act
+unfolding computing
 at-once = refl
 
 -- early VERIFYs, that count and that do not
 
 pub early-verify : EarlyVerify
-unfolding opened longerLists plain offsetOf itemOctets itemsFit itemsOf sumFrom smallFrom elementsFit ordinaryFrom le signed32 sameOctets sameId keepsRule shown shapeOf headOf elementsAt contentOf vectorsOf commonRows allKeepRule noneCritical contentRows bodyRows frontRows idsAt schemesIn orderRows nextRows chainOf put encoded mem place distinct setOf left has mentions ones openPlaces keptBelow turns.writing turns.reading turns.kindOf turns.typeOf turns.afterOpening turns.afterFurther turns.after offering replying writingMetadata speaking schemeNow messagesAt schemeFits heardFor passed admit conversationOf judge judged commonAfter keptAfter finish readingToken choosing act
+unfolding computing longerLists
 early-verify = (refl, refl)
 
 -- extensions and several alerts, by each of their refusals, and test calls
 
 pub extended : Extended
-unfolding opened plain ordinary critical tooMany offsetOf itemOctets itemsFit itemsOf sumFrom smallFrom elementsFit ordinaryFrom le signed32 sameOctets sameId keepsRule shown shapeOf headOf elementsAt contentOf vectorsOf commonRows allKeepRule noneCritical contentRows bodyRows frontRows idsAt schemesIn orderRows nextRows chainOf put encoded mem place distinct setOf left has mentions ones openPlaces keptBelow turns.writing turns.reading turns.kindOf turns.typeOf turns.afterOpening turns.afterFurther turns.after offering replying writingMetadata speaking schemeNow messagesAt schemeFits heardFor passed admit conversationOf judge judged commonAfter keptAfter finish readingToken choosing act
+unfolding computing ordinary critical tooMany
 extended = (refl, refl)
 
 -- a critical extension, and then a good token
 
 pub stays-rejected : StaysRejected
-unfolding opened plain offsetOf itemOctets itemsFit itemsOf sumFrom smallFrom elementsFit ordinaryFrom le signed32 sameOctets sameId keepsRule shown shapeOf headOf elementsAt contentOf vectorsOf commonRows allKeepRule noneCritical contentRows bodyRows frontRows idsAt schemesIn orderRows nextRows chainOf put encoded mem place distinct setOf left has mentions ones openPlaces keptBelow turns.writing turns.reading turns.kindOf turns.typeOf turns.afterOpening turns.afterFurther turns.after offering replying writingMetadata speaking schemeNow messagesAt schemeFits heardFor passed admit conversationOf judge judged commonAfter keptAfter finish readingToken choosing act
+unfolding computing
 stays-rejected = (refl, refl)

@@ -22,12 +22,12 @@ use Rattle.conversation.specs.declared.Scan.{Scan}
 use Rattle.conversation.specs.State.{ownOf, schemeAt, limitRows}
 use Rattle.conversation.specs.Turns.{NEGO, METADATA, VERIFY, writing, reading, reads, placeAfter, mayWrite}
 use Rattle.conversation.specs.Outcomes.{Outcome, refused, decide, row, room, WrittenAs, unchanged, wrote}
-use Rattle.conversation.specs.Writing.{stageRows, thenFits, offered, offerRows, offering, replyMessage, replyRows, replying, metadataMessage, metadataRows, writingMetadata, schemeNow, namedRows, Speech, request, checksum, alarm, kindIn, speechFits, spoken, askedBy, spokenAs, speaking}
-use Rattle.conversation.specs.Reading.{Judged, whole, halted, judged, countsBehind, finish, tokenRows, readingToken}
+use Rattle.conversation.specs.Writing.{stageRows, thenFits, offered, offerRows, offering, replyMessage, replyRows, replying, metadataMessage, metadataRows, writingMetadata, schemeNow, namedRows, Speech, request, checksum, alarm, classIn, speechFits, spoken, requestedBy, spokenAs, speaking}
+use Rattle.conversation.specs.Reading.{Judged, whole, halted, judged, countsAfter, finish, tokenRows, readingToken}
 use Rattle.conversation.specs.Choosing.{openTo, firstPlace, chose, choosing}
 use Rattle.conversation.specs.Runs.{Sized, NegoCall, Call, offer, reply, metadata, speak, read, choose, End, act, Opening, World, world, next, ends, isAccepted}
 use Rattle.conversation.specs.Claims.{recordAt}
-use Rattle.conversation.proofs.Early.{isChecksum, verifies, verifyCount, Inv, Invs, here, invs-kept, judged-kept, judged-asked, verify-at, writes-some, acceptor-stage, initiator-stage, later-now, reply-now, first-now, later-reads}
+use Rattle.conversation.proofs.Early.{isChecksum, verifies, verifyCount, Inv, Invs, here, invs-kept, judged-kept, judged-requested, verify-at, writes-some, acceptor-stage, initiator-stage, later-now, reply-now, first-now, later-reads}
 use Rattle.conversation.proofs.Rows.{decide-out, true-behind, front-true}
 use Rattle.conversation.proofs.Chosen.{choiceTable, choice-passed}
 use Rattle.conversation.proofs.Tokens.{judged-number}
@@ -36,12 +36,12 @@ use Rattle.conversation.proofs.Inside.{now-chosen}
 module _ (id : Id) where
   -- where the flag is set, one was written: n is how many so far
   abbrev flagPlace : Record → ℕ
-  flagPlace r = cond (eqb (r .stage) 3) (r .chosen) (r .asked)
+  flagPlace r = cond (eqb (r .stage) 3) (r .chosen) (r .requested)
 
   pub record Has (r : Record) (n : ℕ) : Type 0 where
-    pub had : (r .stage ≡ 4 → ⊥) → r .verified ≡ true → id ≡ schemeAt r (flagPlace r) → 1 ≤ n
-    zero-first : r .acceptor ≡ false → r .stage ≡ 0 → r .verified ≡ true → r .asked ≡ 0
-    none-first : r .acceptor ≡ true → r .stage ≡ 0 → r .verified ≡ true → ⊥
+    pub had : (r .stage ≡ 4 → ⊥) → r .attested ≡ true → id ≡ schemeAt r (flagPlace r) → 1 ≤ n
+    zero-first : r .acceptor ≡ false → r .stage ≡ 0 → r .attested ≡ true → r .requested ≡ 0
+    none-first : r .acceptor ≡ true → r .stage ≡ 0 → r .attested ≡ true → ⊥
 
   abbrev more : Bool → ℕ → ℕ
   more b n = cond b (suc n) n
@@ -57,17 +57,17 @@ module _ (id : Id) where
     has-by k rows action z h = decide-out (Then r k n) rows r d action (λ j g. has-refused k j 0 (fails-other 0 rows j z g)) h
 
     -- a message that leaves flag and AP_REQUEST
-    has-same : (position size : ℕ) (w : WrittenAs) → w .verified ≡ r .verified → w .asked ≡ r .asked → Has (wrote r position size w) n
+    has-same : (position size : ℕ) (w : WrittenAs) → w .attested ≡ r .attested → w .requested ≡ r .requested → Has (wrote r position size w) n
     has-same position size w hv ha = record {
       had = λ z v q. has .had z (sym hv ∙ v) (q ∙ ap (λ (a : ℕ). schemeAt r (cond (eqb (r .stage) 3) (r .chosen) a)) ha);
       zero-first = λ e st v. ha ∙ has .zero-first e st (sym hv ∙ v);
       none-first = λ e st v. has .none-first e st (sym hv ∙ v);
     }
 
-    asked-flag : r .verified ≡ true → askedBy r ≡ r .asked
+    requested-flag : r .attested ≡ true → requestedBy r ≡ r .requested
     unfolding writing
-    asked-flag v = go (r .acceptor) refl where
-      go : (a : Bool) → r .acceptor ≡ a → askedBy r ≡ r .asked
+    requested-flag v = go (r .acceptor) refl where
+      go : (a : Bool) → r .acceptor ≡ a → requestedBy r ≡ r .requested
       go true q = elim (which (eqb (r .stage) 1)) [ inl h ↦ rw (q, h) | inr h ↦ elim (which (eqb (r .stage) 3)) [ inl g ↦ rw (q, h, g) | inr g ↦ rw (q, h, g) ] ]
       go false q = elim (which (eqb (r .stage) 0)) [
         | inl h ↦ rw (q, h) (sym (has .zero-first q (eqb-true _ _ h) v))
@@ -86,24 +86,24 @@ module _ (id : Id) where
       go false q = elim (initiator-stage (r .stage) (λ z. writes-some r VERIFY may (ap (λ (a : Bool). writing a (r .stage)) q ∙ z))) [
         | inr st ↦ later-now r st ∙ rw st
         | inl st ↦
-            let p : r .position ≡ 2 = verify-at (r .position) (r .verified) (rw (q, st) at may) in
-            let zero : r .asked ≡ 0 = ok .first q st (omega arith) in
+            let p : r .position ≡ 2 = verify-at (r .position) (r .attested) (rw (q, st) at may) in
+            let zero : r .requested ≡ 0 = ok .first q st (omega arith) in
             first-now r q st ∙ (rw st (sym zero))
       ]
 
-    has-speech : (s : Speech) (position size : ℕ) → mayWrite r (kindIn s) ≡ true → Has (wrote r position size (spokenAs r s)) (more (isChecksum s && sameOctets id (schemeAt r (schemeNow r))) n)
+    has-speech : (s : Speech) (position size : ℕ) → mayWrite r (classIn s) ≡ true → Has (wrote r position size (spokenAs r s)) (more (isChecksum s && sameOctets id (schemeAt r (schemeNow r))) n)
     unfolding writing
     has-speech (alarm code) position size may = has-same position size (spokenAs r (alarm code)) refl refl
     has-speech (request value) position size may = record {
-      had = λ z v q. has .had z v (q ∙ ap (λ (a : ℕ). schemeAt r (cond (eqb (r .stage) 3) (r .chosen) a)) (asked-flag v));
-      zero-first = λ e st v. asked-flag v ∙ has .zero-first e st v;
+      had = λ z v q. has .had z v (q ∙ ap (λ (a : ℕ). schemeAt r (cond (eqb (r .stage) 3) (r .chosen) a)) (requested-flag v));
+      zero-first = λ e st v. requested-flag v ∙ has .zero-first e st v;
       none-first = has .none-first;
     }
     has-speech (checksum type value) position size may = record {
       had = λ z v q.
           let s : sameOctets id (schemeAt r (schemeNow r)) ≡ true = subst (λ (l : Id). sameOctets id l ≡ true) (q ∙ ap (schemeAt r) (sym (flag-now may))) (same-refl id) in
           rw s (omega arith);
-      zero-first = λ e st v. ok .first e st (let p : r .position ≡ 2 = verify-at (r .position) (r .verified) (rw (e, st) at may) in omega arith);
+      zero-first = λ e st v. ok .first e st (let p : r .position ≡ 2 = verify-at (r .position) (r .attested) (rw (e, st) at may) in omega arith);
       none-first = λ e st v. writes-some r VERIFY may (rw (e, st));
     }
 
@@ -117,25 +117,25 @@ module _ (id : Id) where
     unfolding replying
     has-reply m nego =
         has-by (reply m nego) (stageRows r NEGO ++ thenFits (replyRows r m (nego .0)) r d (replyMessage r m (nego .0))) _ refl
-        (λ g. has-same (placeAfter r NEGO) (length (replyMessage r m (nego .0))) (record { marks = m; told = r .told; asked = r .asked; verified = r .verified }) refl refl)
+        (λ g. has-same (placeAfter r NEGO) (length (replyMessage r m (nego .0))) (record { marks = m; metadata = r .metadata; requested = r .requested; attested = r .attested }) refl refl)
 
     has-metadata : (scheme : Sized 16) (value : List ℕ) → Then r (metadata scheme value) n (writingMetadata r d (scheme .0) value)
     unfolding writingMetadata
     has-metadata scheme value =
         has-by (metadata scheme value) (stageRows r METADATA ++ thenFits (metadataRows r (scheme .0) (length value)) r d (metadataMessage r (scheme .0) value)) _ refl
-        (λ g. has-same (placeAfter r METADATA) (length (metadataMessage r (scheme .0) value)) (record { marks = r .marks; told = r .told + 2 ^ place (ownOf r) (scheme .0); asked = r .asked; verified = r .verified }) refl refl)
+        (λ g. has-same (placeAfter r METADATA) (length (metadataMessage r (scheme .0) value)) (record { marks = r .marks; metadata = r .metadata + 2 ^ place (ownOf r) (scheme .0); requested = r .requested; attested = r .attested }) refl refl)
 
     has-speak : (s : Speech) → Then r (speak s) n (speaking r d s)
     unfolding speaking
     has-speak s =
         let rest : List Row = thenFits (namedRows r (speechFits s)) r d (spoken r s) in
-        has-by (speak s) (stageRows r (kindIn s) ++ rest) _ refl
-        (λ g. has-speech s (placeAfter r (kindIn s)) (length (spoken r s)) (true-behind (limitRows r) (row 18 (mayWrite r (kindIn s))) rest g))
+        has-by (speak s) (stageRows r (classIn s) ++ rest) _ refl
+        (λ g. has-speech s (placeAfter r (classIn s)) (length (spoken r s)) (true-behind (limitRows r) (row 18 (mayWrite r (classIn s))) rest g))
 
     -- an early one that counts is one of the chosen scheme
-    early-flag : (k : ℕ) → (r .stage ≡ 3 → ⊥) → (r .stage ≡ 4 → ⊥) → r .verified && eqb k (r .asked) ≡ true → id ≡ schemeAt r k → 1 ≤ n
+    early-flag : (k : ℕ) → (r .stage ≡ 3 → ⊥) → (r .stage ≡ 4 → ⊥) → r .attested && eqb k (r .requested) ≡ true → id ≡ schemeAt r k → 1 ≤ n
     early-flag k a b v q =
-        let p = both (r .verified) (eqb k (r .asked)) v in
+        let p = both (r .attested) (eqb k (r .requested)) v in
         has .had b (p .0) (q ∙ ap (schemeAt r) (eqb-true _ _ (p .1) ∙ sym (let z : eqb (r .stage) 3 ≡ false = ne-eqb _ _ a in rw z)))
 
     has-chose : (m : ℕ) (s : Speech) (position size : ℕ) → r .stage ≡ 2 → Has (wrote (chose r m) position size (spokenAs (chose r m) s)) (more (isChecksum s && sameOctets id (schemeAt (chose r m) (schemeNow (chose r m)))) n)
@@ -163,18 +163,18 @@ module _ (id : Id) where
         has-by (choose m s) (choiceTable r d m s) _ refl
         (λ g.
         let at : r .stage ≡ 2 = eqb-true _ _ (and-r (not (r .acceptor)) (eqb (r .stage) 2) (choice-passed r d m s g .may)) in
-        has-chose m s (placeAfter (chose r m) (kindIn s)) (length (spoken (chose r m) s)) at)
+        has-chose m s (placeAfter (chose r m) (classIn s)) (length (spoken (chose r m) s)) at)
 
     -- a token, read
     module _ (t : List ℕ) (limits : AllTrue (limitRows r)) (j : ℕ) (c : Scan) (w : judged r t ≡ whole j c) where
-      later-flag : r .stage ≡ 3 → countsBehind r c ≡ true → id ≡ schemeAt r (cond (eqb (reads r + 1) 3) (c .chosen) (c .asked)) → 1 ≤ n
+      later-flag : r .stage ≡ 3 → countsAfter r c ≡ true → id ≡ schemeAt r (cond (eqb (reads r + 1) 3) (c .chosen) (c .requested)) → 1 ≤ n
       later-flag st v q =
           let f : reads r ≡ 2 = later-reads r st in
           let q′ : id ≡ schemeAt r (c .chosen) = q ∙ ap (schemeAt r) (rw f) in
           has .had (λ y. omega arith) (rw st at v) (q′ ∙ judged-kept r t (eq-eqb _ _ f) limits (ok .low st) j c w ∙ ap (schemeAt r) (rw st))
 
       -- by the role and the stage
-      flag-taken : (a : Bool) → r .acceptor ≡ a → (reads r + 1 ≡ 4 → ⊥) → countsBehind r c ≡ true → id ≡ schemeAt r (cond (eqb (reads r + 1) 3) (c .chosen) (c .asked)) → 1 ≤ n
+      flag-taken : (a : Bool) → r .acceptor ≡ a → (reads r + 1 ≡ 4 → ⊥) → countsAfter r c ≡ true → id ≡ schemeAt r (cond (eqb (reads r + 1) 3) (c .chosen) (c .requested)) → 1 ≤ n
       unfolding reading
       flag-taken true e z v q = elim (which (eqb (r .stage) 0)) [
         | inl h ↦ absurd (has .none-first e (eqb-true _ _ h) (let st : r .stage ≡ 0 = eqb-true _ _ h in rw st at v))
@@ -193,7 +193,7 @@ module _ (id : Id) where
         | inl h ↦
             let st : r .stage ≡ 0 = eqb-true _ _ h in
             let f : reads r ≡ 1 = rw (e, st) in
-            let same : c .asked ≡ r .asked = judged-asked r t j c (rw f) w in
+            let same : c .requested ≡ r .requested = judged-requested r t j c (rw f) w in
             has .had (λ y. omega arith) (rw st at v) (q ∙ ap (schemeAt r) (rw (e, st) same))
         | inr h ↦ elim (which (eqb (r .stage) 3)) [
           | inl f ↦ later-flag (eqb-true _ _ f) v q

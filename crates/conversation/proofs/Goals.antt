@@ -19,7 +19,7 @@ use Rattle.conversation.specs.declared.Scan.{Scan}
 use Rattle.conversation.specs.State.{limitRows}
 use Rattle.conversation.specs.Turns.{NEGO, METADATA, afterOpening, afterFurther, after, reads, placeAfter, mayWrite, mayRead}
 use Rattle.conversation.specs.Outcomes.{Outcome, answered, refused, decide, row, room, WrittenAs, wrote, appended}
-use Rattle.conversation.specs.Writing.{stageRows, thenFits, someLeft, metadataRows, metadataMessage, writingMetadata, namedRows, Speech, request, checksum, alarm, kindIn, speechFits, spoken, spokenAs, speaking}
+use Rattle.conversation.specs.Writing.{stageRows, thenFits, someLeft, metadataRows, metadataMessage, writingMetadata, namedRows, Speech, request, checksum, alarm, classIn, speechFits, spoken, spokenAs, speaking}
 use Rattle.conversation.specs.Reading.{Judged, whole, halted, judged, taken, finish, tokenRows, readingToken}
 use Rattle.conversation.specs.Runs.{Sized, Call, metadata, speak, read, End, turnAfter, moved}
 use Rattle.message.proofs.Tables.{without, fails-other}
@@ -50,7 +50,7 @@ metadata-not-first : NotFirst METADATA
 unfolding after afterOpening
 metadata-not-first token v e = rw e
 
-speech-not-first : (s : Speech) → NotFirst (kindIn s)
+speech-not-first : (s : Speech) → NotFirst (classIn s)
 unfolding after afterOpening
 speech-not-first (request value) token v e = rw e
 speech-not-first (checksum type value) token true e = refl
@@ -123,7 +123,7 @@ module _ (e : End) (Inv : End → Type 0) (Tog : ℕ → Type 0) where
 
       pub speak-goal : (s : Speech) → Goal (speak s) no17 (speaking r d s)
       unfolding speaking
-      speak-goal s = write (speak s) (kindIn s) (namedRows r (speechFits s)) (spoken r s) (spokenAs r s) (speech-not-first s) refl refl refl
+      speak-goal s = write (speak s) (classIn s) (namedRows r (speechFits s)) (spoken r s) (spokenAs r s) (speech-not-first s) refl refl refl
 
     -- a reading of the other end's turn so far
     module _ (peer : List ℕ) (reads-on : (n : ℕ) (c : Scan) (d′ : List ℕ) → mayRead r ≡ true → judged r peer ≡ whole n c → Inv (record { record-of = taken r peer n c; transcript = d′; turn = [] }) × Tog (reads r + 1)) where

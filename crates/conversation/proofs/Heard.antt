@@ -19,9 +19,9 @@ use Rattle.schemes.specs.Lists.{Id, mem, place, keep}
 use Rattle.conversation.specs.declared.Record.{Record}
 use Rattle.conversation.specs.declared.Scan.{Scan}
 use Rattle.conversation.specs.State.{NONE, ownOf, schemeAt, replied, limitRows}
-use Rattle.conversation.specs.Turns.{FURTHER, NEGO, METADATA, EXCHANGE, VERIFY, kindOf, afterOpening, after, reads}
+use Rattle.conversation.specs.Turns.{FURTHER, NEGO, METADATA, EXCHANGE, VERIFY, classOf, afterOpening, after, reads}
 use Rattle.conversation.specs.Writing.{startsWith}
-use Rattle.conversation.specs.Admitting.{schemeIn, listedBy, isAt, exchangeFits, furtherFits, schemeFits, heardFor, passed, Admitted, on, stop, admit}
+use Rattle.conversation.specs.Admitting.{schemeIn, listedBy, isAt, exchangeFits, furtherFits, schemeFits, confirmedFor, passed, Admitted, on, stop, admit}
 use Rattle.conversation.specs.Reading.{whole, halted, judge}
 use Rattle.conversation.specs.Logs.{messagesIn}
 use Rattle.conversation.specs.Claims.{isVerify, verifyFor}
@@ -32,8 +32,8 @@ use Rattle.conversation.proofs.Early.{place-at}
 -- 1. a message that is let through: what it has, and what is carried on
 
 -- a VERIFY is one by its type
-verify-kind : (b : Bool) (type : ℕ) → eqb (kindOf b type) VERIFY ≡ eqb type 6
-unfolding kindOf
+verify-kind : (b : Bool) (type : ℕ) → eqb (classOf b type) VERIFY ≡ eqb type 6
+unfolding classOf
 verify-kind true type = elim (which (eqb type 6)) [
   | inl e ↦ let z : type ≡ 6 = eqb-true _ _ e in rw z
   | inr e ↦ rw e (go (eqb type 1) (eqb type 3) (eqb type 4) (eqb type 7))
@@ -57,13 +57,13 @@ verify-kind false type = elim (which (eqb type 6)) [
 
 module _ (r : Record) (t : List ℕ) (c d : Scan) (m : List ℕ) (e : admit r t c m ≡ on d) where
   abbrev kind : ℕ
-  kind = kindOf (not (r .acceptor)) (headOf m .kind)
+  kind = classOf (not (r .acceptor)) (headOf m .kind)
 
   abbrev id′ : Id
   id′ = schemeIn m
 
   abbrev spent : Bool
-  spent = heardFor r c id′
+  spent = confirmedFor r c id′
 
   parts : (not (eqb (after (reads r) (c .position) spent kind) 0) ≡ true) × ((schemeFits r t c kind id′ ≡ true) × (passed r c kind (after (reads r) (c .position) spent kind) id′ ≡ d))
   unfolding admit
@@ -83,13 +83,13 @@ module _ (r : Record) (t : List ℕ) (c d : Scan) (m : List ℕ) (e : admit r t 
   unfolding passed
   position-then = ap (λ (s : Scan). s .position) (parts .1 .1)
 
-  pub heard-then : spent || eqb kind VERIFY ≡ d .heard
+  pub heard-then : spent || eqb kind VERIFY ≡ d .confirmed
   unfolding passed
-  heard-then = ap (λ (s : Scan). s .heard) (parts .1 .1)
+  heard-then = ap (λ (s : Scan). s .confirmed) (parts .1 .1)
 
-  pub asked-then : cond (eqb kind EXCHANGE && eqb (reads r) 0) (place (ownOf r) id′) (c .asked) ≡ d .asked
+  pub requested-then : cond (eqb kind EXCHANGE && eqb (reads r) 0) (place (ownOf r) id′) (c .requested) ≡ d .requested
   unfolding passed
-  asked-then = ap (λ (s : Scan). s .asked) (parts .1 .1)
+  requested-then = ap (λ (s : Scan). s .requested) (parts .1 .1)
 
   pub chosen-then : cond (eqb (reads r) FURTHER) (place (ownOf r) id′) (c .chosen) ≡ d .chosen
   unfolding passed
@@ -143,10 +143,10 @@ module _ (id : Id) where
     go (stop j′) is ih = let w : halted j′ (m .place) ≡ whole j d = rw is at e in let z : _≡_ {A = ℕ} 0 1 = cc in absurd (omega arith)
 
   -- what a message counts
-  other-one : (r : Record) (t : List ℕ) (c d : Scan) (m : List ℕ) (e : admit r t c m ≡ on d) → eqb (kindOf (not (r .acceptor)) (headOf m .kind)) VERIFY ≡ false → one m ≡ 0
+  other-one : (r : Record) (t : List ℕ) (c d : Scan) (m : List ℕ) (e : admit r t c m ≡ on d) → eqb (classOf (not (r .acceptor)) (headOf m .kind)) VERIFY ≡ false → one m ≡ 0
   other-one r t c d m e v = let no : isVerify m ≡ false = verify-is r t c d m e ∙ v in rw no
 
-  verify-one : (r : Record) (t : List ℕ) (c d : Scan) (m : List ℕ) (e : admit r t c m ≡ on d) → eqb (kindOf (not (r .acceptor)) (headOf m .kind)) VERIFY ≡ true → one m ≡ cond (sameOctets id (schemeIn m)) 1 0
+  verify-one : (r : Record) (t : List ℕ) (c d : Scan) (m : List ℕ) (e : admit r t c m ≡ on d) → eqb (classOf (not (r .acceptor)) (headOf m .kind)) VERIFY ≡ true → one m ≡ cond (sameOctets id (schemeIn m)) 1 0
   verify-one r t c d m e v = let yes : isVerify m ≡ true = verify-is r t c d m e ∙ v in rw yes
 
   -- 3. a later token
@@ -156,7 +156,7 @@ module _ (id : Id) where
     pub record Later (c : Scan) (n : ℕ) : Type 0 where
       pub low : c .chosen < r .count
       pub most : n ≤ 1
-      pub says : id ≡ schemeAt r (c .chosen) → n ≡ cond (c .heard) 1 0
+      pub says : id ≡ schemeAt r (c .chosen) → n ≡ cond (c .confirmed) 1 0
 
     record Names (c d : Scan) (m : List ℕ) : Type 0 where
       low : d .chosen < r .count
@@ -173,8 +173,8 @@ module _ (id : Id) where
         let at : place (ownOf r) (schemeIn m) ≡ d .chosen = sym (rw f) ∙ chosen-then r t c d m e in
         record { low = subst (λ (n : ℕ). n < r .count) at (place-own r (schemeIn m) own); scheme = ap (schemeAt r) (sym at) ∙ place-at (ownOf r) (schemeIn m) own; fits = g }
 
-    -- behind a message, where the flag said before it how many of its scheme there were
-    then-later : (c d : Scan) (m : List ℕ) (n : ℕ) (e : admit r t c m ≡ on d) → n ≤ 1 → (id ≡ schemeIn m → n ≡ cond (heardFor r c (schemeIn m)) 1 0) → Later d (n + one m)
+    -- after a message, where the flag said before it how many of its scheme there were
+    then-later : (c d : Scan) (m : List ℕ) (n : ℕ) (e : admit r t c m ≡ on d) → n ≤ 1 → (id ≡ schemeIn m → n ≡ cond (confirmedFor r c (schemeIn m)) 1 0) → Later d (n + one m)
     then-later c d m n e most says = go (which (eqb (kind r t c d m e) VERIFY)) where
       x : Names c d m
       x = names c d m e
@@ -182,7 +182,7 @@ module _ (id : Id) where
       go : (eqb (kind r t c d m e) VERIFY ≡ true) ⊎ (eqb (kind r t c d m e) VERIFY ≡ false) → Later d (n + one m)
       go (inr v) =
           let zero : one m ≡ 0 = other-one r t c d m e v in
-          let same : heardFor r c (schemeIn m) ≡ d .heard = sym (or-false (heardFor r c (schemeIn m))) ∙ ap (λ (b : Bool). heardFor r c (schemeIn m) || b) (sym v) ∙ heard-then r t c d m e in
+          let same : confirmedFor r c (schemeIn m) ≡ d .confirmed = sym (or-false (confirmedFor r c (schemeIn m))) ∙ ap (λ (b : Bool). confirmedFor r c (schemeIn m) || b) (sym v) ∙ heard-then r t c d m e in
           let is : n ≡ n + one m = omega arith in
           record {
             low = x .low;
@@ -193,14 +193,14 @@ module _ (id : Id) where
             or-false true = refl
             or-false false = refl
       go (inl v) =
-          let fresh : heardFor r c (schemeIn m) ≡ false = unspent r t c d m e v in
-          let heard : true ≡ d .heard = sym (rw (fresh, v)) ∙ heard-then r t c d m e in
+          let fresh : confirmedFor r c (schemeIn m) ≡ false = unspent r t c d m e v in
+          let confirmed : true ≡ d .confirmed = sym (rw (fresh, v)) ∙ heard-then r t c d m e in
           let counts = verify-one r t c d m e v in
           elim (which (sameOctets id (schemeIn m))) [
             | inl q ↦
                 let none : n ≡ 0 = says (same-eq _ _ q) ∙ rw fresh in
                 let one-is : one m ≡ 1 = counts ∙ rw q in
-                record { low = x .low; most = omega arith; says = λ z. (let w : n + one m ≡ 1 = omega arith in w) ∙ ap (λ (b : Bool). cond b 1 0) heard }
+                record { low = x .low; most = omega arith; says = λ z. (let w : n + one m ≡ 1 = omega arith in w) ∙ ap (λ (b : Bool). cond b 1 0) confirmed }
             | inr q ↦
                 let none : one m ≡ 0 = counts ∙ rw q in
                 record { low = x .low; most = omega arith; says = λ z. no-true (sym q ∙ subst (λ (i : Id). sameOctets id i ≡ true) (z ∙ x .scheme) (same-refl id)) }
@@ -215,18 +215,18 @@ module _ (id : Id) where
           ne-eqb _ _ some
 
       pub later-step : (c d : Scan) (m : List ℕ) (n : ℕ) → Later c n → admit r t c m ≡ on d → Later d (n + one m)
-      unfolding heardFor
+      unfolding confirmedFor
       later-step c d m n h e =
           let none : eqb (c .chosen) NONE ≡ false = not-none (c .chosen) (h .low) in
-          let same : heardFor r c (schemeIn m) ≡ c .heard = ap (λ (b : Bool). cond b (c .heard && (isAt r (r .asked) (schemeIn m) && mem (schemeIn m) (replied r))) (c .heard)) (ap (λ (b : Bool). eqb (r .stage) 1 && b) none ∙ and-false (eqb (r .stage) 1)) in
+          let same : confirmedFor r c (schemeIn m) ≡ c .confirmed = ap (λ (b : Bool). cond b (c .confirmed && (isAt r (r .requested) (schemeIn m) && mem (schemeIn m) (replied r))) (c .confirmed)) (ap (λ (b : Bool). eqb (r .stage) 1 && b) none ∙ and-false (eqb (r .stage) 1)) in
           let g : isAt r (c .chosen) (schemeIn m) ≡ true = rw none at (names c d m e .fits) in
           let is : schemeIn m ≡ schemeAt r (c .chosen) = same-eq _ _ (and-r (ltb (c .chosen) (r .count)) (sameOctets (schemeIn m) (schemeAt r (c .chosen))) g) in
           then-later c d m n e (h .most) (λ z. h .says (z ∙ is) ∙ ap (λ (b : Bool). cond b 1 0) (sym same))
 
       -- the acceptor's first later token: the first message fixes the choice
-      module _ (st : r .stage ≡ 1) (n₀ : ℕ) (most : n₀ ≤ 1) (early : mem id (ownOf r) ≡ true → n₀ ≡ cond (r .heard && isAt r (r .asked) id) 1 0) where
+      module _ (st : r .stage ≡ 1) (n₀ : ℕ) (most : n₀ ≤ 1) (early : mem id (ownOf r) ≡ true → n₀ ≡ cond (r .confirmed && isAt r (r .requested) id) 1 0) where
         abbrev pub Chooses : Scan → ℕ → Type 0
-        Chooses c n = ((c .chosen ≡ NONE) × ((c .heard ≡ r .heard) × (n ≡ n₀))) ⊎ Later c n
+        Chooses c n = ((c .chosen ≡ NONE) × ((c .confirmed ≡ r .confirmed) × (n ≡ n₀))) ⊎ Later c n
 
         pub chooses-step : (c d : Scan) (m : List ℕ) (n : ℕ) → Chooses c n → admit r t c m ≡ on d → Chooses d (n + one m)
         chooses-step c d m n (inr h) e = inr (later-step c d m n h e)
@@ -234,18 +234,18 @@ module _ (id : Id) where
           in-reply : mem (schemeIn m) (replied r) ≡ true
           in-reply = let g : r .acceptor && mem (schemeIn m) (replied r) ≡ true = rw none at (names c d m e .fits) in and-r (r .acceptor) (mem (schemeIn m) (replied r)) g
 
-          flag : heardFor r c (schemeIn m) ≡ r .heard && isAt r (r .asked) (schemeIn m)
-          flag = unfold heardFor in rw (st, none, same, in-reply) (ap (λ (b : Bool). r .heard && b) (and-true (isAt r (r .asked) (schemeIn m)))) where
+          flag : confirmedFor r c (schemeIn m) ≡ r .confirmed && isAt r (r .requested) (schemeIn m)
+          flag = unfold confirmedFor in rw (st, none, same, in-reply) (ap (λ (b : Bool). r .confirmed && b) (and-true (isAt r (r .requested) (schemeIn m)))) where
             and-true : (b : Bool) → b && true ≡ b
             and-true true = refl
             and-true false = refl
 
-          says : id ≡ schemeIn m → n ≡ cond (heardFor r c (schemeIn m)) 1 0
+          says : id ≡ schemeIn m → n ≡ cond (confirmedFor r c (schemeIn m)) 1 0
           says z =
               let own : mem id (ownOf r) ≡ true = subst (λ (i : Id). mem i (ownOf r) ≡ true) (sym z) (further-mem r (c .chosen) (schemeIn m) (names c d m e .fits)) in
-              is ∙ early own ∙ ap (λ (i : Id). cond (r .heard && isAt r (r .asked) i) 1 0) z ∙ ap (λ (b : Bool). cond b 1 0) (sym flag)
+              is ∙ early own ∙ ap (λ (i : Id). cond (r .confirmed && isAt r (r .requested) i) 1 0) z ∙ ap (λ (b : Bool). cond b 1 0) (sym flag)
 
-  -- 4. the first token and the reply: a VERIFY stands at place 2, and nothing behind it
+  -- 4. the first token and the reply: a VERIFY stands at place 2, and nothing after it
 
   module _ (token : ℕ) (o : leb token 1 ≡ true) where
     opens-low : (p : ℕ) (h : Bool) (k : ℕ) → eqb k VERIFY ≡ false → after token p h k ≤ 2
@@ -295,17 +295,17 @@ module _ (id : Id) where
 
   module _ (r : Record) (t : List ℕ) (o : leb (reads r) 1 ≡ true) (other : eqb (r .stage) 1 ≡ false) (Link : Scan → Type 0)
       (link : (c d : Scan) (m : List ℕ) → Link c → (e : admit r t c m ≡ on d) → eqb (kind r t c d m e) VERIFY ≡ false → Link d)
-      (linked : (c d : Scan) (m : List ℕ) → Link c → (e : admit r t c m ≡ on d) → c .position ≡ 2 → eqb (kind r t c d m e) VERIFY ≡ true → mem id (ownOf r) ≡ true → sameOctets id (schemeIn m) ≡ isAt r (d .asked) id) where
+      (linked : (c d : Scan) (m : List ℕ) → Link c → (e : admit r t c m ≡ on d) → c .position ≡ 2 → eqb (kind r t c d m e) VERIFY ≡ true → mem id (ownOf r) ≡ true → sameOctets id (schemeIn m) ≡ isAt r (d .requested) id) where
     pub record Waits (c : Scan) (n : ℕ) : Type 0 where
-      pub quiet : c .heard ≡ false
+      pub quiet : c .confirmed ≡ false
       pub zero : n ≡ 0
       pub chain : Link c
 
     pub record Spoke (c : Scan) (n : ℕ) : Type 0 where
-      pub heard : c .heard ≡ true
+      pub confirmed : c .confirmed ≡ true
       pub at : c .position ≡ 3
       pub most : n ≤ 1
-      pub says : mem id (ownOf r) ≡ true → n ≡ cond (isAt r (c .asked) id) 1 0
+      pub says : mem id (ownOf r) ≡ true → n ≡ cond (isAt r (c .requested) id) 1 0
 
     abbrev pub Opens : Scan → ℕ → Type 0
     Opens c n = Waits c n ⊎ Spoke c n
@@ -313,8 +313,8 @@ module _ (id : Id) where
     pub opens-step : (c d : Scan) (m : List ℕ) (n : ℕ) → Opens c n → admit r t c m ≡ on d → Opens d (n + one m)
     opens-step c d m n (inr s) e = absurd (opens-none (reads r) o (c .position) (spent r t c d m e) (kind r t c d m e) (s .at) (may r t c d m e))
     opens-step c d m n (inl w) e = go (which (eqb (kind r t c d m e) VERIFY)) where
-      plain : heardFor r c (schemeIn m) ≡ false
-      plain = unfold heardFor in rw other (w .quiet)
+      plain : confirmedFor r c (schemeIn m) ≡ false
+      plain = unfold confirmedFor in rw other (w .quiet)
 
       go : (eqb (kind r t c d m e) VERIFY ≡ true) ⊎ (eqb (kind r t c d m e) VERIFY ≡ false) → Opens d (n + one m)
       go (inr v) =
@@ -327,7 +327,7 @@ module _ (id : Id) where
           let counts : one m ≡ cond (sameOctets id (schemeIn m)) 1 0 = verify-one r t c d m e v in
           let is : n + one m ≡ one m = omega arith in
           inr (record {
-            heard = sym (heard-then r t c d m e) ∙ rw (plain, v);
+            confirmed = sym (heard-then r t c d m e) ∙ rw (plain, v);
             at = sym (position-then r t c d m e) ∙ p .1;
             most = subst (λ (k : ℕ). k ≤ 1) (sym (is ∙ counts)) (few (sameOctets id (schemeIn m)));
             says = λ own. is ∙ counts ∙ ap (λ (b : Bool). cond b 1 0) (linked c d m (w .chain) e (p .0) v own);
@@ -365,43 +365,43 @@ module _ (id : Id) where
 
     module _ (first : reads r ≡ 0) where
       abbrev pub FirstLink : Scan → Type 0
-      FirstLink c = c .position ≡ 2 → (s : Id) × ((startsWith (listedBy t) s ≡ true) × (c .asked ≡ place (ownOf r) s))
+      FirstLink c = c .position ≡ 2 → (s : Id) × ((startsWith (listedBy t) s ≡ true) × (c .requested ≡ place (ownOf r) s))
 
       pub first-link : (c d : Scan) (m : List ℕ) → FirstLink c → (e : admit r t c m ≡ on d) → eqb (kind r t c d m e) VERIFY ≡ false → FirstLink d
       first-link c d m w e v p =
           let ex : eqb (kind r t c d m e) EXCHANGE ≡ true = opens-asks (reads r) o (c .position) (spent r t c d m e) (kind r t c d m e) v (position-then r t c d m e ∙ p) in
           let three : kind r t c d m e ≡ 3 = eqb-true _ _ ex in
           let fits = exchange-fits c d m e (omega arith) in
-          (schemeIn m, (and-l (startsWith (listedBy t) (schemeIn m)) (eqb (reads r) 0 || isAt r (r .asked) (schemeIn m)) fits, sym (asked-then r t c d m e) ∙ rw (ex, first)))
+          (schemeIn m, (and-l (startsWith (listedBy t) (schemeIn m)) (eqb (reads r) 0 || isAt r (r .requested) (schemeIn m)) fits, sym (requested-then r t c d m e) ∙ rw (ex, first)))
 
-      pub first-linked : (c d : Scan) (m : List ℕ) → FirstLink c → (e : admit r t c m ≡ on d) → c .position ≡ 2 → eqb (kind r t c d m e) VERIFY ≡ true → mem id (ownOf r) ≡ true → sameOctets id (schemeIn m) ≡ isAt r (d .asked) id
+      pub first-linked : (c d : Scan) (m : List ℕ) → FirstLink c → (e : admit r t c m ≡ on d) → c .position ≡ 2 → eqb (kind r t c d m e) VERIFY ≡ true → mem id (ownOf r) ≡ true → sameOctets id (schemeIn m) ≡ isAt r (d .requested) id
       first-linked c d m w e p v own =
           let x = w p in
           let four : kind r t c d m e ≡ 4 = eqb-true _ _ v in
           let fits = exchange-fits c d m e (omega arith) in
-          let starts : startsWith (listedBy t) (schemeIn m) ≡ true = and-l (startsWith (listedBy t) (schemeIn m)) (eqb (reads r) 0 || isAt r (r .asked) (schemeIn m)) fits in
+          let starts : startsWith (listedBy t) (schemeIn m) ≡ true = and-l (startsWith (listedBy t) (schemeIn m)) (eqb (reads r) 0 || isAt r (r .requested) (schemeIn m)) fits in
           let same : x .0 ≡ schemeIn m = starts-same (listedBy t) (x .0) (schemeIn m) (x .1 .0) starts in
           let not-three : kind r t c d m e ≡ 3 → ⊥ = λ z. omega arith in
-          let kept : c .asked ≡ d .asked = sym (rw (ne-eqb _ _ not-three)) ∙ asked-then r t c d m e in
+          let kept : c .requested ≡ d .requested = sym (rw (ne-eqb _ _ not-three)) ∙ requested-then r t c d m e in
           at-place r (schemeIn m) own ∙ ap (λ (k : ℕ). isAt r k id) (ap (place (ownOf r)) (sym same) ∙ sym (x .1 .1) ∙ kept)
 
     module _ (answer : reads r ≡ 1) where
       abbrev pub AnswerLink : Scan → Type 0
-      AnswerLink c = c .asked ≡ r .asked
+      AnswerLink c = c .requested ≡ r .requested
 
-      kept-asked : (c d : Scan) (m : List ℕ) (e : admit r t c m ≡ on d) → c .asked ≡ d .asked
-      kept-asked c d m e =
+      kept-requested : (c d : Scan) (m : List ℕ) (e : admit r t c m ≡ on d) → c .requested ≡ d .requested
+      kept-requested c d m e =
           let no : eqb (kind r t c d m e) EXCHANGE && eqb (reads r) 0 ≡ false = rw answer (and-false (eqb (kind r t c d m e) EXCHANGE)) in
-          sym (rw no) ∙ asked-then r t c d m e
+          sym (rw no) ∙ requested-then r t c d m e
 
       pub answer-link : (c d : Scan) (m : List ℕ) → AnswerLink c → (e : admit r t c m ≡ on d) → eqb (kind r t c d m e) VERIFY ≡ false → AnswerLink d
-      answer-link c d m w e v = sym (kept-asked c d m e) ∙ w
+      answer-link c d m w e v = sym (kept-requested c d m e) ∙ w
 
-      pub answer-linked : (c d : Scan) (m : List ℕ) → AnswerLink c → (e : admit r t c m ≡ on d) → c .position ≡ 2 → eqb (kind r t c d m e) VERIFY ≡ true → mem id (ownOf r) ≡ true → sameOctets id (schemeIn m) ≡ isAt r (d .asked) id
+      pub answer-linked : (c d : Scan) (m : List ℕ) → AnswerLink c → (e : admit r t c m ≡ on d) → c .position ≡ 2 → eqb (kind r t c d m e) VERIFY ≡ true → mem id (ownOf r) ≡ true → sameOctets id (schemeIn m) ≡ isAt r (d .requested) id
       answer-linked c d m w e p v own =
           let four : kind r t c d m e ≡ 4 = eqb-true _ _ v in
-          let fits = and-r (startsWith (listedBy t) (schemeIn m)) (eqb (reads r) 0 || isAt r (r .asked) (schemeIn m)) (exchange-fits c d m e (omega arith)) in
-          let here : isAt r (r .asked) (schemeIn m) ≡ true = rw answer at fits in
-          let low = and-l (ltb (r .asked) (r .count)) (sameOctets (schemeIn m) (schemeAt r (r .asked))) here in
-          let is : schemeIn m ≡ schemeAt r (r .asked) = same-eq _ _ (and-r (ltb (r .asked) (r .count)) (sameOctets (schemeIn m) (schemeAt r (r .asked))) here) in
-          ap (sameOctets id) is ∙ sym (rw low) ∙ ap (λ (k : ℕ). isAt r k id) (sym w ∙ kept-asked c d m e)
+          let fits = and-r (startsWith (listedBy t) (schemeIn m)) (eqb (reads r) 0 || isAt r (r .requested) (schemeIn m)) (exchange-fits c d m e (omega arith)) in
+          let here : isAt r (r .requested) (schemeIn m) ≡ true = rw answer at fits in
+          let low = and-l (ltb (r .requested) (r .count)) (sameOctets (schemeIn m) (schemeAt r (r .requested))) here in
+          let is : schemeIn m ≡ schemeAt r (r .requested) = same-eq _ _ (and-r (ltb (r .requested) (r .count)) (sameOctets (schemeIn m) (schemeAt r (r .requested))) here) in
+          ap (sameOctets id) is ∙ sym (rw low) ∙ ap (λ (k : ℕ). isAt r k id) (sym w ∙ kept-requested c d m e)

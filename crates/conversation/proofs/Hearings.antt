@@ -1,4 +1,4 @@
--- Of what an end reads in a run at most one is a VERIFY for a scheme, and behind the choice the record's flag says whether the one for the chosen scheme is read.
+-- Of what an end reads in a run at most one is a VERIFY for a scheme, and after the choice the record's flag says whether the one for the chosen scheme is read.
 -- Assumes nothing.
 use Prim.Native.Nat.{ℕ, _+_, _^_, _≤_, _<_}
 use mathlib.Core.Path.{_≡_, refl, sym, ap, subst, _∙_}
@@ -21,7 +21,7 @@ use Rattle.conversation.specs.declared.Scan.{Scan}
 use Rattle.conversation.specs.State.{NONE, ownOf, schemeAt, limitRows}
 use Rattle.conversation.specs.Turns.{NEGO, METADATA, writing, reading, reads, mayRead}
 use Rattle.conversation.specs.Outcomes.{Outcome, decide, row, room, WrittenAs, unchanged, wrote}
-use Rattle.conversation.specs.Writing.{stageRows, thenFits, offered, offerRows, offering, replyMessage, replyRows, replying, metadataMessage, metadataRows, writingMetadata, namedRows, Speech, request, checksum, alarm, kindIn, speechFits, spoken, spokenAs, speaking}
+use Rattle.conversation.specs.Writing.{stageRows, thenFits, offered, offerRows, offering, replyMessage, replyRows, replying, metadataMessage, metadataRows, writingMetadata, namedRows, Speech, request, checksum, alarm, classIn, speechFits, spoken, spokenAs, speaking}
 use Rattle.conversation.specs.Admitting.{isAt, on, admit}
 use Rattle.conversation.specs.Reading.{startOf, Judged, whole, halted, judged, chainFor, taken, finish, tokenRows, readingToken}
 use Rattle.conversation.specs.Choosing.{openTo, firstPlace, chose, choosing}
@@ -41,27 +41,27 @@ module _ (id : Id) where
   -- 1. what a record says of the n VERIFYs for the scheme that were read
   record Says (r : Record) (n : ℕ) : Type 0 where
     most : n ≤ 1
-    start : r .stage ≡ 0 → (r .heard ≡ false) × (n ≡ 0)
+    start : r .stage ≡ 0 → (r .confirmed ≡ false) × (n ≡ 0)
     unchosen : r .acceptor ≡ true → r .stage ≤ 1 → r .chosen ≡ NONE
-    early : (r .stage ≡ 1) ⊎ (r .stage ≡ 2) → mem id (ownOf r) ≡ true → n ≡ cond (r .heard && isAt r (r .asked) id) 1 0
-    later : r .stage ≡ 3 → id ≡ schemeAt r (r .chosen) → n ≡ cond (r .heard) 1 0
+    early : (r .stage ≡ 1) ⊎ (r .stage ≡ 2) → mem id (ownOf r) ≡ true → n ≡ cond (r .confirmed && isAt r (r .requested) id) 1 0
+    later : r .stage ≡ 3 → id ≡ schemeAt r (r .chosen) → n ≡ cond (r .confirmed) 1 0
 
   -- 2. what is written leaves it
-  wrote-says : (r : Record) (n position size : ℕ) (w : WrittenAs) → ((r .stage ≡ 0 → ⊥) → w .asked ≡ r .asked) → Says r n → Says (wrote r position size w) n
+  wrote-says : (r : Record) (n position size : ℕ) (w : WrittenAs) → ((r .stage ≡ 0 → ⊥) → w .requested ≡ r .requested) → Says r n → Says (wrote r position size w) n
   wrote-says r n position size w same s = record {
     most = s .most;
     start = s .start;
     unchosen = s .unchosen;
-    early = λ st own. s .early st own ∙ ap (λ (k : ℕ). cond (r .heard && isAt r k id) 1 0) (sym (same (λ z. elim st [ inl a ↦ omega arith | inr a ↦ omega arith ])));
+    early = λ st own. s .early st own ∙ ap (λ (k : ℕ). cond (r .confirmed && isAt r k id) 1 0) (sym (same (λ z. elim st [ inl a ↦ omega arith | inr a ↦ omega arith ])));
     later = s .later;
   }
 
-  speech-asked : (r : Record) (s : Speech) → (r .stage ≡ 0 → ⊥) → spokenAs r s .asked ≡ r .asked
+  speech-requested : (r : Record) (s : Speech) → (r .stage ≡ 0 → ⊥) → spokenAs r s .requested ≡ r .requested
   unfolding writing
-  speech-asked r (checksum type value) z = refl
-  speech-asked r (alarm code) z = refl
-  speech-asked r (request value) z = go (r .acceptor) where
-    go : (a : Bool) → cond (eqb (writing a (r .stage)) 0) 0 (r .asked) ≡ r .asked
+  speech-requested r (checksum type value) z = refl
+  speech-requested r (alarm code) z = refl
+  speech-requested r (request value) z = go (r .acceptor) where
+    go : (a : Bool) → cond (eqb (writing a (r .stage)) 0) 0 (r .requested) ≡ r .requested
     go true = elim (which (eqb (r .stage) 1)) [ inl h ↦ rw h | inr h ↦ elim (which (eqb (r .stage) 3)) [ inl g ↦ rw (h, g) | inr g ↦ rw (h, g) ] ]
     go false = rw (ne-eqb _ _ z) (elim (which (eqb (r .stage) 3)) [ inl g ↦ rw g | inr g ↦ rw g ])
 
@@ -70,17 +70,17 @@ module _ (id : Id) where
     abbrev k : ℕ
     k = firstPlace (openTo r m)
 
-    at-choice : id ≡ schemeAt r k → isAt r (r .asked) id ≡ eqb k (r .asked)
-    at-choice z = elim (which (eqb k (r .asked))) [
+    at-choice : id ≡ schemeAt r k → isAt r (r .requested) id ≡ eqb k (r .requested)
+    at-choice z = elim (which (eqb k (r .requested))) [
       | inl q ↦
-          let is : k ≡ r .asked = eqb-true _ _ q in
-          let low′ : r .asked < r .count = subst (λ (j : ℕ). j < r .count) is low in
-          let same : sameOctets id (schemeAt r (r .asked)) ≡ true = subst (λ (i : Id). sameOctets id i ≡ true) (z ∙ ap (schemeAt r) is) (same-refl id) in
+          let is : k ≡ r .requested = eqb-true _ _ q in
+          let low′ : r .requested < r .count = subst (λ (j : ℕ). j < r .count) is low in
+          let same : sameOctets id (schemeAt r (r .requested)) ≡ true = subst (λ (i : Id). sameOctets id i ≡ true) (z ∙ ap (schemeAt r) is) (same-refl id) in
           rw (lt-ltb _ _ low′) (same ∙ sym q)
-      | inr q ↦ elim (which (ltb (r .asked) (r .count))) [
+      | inr q ↦ elim (which (ltb (r .requested) (r .count))) [
         | inr h ↦ rw h (sym q)
-        | inl h ↦ elim (which (sameOctets id (schemeAt r (r .asked)))) [
-          | inl g ↦ absurd (eqb-false _ _ q (same-place r limits k (r .asked) low (ltb-true _ _ h) (sym z ∙ same-eq _ _ g)))
+        | inl h ↦ elim (which (sameOctets id (schemeAt r (r .requested)))) [
+          | inl g ↦ absurd (eqb-false _ _ q (same-place r limits k (r .requested) low (ltb-true _ _ h) (sym z ∙ same-eq _ _ g)))
           | inr g ↦ rw h (g ∙ sym q)
         ]
       ]
@@ -94,7 +94,7 @@ module _ (id : Id) where
       early = λ st own. elim st [ inl a ↦ absurd (omega arith) | inr a ↦ absurd (omega arith) ];
       later = λ st z.
           let own : mem id (ownOf r) ≡ true = mem-at id (ownOf r) k (subst (λ (j : ℕ). k < j) (sym (own-length r)) low) (subst (λ (i : Id). sameOctets id i ≡ true) z (same-refl id)) in
-          s .early (inr at) own ∙ ap (λ (b : Bool). cond (r .heard && b) 1 0) (at-choice z);
+          s .early (inr at) own ∙ ap (λ (b : Bool). cond (r .confirmed && b) 1 0) (at-choice z);
     }
 
   -- 4. a token
@@ -112,7 +112,7 @@ module _ (id : Id) where
     none-chosen f z = judge-keeps (λ x. x .chosen ≡ NONE) r t (λ x y m p h. sym (sym (rw f) ∙ chosen-then r t x y m h) ∙ p) 0 (startOf r) (chainFor r t) j c z w
 
     early-says : reads r ≤ 1 → (r .acceptor ≡ true → c .chosen ≡ NONE)
-        → ((c .heard ≡ false) × (count ≡ 0)) ⊎ ((c .heard ≡ true) × ((count ≤ 1) × (mem id (ownOf r) ≡ true → count ≡ cond (isAt r (c .asked) id) 1 0))) → Says (taken r t j c) count
+        → ((c .confirmed ≡ false) × (count ≡ 0)) ⊎ ((c .confirmed ≡ true) × ((count ≤ 1) × (mem id (ownOf r) ≡ true → count ≡ cond (isAt r (c .requested) id) 1 0))) → Says (taken r t j c) count
     early-says low none (inl (quiet, zero)) = record {
       most = omega arith;
       start = λ z. absurd (omega arith);
@@ -120,11 +120,11 @@ module _ (id : Id) where
       early = λ st own. zero ∙ sym (rw quiet);
       later = λ st z. absurd (omega arith);
     }
-    early-says low none (inr (heard, (most, says))) = record {
+    early-says low none (inr (confirmed, (most, says))) = record {
       most = most;
       start = λ z. absurd (omega arith);
       unchosen = λ a z. none a;
-      early = λ st own. says own ∙ sym (rw heard);
+      early = λ st own. says own ∙ sym (rw confirmed);
       later = λ st z. absurd (omega arith);
     }
 
@@ -148,7 +148,7 @@ module _ (id : Id) where
         let b = s .start st in
         let x = sums (Opens id r t o other (FirstLink id r t o f) (first-link id r t o f) (first-linked id r t o f)) (opens-step id r t o other (FirstLink id r t o f) (first-link id r t o f) (first-linked id r t o f))
         (inl (record { quiet = b .0; zero = b .1; chain = λ z. absurd (omega arith) })) in
-        early-says (omega arith) (λ a. none-chosen (rw f) (s .unchosen role (omega arith))) (elim x [ inl y ↦ inl (y .quiet, y .zero) | inr y ↦ inr (y .heard, (y .most, y .says)) ])
+        early-says (omega arith) (λ a. none-chosen (rw f) (s .unchosen role (omega arith))) (elim x [ inl y ↦ inl (y .quiet, y .zero) | inr y ↦ inr (y .confirmed, (y .most, y .says)) ])
 
     answer-token : r .acceptor ≡ false → r .stage ≡ 0 → Says (taken r t j c) count
     unfolding reading
@@ -159,7 +159,7 @@ module _ (id : Id) where
         let b = s .start st in
         let x = sums (Opens id r t o other (AnswerLink id r t o f) (answer-link id r t o f) (answer-linked id r t o f)) (opens-step id r t o other (AnswerLink id r t o f) (answer-link id r t o f) (answer-linked id r t o f))
         (inl (record { quiet = b .0; zero = b .1; chain = refl })) in
-        early-says (omega arith) (λ a. no-true (sym role ∙ a)) (elim x [ inl y ↦ inl (y .quiet, y .zero) | inr y ↦ inr (y .heard, (y .most, y .says)) ])
+        early-says (omega arith) (λ a. no-true (sym role ∙ a)) (elim x [ inl y ↦ inl (y .quiet, y .zero) | inr y ↦ inr (y .confirmed, (y .most, y .says)) ])
 
     -- the acceptor's first later token
     fixing-token : r .acceptor ≡ true → r .stage ≡ 1 → Says (taken r t j c) count
@@ -257,11 +257,11 @@ module _ (id : Id) where
     call-says (offer nego) = more _ n (says-by (stageRows r NEGO ++ thenFits (offerRows r (nego .0)) r d (offered r (nego .0))) _ (λ g. wrote-says r n _ _ (unchanged r) (λ z. refl) s))
     call-says (reply m nego) =
         more _ n (says-by (stageRows r NEGO ++ thenFits (replyRows r m (nego .0)) r d (replyMessage r m (nego .0))) _
-        (λ g. wrote-says r n _ _ (record { marks = m; told = r .told; asked = r .asked; verified = r .verified }) (λ z. refl) s))
+        (λ g. wrote-says r n _ _ (record { marks = m; metadata = r .metadata; requested = r .requested; attested = r .attested }) (λ z. refl) s))
     call-says (metadata scheme value) =
         more _ n (says-by (stageRows r METADATA ++ thenFits (metadataRows r (scheme .0) (length value)) r d (metadataMessage r (scheme .0) value)) _
-        (λ g. wrote-says r n _ _ (record { marks = r .marks; told = r .told + 2 ^ place (ownOf r) (scheme .0); asked = r .asked; verified = r .verified }) (λ z. refl) s))
-    call-says (speak v) = more _ n (says-by (stageRows r (kindIn v) ++ thenFits (namedRows r (speechFits v)) r d (spoken r v)) _ (λ g. wrote-says r n _ _ (spokenAs r v) (speech-asked r v) s))
+        (λ g. wrote-says r n _ _ (record { marks = r .marks; metadata = r .metadata + 2 ^ place (ownOf r) (scheme .0); requested = r .requested; attested = r .attested }) (λ z. refl) s))
+    call-says (speak v) = more _ n (says-by (stageRows r (classIn v) ++ thenFits (namedRows r (speechFits v)) r d (spoken r v)) _ (λ g. wrote-says r n _ _ (spokenAs r v) (speech-requested r v) s))
     call-says read = reads-one
     call-says (choose m v) = more _ n (chooses m v)
 

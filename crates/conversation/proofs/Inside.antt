@@ -27,10 +27,10 @@ use Rattle.schemes.proofs.Replies.{place-below}
 use Rattle.conversation.specs.declared.Record.{Record}
 use Rattle.conversation.specs.declared.Scan.{Scan}
 use Rattle.conversation.specs.State.{NONE, ownOf, schemeAt, replied, limitRows}
-use Rattle.conversation.specs.Turns.{FIRST, ANSWER, FURTHER, NEGO, METADATA, writing, reading, kindOf, after, afterFurther, writes, reads}
+use Rattle.conversation.specs.Turns.{FIRST, ANSWER, FURTHER, NEGO, METADATA, writing, reading, classOf, after, afterFurther, writes, reads}
 use Rattle.conversation.specs.Outcomes.{WrittenAs, wrote}
 use Rattle.conversation.specs.Writing.{someLeft, firstOr, metadataAllowed, startsWith, schemeNow, schemeAllowed}
-use Rattle.conversation.specs.Admitting.{listedBy, schemeIn, isAt, furtherFits, schemeFits, heardFor, passed, on, admit}
+use Rattle.conversation.specs.Admitting.{listedBy, schemeIn, isAt, furtherFits, schemeFits, confirmedFor, passed, on, admit}
 use Rattle.conversation.specs.Reading.{commonAfter, keptAfter, taken}
 use Rattle.conversation.specs.Choosing.{openTo, firstPlace, chose}
 use Rattle.conversation.proofs.Tokens.{not-stop}
@@ -70,20 +70,20 @@ module _ (r : Record) where
   pub replied-mem : (id : Id) → mem id (replied r) ≡ true → mem id (ownOf r) ≡ true
   replied-mem id h = mem-left id (ownOf r) (r .common) (r .marks) h
 
-  -- 2. metadata, told once
+  -- 2. metadata, once
 
   module _ (id : Id) (h : metadataAllowed r id ≡ true) where
     pub allowed-own : mem id (ownOf r) ≡ true
-    allowed-own = own (r .acceptor) (and-l (mem id (cond (r .acceptor) (replied r) (ownOf r))) (not (bit (r .told) (place (ownOf r) id))) h) where
+    allowed-own = own (r .acceptor) (and-l (mem id (cond (r .acceptor) (replied r) (ownOf r))) (not (bit (r .metadata) (place (ownOf r) id))) h) where
       own : (a : Bool) → mem id (cond a (replied r) (ownOf r)) ≡ true → mem id (ownOf r) ≡ true
       own true e = replied-mem id e
       own false e = e
 
-    pub allowed-untold : bit (r .told) (place (ownOf r) id) ≡ false
-    allowed-untold = not-true _ (and-r (mem id (cond (r .acceptor) (replied r) (ownOf r))) (not (bit (r .told) (place (ownOf r) id))) h)
+    pub allowed-untold : bit (r .metadata) (place (ownOf r) id) ≡ false
+    allowed-untold = not-true _ (and-r (mem id (cond (r .acceptor) (replied r) (ownOf r))) (not (bit (r .metadata) (place (ownOf r) id))) h)
 
-    pub told-below : below (r .count) (r .told) ≡ true → below (r .count) (r .told + 2 ^ place (ownOf r) id) ≡ true
-    told-below b = lt-ltb _ _ (bit-room (r .count) (r .told) (place (ownOf r) id) (ltb-true _ _ b) (place-own id allowed-own) allowed-untold)
+    pub told-below : below (r .count) (r .metadata) ≡ true → below (r .count) (r .metadata + 2 ^ place (ownOf r) id) ≡ true
+    told-below b = lt-ltb _ _ (bit-room (r .count) (r .metadata) (place (ownOf r) id) (ltb-true _ _ b) (place-own id allowed-own) allowed-untold)
 
   -- 3. the rule's scheme
 
@@ -92,7 +92,7 @@ module _ (r : Record) where
   now-below h = elim (which (eqb (writes r) ANSWER)) [
     | inl a ↦
         let first : eqb (writes r) FIRST ≡ false = (let w : writes r ≡ 1 = eqb-true _ _ a in rw w) in
-        rw (first, a) (ltb-true (r .asked) (r .count) (and-l (ltb (r .asked) (r .count)) (startsWith (replied r) (schemeAt r (r .asked))) (rw a at h)))
+        rw (first, a) (ltb-true (r .requested) (r .count) (and-l (ltb (r .requested) (r .count)) (startsWith (replied r) (schemeAt r (r .requested))) (rw a at h)))
     | inr a ↦ rw a (ltb-true (cond (eqb (writes r) FIRST) 0 (r .chosen)) (r .count) (rw a at h))
   ]
 
@@ -121,14 +121,14 @@ module _ (r : Record) where
   pub admit-chosen : (t : List ℕ) (c d : Scan) (m : List ℕ) → ChosenBelow (c .chosen) → admit r t c m ≡ on d → ChosenBelow (d .chosen)
   unfolding admit passed schemeFits
   admit-chosen t c d m p e =
-      let kind : ℕ = kindOf (not (r .acceptor)) (headOf m .kind) in
-      let a = not-stop (not (eqb (after (reads r) (c .position) (heardFor r c (schemeIn m)) kind) 0)) 14 _ d e in
+      let kind : ℕ = classOf (not (r .acceptor)) (headOf m .kind) in
+      let a = not-stop (not (eqb (after (reads r) (c .position) (confirmedFor r c (schemeIn m)) kind) 0)) 14 _ d e in
       let b = not-stop (schemeFits r t c kind (schemeIn m)) 15 _ d (a .1) in
-      let is : passed r c kind (after (reads r) (c .position) (heardFor r c (schemeIn m)) kind) (schemeIn m) ≡ d = cc in
+      let is : passed r c kind (after (reads r) (c .position) (confirmedFor r c (schemeIn m)) kind) (schemeIn m) ≡ d = cc in
       subst (λ (s : Scan). ChosenBelow (s .chosen)) is (elim (which (eqb (reads r) FURTHER)) [
         | inr f ↦ rw f p
         | inl f ↦
-            let k = further-kind (reads r) (c .position) (heardFor r c (schemeIn m)) kind f (a .0) in
+            let k = further-kind (reads r) (c .position) (confirmedFor r c (schemeIn m)) kind f (a .0) in
             let g : furtherFits r (c .chosen) (schemeIn m) ≡ true = rw (k .0, k .1, f) at (b .0) in
             rw f (low-chosen _ (place-own (schemeIn m) (further-mem (c .chosen) (schemeIn m) g)))
       ])
@@ -148,11 +148,11 @@ chosen-below r m h = go (openTo r m) (open-below (r .count) (r .kept) (r .common
   go [] f s = no-true s
   go (k ∷ ks) f s = unfold leftOf in f (λ z. omega arith)
 
--- behind the choice a message names the chosen scheme
+-- after the choice a message names the chosen scheme
 pub now-chosen : (r : Record) (m : ℕ) → schemeNow (chose r m) ≡ firstPlace (openTo r m)
 unfolding schemeNow writing
 now-chosen r m = go (r .acceptor) where
-  go : (a : Bool) → cond (eqb (writing a 3) 0) 0 (cond (eqb (writing a 3) 1) (r .asked) (firstPlace (openTo r m))) ≡ firstPlace (openTo r m)
+  go : (a : Bool) → cond (eqb (writing a 3) 0) 0 (cond (eqb (writing a 3) 1) (r .requested) (firstPlace (openTo r m))) ≡ firstPlace (openTo r m)
   go true = refl
   go false = refl
 
@@ -203,10 +203,10 @@ module _ (r : Record) (t : List ℕ) where
     ]
   ]
 
--- 7. the limits behind each kind of call
+-- 7. the limits after each kind of call
 
 module _ (r : Record) (limits : AllTrue (limitRows r)) where
-  pub limits-wrote : (position size : ℕ) (w : WrittenAs) → below (r .count) (w .marks) ≡ true → below (r .count) (w .told) ≡ true → 64 ≤ size → r .used + size ≤ 65535 → AllTrue (limitRows (wrote r position size w))
+  pub limits-wrote : (position size : ℕ) (w : WrittenAs) → below (r .count) (w .marks) ≡ true → below (r .count) (w .metadata) ≡ true → 64 ≤ size → r .used + size ≤ 65535 → AllTrue (limitRows (wrote r position size w))
   limits-wrote position size w marks told long room =
       let (l1, (l2, (l3, (l4, (l5, (l6, (l7, (l8, (l9, (l10, (l11, rest))))))))))) = limits in
       let sixty : 64 * r .sequence ≤ r .used = leb-true _ _ l11 in

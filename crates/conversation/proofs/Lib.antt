@@ -12,6 +12,7 @@ pub mod Demand
 pub mod Unchanged
 pub mod Closed
 pub mod Accepted
+pub mod Computes
 pub mod Worked
 pub mod Examples
 pub mod Messages

@@ -25,11 +25,11 @@ use Rattle.conversation.specs.declared.Scan.{Scan}
 use Rattle.conversation.specs.State.{ownOf, schemeAt, limitRows, fresh}
 use Rattle.conversation.specs.Turns.{FIRST, NEGO, METADATA, typeOf, reads, placeAfter, mayRead}
 use Rattle.conversation.specs.Outcomes.{Outcome, zeroId, refused, closedBy, decide, row, room, fits, WrittenAs, unchanged, wrote, appended}
-use Rattle.conversation.specs.Writing.{negoIn, extensionRows, offered, heading, messageOf, stageRows, thenFits, offerRows, offering, someLeft, replyMessage, naming, replying, metadataAllowed, metadataMessage, metadataRows, writingMetadata, schemeNow, schemeAllowed, namedRows, speaking, spoken, Speech, request, checksum, alarm, kindIn, speechFits, contentsIn, spokenAs}
+use Rattle.conversation.specs.Writing.{negoIn, extensionRows, offered, heading, messageOf, stageRows, thenFits, offerRows, offering, someLeft, replyMessage, naming, replying, metadataAllowed, metadataMessage, metadataRows, writingMetadata, schemeNow, schemeAllowed, namedRows, speaking, spoken, Speech, request, checksum, alarm, classIn, speechFits, contentsIn, spokenAs}
 use Rattle.conversation.specs.Reading.{conversationOf, startOf, Judged, whole, halted, chainFor, judged, taken, finish, readingToken}
 use Rattle.conversation.specs.Choosing.{openTo, chose, choosing}
 use Rattle.conversation.specs.Runs.{Sized, NegoCall, Call, offer, reply, metadata, speak, read, choose, End, act, turnAfter, moved, Opening, World, world, outcomeAt, next, ends, Entry, run}
-use Rattle.conversation.specs.Logs.{messagesIn, added, logged, Logs, nextLogs, logsBehind, Counted, InStep, EveryRun}
+use Rattle.conversation.specs.Logs.{messagesIn, added, logged, Logs, nextLogs, logsAfter, Counted, InStep, EveryRun}
 use Rattle.conversation.specs.Claims.{Arrays, isTest, NoTest, TwelveNeverRun}
 use Rattle.conversation.proofs.Decides.{all-first}
 use Rattle.conversation.proofs.Rows.{decide-out, back-true, true-behind}
@@ -77,13 +77,13 @@ whole-speech (request value) id h = h
 whole-speech (checksum type value) id h = h
 whole-speech (alarm a) id h = h
 
-spoken-marks : (r : Record) (s : Speech) → (spokenAs r s .marks ≡ r .marks) × (spokenAs r s .told ≡ r .told)
+spoken-marks : (r : Record) (s : Speech) → (spokenAs r s .marks ≡ r .marks) × (spokenAs r s .metadata ≡ r .metadata)
 spoken-marks r (request value) = (refl, refl)
 spoken-marks r (checksum type value) = (refl, refl)
 spoken-marks r (alarm a) = (refl, refl)
 
 -- and is no NEGO
-speech-plain : (s : Speech) → eqb (kindIn s) NEGO ≡ false
+speech-plain : (s : Speech) → eqb (classIn s) NEGO ≡ false
 speech-plain (request value) = refl
 speech-plain (checksum type value) = refl
 speech-plain (alarm a) = refl
@@ -115,7 +115,7 @@ module _ (r : Record) (d said : List ℕ) (le lf : List (List ℕ)) (ok : Sound 
         plain = written-plain (heading r kind) c (type-known (r .acceptor) kind) (omega arith) (ok .talk) ids (omega arith);
       }
 
-  writes-message : (kind position : ℕ) (c : Contents) (w : WrittenAs) → Whole c → below (r .count) (w .marks) ≡ true → below (r .count) (w .told) ≡ true → leb (r .used + length (messageOf r kind c)) (room d) ≡ true → Wrote position (messageOf r kind c) w
+  writes-message : (kind position : ℕ) (c : Contents) (w : WrittenAs) → Whole c → below (r .count) (w .marks) ≡ true → below (r .count) (w .metadata) ≡ true → leb (r .used + length (messageOf r kind c)) (room d) ≡ true → Wrote position (messageOf r kind c) w
   writes-message kind position c w ids marks told fit =
       let x : List ℕ = messageOf r kind c in
       let (inside, short) = room-kept (r .used) (length x) d fit in
@@ -182,10 +182,10 @@ module _ (e f : End) (le lf : List (List ℕ)) (ok : Sound (e .record-of) (e .tr
   record Given (k : Call) (kind : ℕ) (c : Contents) (w : WrittenAs) : Type 0 where
     whole : Whole c
     marks : below (r .count) (w .marks) ≡ true
-    told : below (r .count) (w .told) ≡ true
+    metadata : below (r .count) (w .metadata) ≡ true
     plain : isTest k ≡ false → PlainAs r kind c
 
-  -- the log behind a message that is written
+  -- the log after a message that is written
   more-plain : (kind : ℕ) (c : Contents) → Whole c → leb (r .used + length (messageOf r kind c)) (room d) ≡ true → PlainAs r kind c → AllPlain le → AllPlain (le ++ (messageOf r kind c ∷ []))
   more-plain kind c ids fit p u = plain-more le (messageOf r kind c ∷ []) u (message-written r d (e .turn) le lf ok here kind c ids fit .plain p, tt)
 
@@ -201,7 +201,7 @@ module _ (e f : End) (le lf : List (List ℕ)) (ok : Sound (e .record-of) (e .tr
       (λ g.
       let v = given g in
       let fit = true-behind (stageRows r kind ++ rows) (fits r d (length (messageOf r kind c))) [] g in
-      let a = writes-message r d (e .turn) le lf ok here kind (placeAfter r kind) c w (v .whole) (v .marks) (v .told) fit in
+      let a = writes-message r d (e .turn) le lf ok here kind (placeAfter r kind) c w (v .whole) (v .marks) (v .metadata) fit in
       record {
         sound = rw adds (a .sound);
         here-then = rw (adds, turns) (a .turn);
@@ -210,11 +210,11 @@ module _ (e f : End) (le lf : List (List ℕ)) (ok : Sound (e .record-of) (e .tr
         unclosed = λ p q. omega arith;
       })
 
-  -- marks and told as they were
+  -- marks and metadata as they were
   marks-here : below (r .count) (r .marks) ≡ true
   marks-here = let (l1, (l2, (l3, (l4, rest)))) = ok .limits in l4
 
-  told-here : below (r .count) (r .told) ≡ true
+  told-here : below (r .count) (r .metadata) ≡ true
   told-here = let (l1, (l2, (l3, (l4, (l5, (l6, rest)))))) = ok .limits in l6
 
   arrays-here : Arrays r
@@ -230,7 +230,7 @@ module _ (e f : End) (le lf : List (List ℕ)) (ok : Sound (e .record-of) (e .tr
       record {
         whole = nego .1 .random;
         marks = marks-here;
-        told = told-here;
+        metadata = told-here;
         plain = λ t. plain-nego r d (arrays-here) (ok .limits) nego (x25, (x26, tt)) t _ (listed-whole r d arrays-here (ok .limits)) fit;
       })
 
@@ -239,7 +239,7 @@ module _ (e f : End) (le lf : List (List ℕ)) (ok : Sound (e .record-of) (e .tr
   replies m nego =
       let l : List Id = left (ownOf r) (r .common) m in
       let x : List ℕ = replyMessage r m (nego .0) in
-      let w : WrittenAs = record { marks = m; told = r .told; asked = r .asked; verified = r .verified } in
+      let w : WrittenAs = record { marks = m; metadata = r .metadata; requested = r .requested; attested = r .attested } in
       let before : List Row = stageRows r NEGO ++ (row 18 (r .acceptor) ∷ []) in
       let last : List Row = extensionRows (nego .0) ++ (row 17 (someLeft l) ∷ fits r d (length x) ∷ []) in
       decide-out (Goal (reply m nego)) (before ++ (row 19 (below (r .count) m) ∷ last)) r d (naming l (appended r d (placeAfter r NEGO) x w))
@@ -260,11 +260,11 @@ module _ (e f : End) (le lf : List (List ℕ)) (ok : Sound (e .record-of) (e .tr
   unfolding writingMetadata
   tells id value =
       writes-call (metadata id value) METADATA (metadataRows r (id .0) (length value)) (ofExchange (record { scheme = id .0; value = value }))
-      (record { marks = r .marks; told = r .told + 2 ^ place (ownOf r) (id .0); asked = r .asked; verified = r .verified }) refl refl refl refl
+      (record { marks = r .marks; metadata = r .metadata + 2 ^ place (ownOf r) (id .0); requested = r .requested; attested = r .attested }) refl refl refl refl
       (λ g. record {
         whole = id .1;
         marks = marks-here;
-        told = told-below r (id .0) (true-behind (stageRows r METADATA ++ (row 19 (leb 1 (length value)) ∷ [])) (row 15 (metadataAllowed r (id .0))) (fits r d (length (metadataMessage r (id .0) value)) ∷ []) g) told-here;
+        metadata = told-below r (id .0) (true-behind (stageRows r METADATA ++ (row 19 (leb 1 (length value)) ∷ [])) (row 15 (metadataAllowed r (id .0))) (fits r d (length (metadataMessage r (id .0) value)) ∷ []) g) told-here;
         plain = λ t. plain-kind (r .acceptor) METADATA _ refl;
       })
 
@@ -275,12 +275,12 @@ module _ (e f : End) (le lf : List (List ℕ)) (ok : Sound (e .record-of) (e .tr
   speaks : (s : Speech) → Goal (speak s) (speaking r d s)
   unfolding speaking
   speaks s =
-      writes-call (speak s) (kindIn s) (namedRows r (speechFits s)) (contentsIn (schemeAt r (schemeNow r)) s) (spokenAs r s) refl refl refl refl
+      writes-call (speak s) (classIn s) (namedRows r (speechFits s)) (contentsIn (schemeAt r (schemeNow r)) s) (spokenAs r s) refl refl refl refl
       (λ g. record {
-        whole = whole-speech s (schemeAt r (schemeNow r)) (now-whole (kindIn s) (speechFits s) (fits r d (length (spoken r s)) ∷ []) g);
+        whole = whole-speech s (schemeAt r (schemeNow r)) (now-whole (classIn s) (speechFits s) (fits r d (length (spoken r s)) ∷ []) g);
         marks = subst (λ (m : ℕ). below (r .count) m ≡ true) (sym (spoken-marks r s .0)) marks-here;
-        told = subst (λ (m : ℕ). below (r .count) m ≡ true) (sym (spoken-marks r s .1)) told-here;
-        plain = λ t. plain-kind (r .acceptor) (kindIn s) _ (speech-plain s);
+        metadata = subst (λ (m : ℕ). below (r .count) m ≡ true) (sym (spoken-marks r s .1)) told-here;
+        plain = λ t. plain-kind (r .acceptor) (classIn s) _ (speech-plain s);
       })
 
   -- 3. a token, read
@@ -339,7 +339,7 @@ module _ (e f : End) (le lf : List (List ℕ)) (ok : Sound (e .record-of) (e .tr
         transcript = put-end d (r .used) t (used-inside r d (e .turn) le lf ok here) ∙ ap (λ (l : List ℕ). l ++ t) (ok .transcript) ∙ ap (λ (l : List ℕ). join le ++ l) (sym (k .joins)) ∙ sym (join-append le ms);
       }
 
-  -- behind it, the two logs are the same
+  -- after it, the two logs are the same
   read-here : (n : ℕ) (c : Scan) → judged r t ≡ whole n c → InStep [] (le ++ ms) lf
   read-here n c w = record {
     shared = le ++ ms;
@@ -387,7 +387,7 @@ module _ (e f : End) (le lf : List (List ℕ)) (ok : Sound (e .record-of) (e .tr
   chooses m s =
       let q : Record = chose r m in
       let x : List ℕ = spoken q s in
-      decide-out (Goal (choose m s)) (choiceTable r d m s) r d (naming (named (ownOf r) (openTo r m)) (appended q d (placeAfter q (kindIn s)) x (spokenAs q s)))
+      decide-out (Goal (choose m s)) (choiceTable r d m s) r d (naming (named (ownOf r) (openTo r m)) (appended q d (placeAfter q (classIn s)) x (spokenAs q s)))
       (stopped (choose m s) (choiceTable r d m s) refl refl)
       (λ g.
       let p = choice-passed r d m s g in
@@ -405,13 +405,13 @@ module _ (e f : End) (le lf : List (List ℕ)) (ok : Sound (e .record-of) (e .tr
         transcript = ok .transcript;
       } in
       let c : Contents = contentsIn (schemeAt q (schemeNow q)) s in
-      let a = writes-message q d (e .turn) le lf between here (kindIn s) (placeAfter q (kindIn s)) c (spokenAs q s)
+      let a = writes-message q d (e .turn) le lf between here (classIn s) (placeAfter q (classIn s)) c (spokenAs q s)
       (whole-speech s _ whole) (rw (spoken-marks q s .0) (p .marks)) (rw (spoken-marks q s .1) told-here) (p .fitting) in
       record {
         sound = a .sound;
         here-then = a .turn;
         there-then = more-there (x ∷ []);
-        plain = λ t u. plain-more le (x ∷ []) u (message-written q d (e .turn) le lf between here (kindIn s) c (whole-speech s _ whole) (p .fitting) .plain (plain-kind (q .acceptor) (kindIn s) _ (speech-plain s)), tt);
+        plain = λ t u. plain-more le (x ∷ []) u (message-written q d (e .turn) le lf between here (classIn s) c (whole-speech s _ whole) (p .fitting) .plain (plain-kind (q .acceptor) (classIn s) _ (speech-plain s)), tt);
         unclosed = λ u z. omega arith;
       })
 
@@ -449,7 +449,7 @@ goes-on w l b true k =
 pub both-next : (w : World) (l : Logs) → Both w l → (x : Bool) (k : Call) → Both (next w x k) (nextLogs w x k l)
 both-next w l b x k = goes-on w l b x k .both
 
-both-behind : (w : World) (l : Logs) → Both w l → (cs : List (Bool × Call)) → Both (ends w cs) (logsBehind w l cs)
+both-behind : (w : World) (l : Logs) → Both w l → (cs : List (Bool × Call)) → Both (ends w cs) (logsAfter w l cs)
 both-behind w l b [] = b
 both-behind w l b (c ∷ cs) = both-behind (next w (c .0) (c .1)) (nextLogs w (c .0) (c .1) l) (both-next w l b (c .0) (c .1)) cs
 

@@ -1,4 +1,4 @@
--- Messages one behind the other, each with its length and its number in its header: those that are written, and those of a token that is read.
+-- Messages one after the other, each with its length and its number in its header: those that are written, and those of a token that is read.
 -- Assumes nothing.
 use Prim.Native.Nat.{ℕ, zero, suc, _+_, _*_, _-_, _≤_, _<_}
 use mathlib.Core.Path.{_≡_, refl, sym, ap, subst, _∙_}
@@ -172,7 +172,7 @@ plain-kind false kind m e = rw e (go (eqb kind 2) (eqb kind 3) (eqb kind 4)) whe
 
 -- 4. the messages of a token that is read
 
--- the row of 12 in a message's table, between those before it and the one behind it
+-- the row of 12 in a message's table, between those before it and the one after it
 abbrev before-12 : List ℕ → ℕ → List ℕ → List Row
 before-12 s q v =
     commonRows (length s) (headOf s)

@@ -19,7 +19,7 @@ use Rattle.conversation.specs.declared.Scan.{Scan}
 use Rattle.conversation.specs.State.{closed, ownOf, limitRows}
 use Rattle.conversation.specs.Turns.{NEGO, METADATA, writing, reading, writes, placeAfter, mayWrite}
 use Rattle.conversation.specs.Outcomes.{Outcome, refused, closedBy, decide, row, room, fits, WrittenAs, appended, wrote}
-use Rattle.conversation.specs.Writing.{extensionRows, stageRows, thenFits, offered, offerRows, offering, someLeft, replyMessage, replyRows, naming, replying, metadataMessage, metadataRows, writingMetadata, namedRows, speaking, spoken, Speech, kindIn, speechFits, spokenAs}
+use Rattle.conversation.specs.Writing.{extensionRows, stageRows, thenFits, offered, offerRows, offering, someLeft, replyMessage, replyRows, naming, replying, metadataMessage, metadataRows, writingMetadata, namedRows, speaking, spoken, Speech, classIn, speechFits, spokenAs}
 use Rattle.conversation.specs.Reading.{Judged, whole, halted, judged, taken, finish, tokenRows, readingToken}
 use Rattle.conversation.specs.Choosing.{mayChoose, chose, choosing}
 use Rattle.conversation.specs.Runs.{Sized, NegoCall, Call, offer, reply, metadata, speak, read, choose, End, act, World, world, outcomeAt, next, Entry, run, isAccepted}
@@ -37,7 +37,7 @@ abbrev Spent : Bool → Record → Type 0
 Spent true r = ((r .stage ≡ 1) × (1 ≤ r .position)) ⊎ ((r .stage ≡ 3) ⊎ (r .stage ≡ 4))
 Spent false r = (r .stage ≡ 3) ⊎ (r .stage ≡ 4)
 
--- behind the call k at an end of the role x: the role is kept, what is spent stays so, and an accepted call with marks spends
+-- after the call k at an end of the role x: the role is kept, what is spent stays so, and an accepted call with marks spends
 record Behind (x : Bool) (r : Record) (k : Call) (a : Answer) : Type 0 where
   role : a .next .acceptor ≡ x
   stays : Spent x r → Spent x (a .next)
@@ -61,7 +61,7 @@ module _ (x : Bool) (r : Record) (d : List ℕ) (role : r .acceptor ≡ x) where
   stopped : (k : Call) (rows : List Row) → without 0 rows ≡ true → (n : ℕ) → FirstFails n rows → Goes k (refused r d n 0)
   stopped k rows z n g = refusal k n 0 (fails-other 0 rows n z g)
 
-  -- a written message leaves the stage, and stands at a place behind the turn's start
+  -- a written message leaves the stage, and stands at a place after the turn's start
   wrote-stays : (b : Bool) (kind n : ℕ) (w : WrittenAs) → mayWrite r kind ≡ true → Spent b r → Spent b (wrote r (placeAfter r kind) n w)
   wrote-stays true kind n w h (inl s) = inl (s .0, positive (placeAfter r kind) h)
   wrote-stays true kind n w h (inr s) = inr s
@@ -81,7 +81,7 @@ module _ (x : Bool) (r : Record) (d : List ℕ) (role : r .acceptor ≡ x) where
   unfolding writing
   replied false e f h n w = no-true (sym e ∙ f)
   replied true e f h n w =
-      let z = nego-start (writes r) (r .position) (r .verified) h in
+      let z = nego-start (writes r) (r .position) (r .attested) h in
       let st : r .stage ≡ 1 = reply-stage (r .stage) (rw e at (z .0)) in
       (spent st (z .1), inl (st, positive (placeAfter r NEGO) h)) where
         spent : r .stage ≡ 1 → r .position ≡ 0 → Spent true r → ⊥
@@ -94,7 +94,7 @@ module _ (x : Bool) (r : Record) (d : List ℕ) (role : r .acceptor ≡ x) where
   write-reply m nego =
       let l : List Id = left (ownOf r) (r .common) m in
       let rest : List Row = row 19 (below (r .count) m) ∷ (extensionRows (nego .0) ++ (row 17 (someLeft l) ∷ fits r d (length (replyMessage r m (nego .0))) ∷ [])) in
-      let w : WrittenAs = record { marks = m; told = r .told; asked = r .asked; verified = r .verified } in
+      let w : WrittenAs = record { marks = m; metadata = r .metadata; requested = r .requested; attested = r .attested } in
       decide-out (Goes (reply m nego)) (stageRows r NEGO ++ thenFits (replyRows r m (nego .0)) r d (replyMessage r m (nego .0))) r d (naming l (appended r d (placeAfter r NEGO) (replyMessage r m (nego .0)) w))
       (stopped (reply m nego) (stageRows r NEGO ++ thenFits (replyRows r m (nego .0)) r d (replyMessage r m (nego .0))) refl)
       (λ g.
@@ -117,7 +117,7 @@ module _ (x : Bool) (r : Record) (d : List ℕ) (role : r .acceptor ≡ x) where
       decide-out (Goes (choose m s)) (choiceTable r d m s) r d _
       (stopped (choose m s) (choiceTable r d m s) refl)
       (λ g.
-      let c = chosen x role (choice-passed r d m s g .may) m (placeAfter (chose r m) (kindIn s)) (length (spoken (chose r m) s)) (spokenAs (chose r m) s) in
+      let c = chosen x role (choice-passed r d m s g .may) m (placeAfter (chose r m) (classIn s)) (length (spoken (chose r m) s)) (spokenAs (chose r m) s) in
       record { role = role; stays = λ h. absurd (c .0 h); spends = λ k a. c })
 
   -- a later token is read into stage 3
@@ -162,7 +162,7 @@ behind x e peer (metadata id value) h =
     write x (e .record-of) (e .transcript) h (metadata id value) METADATA
     (metadataRows (e .record-of) (id .0) (length value)) (metadataMessage (e .record-of) (id .0) value) _ refl refl
 behind x e peer (speak s) h =
-    write x (e .record-of) (e .transcript) h (speak s) (kindIn s)
+    write x (e .record-of) (e .transcript) h (speak s) (classIn s)
     (namedRows (e .record-of) (speechFits s)) (spoken (e .record-of) s) (spokenAs (e .record-of) s) refl refl
 behind x e peer read h = read-goes x (e .record-of) (e .transcript) h peer
 behind x e peer (choose m s) h = choose-goes x (e .record-of) (e .transcript) h m s

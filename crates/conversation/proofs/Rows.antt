@@ -52,7 +52,7 @@ pub true-behind : (xs : List Row) (x : Row) (ys : List Row) → AllTrue (xs ++ (
 true-behind [] x ys h = h .0
 true-behind (y ∷ xs) x ys h = true-behind xs x ys (h .1)
 
--- behind a test that fails no row is looked at
+-- after a test that fails no row is looked at
 pub fails-until : (xs : List Row) (x : Row) (ys : List Row) (n : ℕ) → x .test ≡ false → FirstFails n (xs ++ (x ∷ ys)) → FirstFails n (xs ++ (x ∷ []))
 fails-until [] x ys n e (inl f) = inl f
 fails-until [] x ys n e (inr f) = no-true (sym e ∙ f .0)

@@ -31,7 +31,7 @@ use Rattle.conversation.specs.declared.Record.{Record}
 use Rattle.conversation.specs.State.{ownOf, schemeAt, limitRows}
 use Rattle.conversation.specs.Turns.{NEGO, METADATA, typeOf, placeAfter, mayWrite}
 use Rattle.conversation.specs.Outcomes.{Outcome, decide, row, room, fits, appended}
-use Rattle.conversation.specs.Writing.{negoIn, extensionRows, heading, messageOf, stageRows, thenFits, offerRows, replyRows, metadataRows, namedRows, schemeNow, schemeAllowed, offering, replying, writingMetadata, speaking, Speech, request, checksum, alarm, kindIn, speechFits, contentsIn, spoken, spokenAs, naming}
+use Rattle.conversation.specs.Writing.{negoIn, extensionRows, heading, messageOf, stageRows, thenFits, offerRows, replyRows, metadataRows, namedRows, schemeNow, schemeAllowed, offering, replying, writingMetadata, speaking, Speech, request, checksum, alarm, classIn, speechFits, contentsIn, spoken, spokenAs, naming}
 use Rattle.conversation.specs.Choosing.{openTo, chose, choosing}
 use Rattle.conversation.specs.Runs.{NegoCall, Call, offer, reply, metadata, speak, read, choose, End, act, isAccepted}
 use Rattle.conversation.specs.Claims.{Arrays, sentBy, ReadsAsSent, WrittenReads}
@@ -78,7 +78,7 @@ either c kind true e f = e
 either c kind false e f = f
 
 -- what is said is of its kind at both ends, and names one whole id
-speech-kinds : (s : Speech) (id : Id) → (hasKind (contentsIn id s) (typeOf true (kindIn s)) ≡ true) × (hasKind (contentsIn id s) (typeOf false (kindIn s)) ≡ true)
+speech-kinds : (s : Speech) (id : Id) → (hasKind (contentsIn id s) (typeOf true (classIn s)) ≡ true) × (hasKind (contentsIn id s) (typeOf false (classIn s)) ≡ true)
 unfolding typeOf
 speech-kinds (request value) id = (refl, refl)
 speech-kinds (checksum type value) id = (refl, refl)
@@ -197,23 +197,23 @@ module _ (e : End) (peer : List ℕ) (arrays : Arrays (e .record-of)) where
   abbrev Reads : Call → Outgoing → Type 0
   Reads k m = InRange (m .contents) → isAccepted (act e peer k .answer) ≡ true → ReadsAsSent r d m (act e peer k)
 
-  said : (s : Speech) → Reads (speak s) (record { heading = heading r (kindIn s); contents = contentsIn (schemeAt r (schemeNow r)) s })
+  said : (s : Speech) → Reads (speak s) (record { heading = heading r (classIn s); contents = contentsIn (schemeAt r (schemeNow r)) s })
   unfolding act speaking
   said s = λ range.
       let c : Contents = contentsIn (schemeAt r (schemeNow r)) s in
       let k = speech-kinds s (schemeAt r (schemeNow r)) in
-      sends r d arrays (kindIn s) (namedRows r (speechFits s)) c _ refl (k .0) (k .1) range (λ l t. speech-whole s (schemeAt r (schemeNow r)) (now-sized r d arrays l (t .1 .0)) (t .0)) refl refl
+      sends r d arrays (classIn s) (namedRows r (speechFits s)) c _ refl (k .0) (k .1) range (λ l t. speech-whole s (schemeAt r (schemeNow r)) (now-sized r d arrays l (t .1 .0)) (t .0)) refl refl
 
-  -- a choosing call's message is written in the record behind the choice
-  chooses : (n : ℕ) (s : Speech) → Reads (choose n s) (record { heading = heading r (kindIn s); contents = contentsIn (schemeAt r (schemeNow (chose r n))) s })
+  -- a choosing call's message is written in the record after the choice
+  chooses : (n : ℕ) (s : Speech) → Reads (choose n s) (record { heading = heading r (classIn s); contents = contentsIn (schemeAt r (schemeNow (chose r n))) s })
   unfolding act choosing
   chooses n s = λ range.
       let q : Record = chose r n in
       let id : Id = schemeAt r (schemeNow q) in
       let table : List Row = choiceTable r d n s in
-      let action : Outcome = naming (named (ownOf r) (openTo r n)) (appended q d (placeAfter q (kindIn s)) (spoken q s) (spokenAs q s)) in
+      let action : Outcome = naming (named (ownOf r) (openTo r n)) (appended q d (placeAfter q (classIn s)) (spoken q s) (spokenAs q s)) in
       let there : Arrays q = record { list = arrays .list; conversation = arrays .conversation } in
-      decide-out (λ out. isAccepted (out .answer) ≡ true → ReadsAsSent r d (record { heading = heading r (kindIn s); contents = contentsIn id s }) out) table r d action
+      decide-out (λ out. isAccepted (out .answer) ≡ true → ReadsAsSent r d (record { heading = heading r (classIn s); contents = contentsIn id s }) out) table r d action
       (λ k f a. no-true (sym (ne-eqb k 0 (fails-other 0 table k refl f)) ∙ a))
       (λ g a.
       let p = choice-passed r d n s g in
@@ -222,7 +222,7 @@ module _ (e : End) (peer : List ℕ) (arrays : Arrays (e .record-of)) where
       let then : AllTrue (limitRows q) = limits-chose r (p .limits) n role (p .marks) in
       let w = speech-whole s id (now-sized q d there then (chosen-allowed r n (rw role at l7) (p .left))) (p .keeps) in
       let k = speech-kinds s id in
-      let x = stands-sent q d there (kindIn s) (contentsIn id s) (k .0) (k .1) range then (w .0) (w .1) (p .fitting) action refl refl in
+      let x = stands-sent q d there (classIn s) (contentsIn id s) (k .0) (k .1) range then (w .0) (w .1) (p .fitting) action refl refl in
       record { stands = x .stands; reads = x .reads })
 
   sent : (k : Call) (m : Outgoing) → sentBy r k ≡ some m → Reads k m

@@ -6,7 +6,7 @@ use borrow.Author.Tests.{ne-eqb}
 use Rattle.octets.proofs.Bools.{no-true}
 use Rattle.message.proofs.Tables.{fails-other}
 use Rattle.schemes.specs.Lists.{Id}
-use Rattle.conversation.specs.Writing.{messageOf, kindIn, contentsIn, spoken}
+use Rattle.conversation.specs.Writing.{messageOf, classIn, contentsIn, spoken}
 use Rattle.conversation.specs.Choosing.{chose, choosing}
 use Rattle.conversation.specs.Runs.{isAccepted}
 use Rattle.conversation.specs.Claims.{ChoiceSpoken}
@@ -17,6 +17,6 @@ use Rattle.conversation.proofs.Inside.{scheme-chosen}
 pub choice-spoken : ChoiceSpoken
 unfolding choosing
 choice-spoken r d m s =
-    decide-out (λ out. isAccepted (out .answer) ≡ true → spoken (chose r m) s ≡ messageOf r (kindIn s) (contentsIn (out .answer .choice) s)) (choiceTable r d m s) r d _
+    decide-out (λ out. isAccepted (out .answer) ≡ true → spoken (chose r m) s ≡ messageOf r (classIn s) (contentsIn (out .answer .choice) s)) (choiceTable r d m s) r d _
     (λ n g a. no-true (sym (ne-eqb n 0 (fails-other 0 (choiceTable r d m s) n refl g)) ∙ a))
-    (λ g a. ap (λ (id : Id). messageOf r (kindIn s) (contentsIn id s)) (scheme-chosen r m (choice-passed r d m s g .left)))
+    (λ g a. ap (λ (id : Id). messageOf r (classIn s) (contentsIn id s)) (scheme-chosen r m (choice-passed r d m s g .left)))

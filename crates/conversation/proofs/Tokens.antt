@@ -20,8 +20,8 @@ use Rattle.message.proofs.Local.{head-front}
 use Rattle.schemes.specs.Lists.{Id}
 use Rattle.conversation.specs.declared.Record.{Record}
 use Rattle.conversation.specs.declared.Scan.{Scan}
-use Rattle.conversation.specs.Turns.{kindOf, after, reads}
-use Rattle.conversation.specs.Admitting.{listedBy, schemeIn, Admitted, on, stop, orStop, schemeFits, heardFor, passed, admit}
+use Rattle.conversation.specs.Turns.{classOf, after, reads}
+use Rattle.conversation.specs.Admitting.{listedBy, schemeIn, Admitted, on, stop, orStop, schemeFits, confirmedFor, passed, admit}
 use Rattle.conversation.specs.Reading.{conversationOf, startOf, Judged, whole, halted, thenJudge, judge, chainFor, judged}
 use lib.Seq.{take-take, length-take-le}
 
@@ -52,7 +52,7 @@ then-whole (stop k) p rest n d e = let z : _≡_ {A = ℕ} 0 1 = cc in absurd (o
 pub record First (r : Record) (t : List ℕ) : Type 0 where
   pub forty : 40 ≤ length t
   pub spent : Bool
-  pub allowed : not (eqb (after (reads r) 0 spent (kindOf (not (r .acceptor)) (headOf t .kind))) 0) ≡ true
+  pub allowed : not (eqb (after (reads r) 0 spent (classOf (not (r .acceptor)) (headOf t .kind))) 0) ≡ true
 
 chain-first : (r : Record) (t : List ℕ) (n : ℕ) (d : Scan) (q : ℕ) (v : List ℕ) → 0 < length t → judge r t 0 (startOf r) (chainOf t 0 0 q v) ≡ whole n d → First r t
 unfolding judge admit
@@ -64,11 +64,11 @@ chain-first r t n d q v some e = go (which (passes t q v)) where
   go (inl p) =
       let z = passes-sized t q v p in
       let w = then-whole _ 0 _ n d (sym (ap (judge r t 0 (startOf r)) (turn-pass 0 q v t p)) ∙ e) in
-      let a = not-stop (not (eqb (after (reads r) 0 (heardFor r (startOf r) (schemeIn (front t))) (kindOf (not (r .acceptor)) (headOf (front t) .kind))) 0)) 14 _ (w .0) (w .1 .0) in
+      let a = not-stop (not (eqb (after (reads r) 0 (confirmedFor r (startOf r) (schemeIn (front t))) (classOf (not (r .acceptor)) (headOf (front t) .kind))) 0)) 14 _ (w .0) (w .1 .0) in
       let m : length (front t) ≡ size t = length-take-le (size t) t (z .within) in
       let enough : size t ≤ length (front t) = omega arith in
       let h : headOf (front t) ≡ headOf t = head-front t (front t) (passes-parts t q v p .common) enough (take-take (size t) (size t) t (omega arith)) in
-      record { forty = z .forty; spent = heardFor r (startOf r) (schemeIn (front t)); allowed = subst (λ (g : Head). not (eqb (after (reads r) 0 (heardFor r (startOf r) (schemeIn (front t))) (kindOf (not (r .acceptor)) (g .kind))) 0) ≡ true) h (a .0) }
+      record { forty = z .forty; spent = confirmedFor r (startOf r) (schemeIn (front t)); allowed = subst (λ (g : Head). not (eqb (after (reads r) 0 (confirmedFor r (startOf r) (schemeIn (front t))) (classOf (not (r .acceptor)) (g .kind))) 0) ≡ true) h (a .0) }
 
 pub judged-first : (r : Record) (t : List ℕ) (n : ℕ) (d : Scan) → judged r t ≡ whole n d → First r t
 unfolding judged
@@ -111,8 +111,8 @@ chain-numbers (x ∷ xs) zero place q v = go (which (passes (x ∷ xs) q v)) (ch
 module _ (P : ℕ → Type 0) (p14 : P 14) (p15 : P 15) where
   admit-number : (r : Record) (t : List ℕ) (c : Scan) (m : List ℕ) (n : ℕ) → admit r t c m ≡ stop n → P n
   unfolding admit
-  admit-number r t c m n e = go (not (eqb (after (reads r) (c .position) (heardFor r c (schemeIn m)) (kindOf (not (r .acceptor)) (headOf m .kind))) 0)) (schemeFits r t c (kindOf (not (r .acceptor)) (headOf m .kind)) (schemeIn m)) e where
-    go : (a b : Bool) → orStop a 14 (orStop b 15 (on (passed r c (kindOf (not (r .acceptor)) (headOf m .kind)) (after (reads r) (c .position) (heardFor r c (schemeIn m)) (kindOf (not (r .acceptor)) (headOf m .kind))) (schemeIn m)))) ≡ stop n → P n
+  admit-number r t c m n e = go (not (eqb (after (reads r) (c .position) (confirmedFor r c (schemeIn m)) (classOf (not (r .acceptor)) (headOf m .kind))) 0)) (schemeFits r t c (classOf (not (r .acceptor)) (headOf m .kind)) (schemeIn m)) e where
+    go : (a b : Bool) → orStop a 14 (orStop b 15 (on (passed r c (classOf (not (r .acceptor)) (headOf m .kind)) (after (reads r) (c .position) (confirmedFor r c (schemeIn m)) (classOf (not (r .acceptor)) (headOf m .kind))) (schemeIn m)))) ≡ stop n → P n
     go false b e = let z : 14 ≡ n = cc in subst P z p14
     go true false e = let z : 15 ≡ n = cc in subst P z p15
     go true true e = let z : _≡_ {A = ℕ} 0 1 = cc in absurd (omega arith)

@@ -14,7 +14,7 @@ use Rattle.schemes.specs.Sets.{left, named}
 use Rattle.conversation.specs.State.{ownOf, limitRows}
 use Rattle.conversation.specs.Turns.{NEGO, METADATA, placeAfter}
 use Rattle.conversation.specs.Outcomes.{Outcome, decide, room, WrittenAs, unchanged, appended}
-use Rattle.conversation.specs.Writing.{stageRows, thenFits, offered, offerRows, replyMessage, replyRows, naming, metadataMessage, metadataRows, namedRows, offering, replying, writingMetadata, speaking, spoken, kindIn, speechFits, spokenAs}
+use Rattle.conversation.specs.Writing.{stageRows, thenFits, offered, offerRows, replyMessage, replyRows, naming, metadataMessage, metadataRows, namedRows, offering, replying, writingMetadata, speaking, spoken, classIn, speechFits, spokenAs}
 use Rattle.conversation.specs.Reading.{Judged, whole, halted, judged, finish, tokenRows, readingToken}
 use Rattle.conversation.specs.Choosing.{openTo, chose, choosing}
 use Rattle.conversation.specs.Runs.{Call, offer, reply, metadata, speak, read, choose, End, act}
@@ -55,17 +55,17 @@ module _ (e : End) (peer : List ℕ) where
       wrote-unchanged (stageRows r NEGO ++ thenFits (offerRows r (nego .0)) r d (offered r (nego .0))) r d (placeAfter r NEGO) (offered r (nego .0)) (unchanged r) refl
   unchanged-behind (reply m nego) =
       named-unchanged (stageRows r NEGO ++ thenFits (replyRows r m (nego .0)) r d (replyMessage r m (nego .0))) r d
-      (left (ownOf r) (r .common) m) (appended r d (placeAfter r NEGO) (replyMessage r m (nego .0)) (record { marks = m; told = r .told; asked = r .asked; verified = r .verified })) refl refl
+      (left (ownOf r) (r .common) m) (appended r d (placeAfter r NEGO) (replyMessage r m (nego .0)) (record { marks = m; metadata = r .metadata; requested = r .requested; attested = r .attested })) refl refl
   unchanged-behind (metadata id value) =
       wrote-unchanged (stageRows r METADATA ++ thenFits (metadataRows r (id .0) (length value)) r d (metadataMessage r (id .0) value)) r d (placeAfter r METADATA) (metadataMessage r (id .0) value)
-      (record { marks = r .marks; told = r .told + 2 ^ place (ownOf r) (id .0); asked = r .asked; verified = r .verified }) refl
+      (record { marks = r .marks; metadata = r .metadata + 2 ^ place (ownOf r) (id .0); requested = r .requested; attested = r .attested }) refl
   unchanged-behind (speak s) =
-      wrote-unchanged (stageRows r (kindIn s) ++ thenFits (namedRows r (speechFits s)) r d (spoken r s)) r d (placeAfter r (kindIn s)) (spoken r s) (spokenAs r s) refl
+      wrote-unchanged (stageRows r (classIn s) ++ thenFits (namedRows r (speechFits s)) r d (spoken r s)) r d (placeAfter r (classIn s)) (spoken r s) (spokenAs r s) refl
   unchanged-behind read =
       decided (limitRows r ++ tokenRows r (length peer)) r d (finish r d peer (judged r peer)) refl (finished r d peer (judged r peer))
   unchanged-behind (choose m s) =
       named-unchanged (choiceTable r d m s) r d
-      (named (ownOf r) (openTo r m)) (appended (chose r m) d (placeAfter (chose r m) (kindIn s)) (spoken (chose r m) s) (spokenAs (chose r m) s)) refl refl
+      (named (ownOf r) (openTo r m)) (appended (chose r m) d (placeAfter (chose r m) (classIn s)) (spoken (chose r m) s) (spokenAs (chose r m) s)) refl refl
 
 pub refused-unchanged : RefusedUnchanged
 refused-unchanged e peer k = unchanged-behind e peer k

@@ -23,7 +23,7 @@ use Rattle.conversation.specs.declared.Record.{Record}
 use Rattle.conversation.specs.State.{LATER, schemeAt}
 use Rattle.conversation.specs.Turns.{NEGO, METADATA, VERIFY, typeOf}
 use Rattle.conversation.specs.Outcomes.{Outcome, decide, row, fits}
-use Rattle.conversation.specs.Writing.{heading, messageOf, stageRows, thenFits, schemeNow, schemeAllowed, namedRows, Speech, request, checksum, alarm, kindIn, speechFits, spoken, speaking}
+use Rattle.conversation.specs.Writing.{heading, messageOf, stageRows, thenFits, schemeNow, schemeAllowed, namedRows, Speech, request, checksum, alarm, classIn, speechFits, spoken, speaking}
 use Rattle.conversation.specs.Admitting.{schemeIn}
 use Rattle.conversation.specs.Choosing.{chose, choosing}
 use Rattle.conversation.specs.Runs.{Call, offer, reply, metadata, speak, read, choose, End, act, Opening, World, world, next, ends, isAccepted}
@@ -111,8 +111,8 @@ module _ (id : Id) (e : End) (peer : List ℕ) (log : List (List ℕ)) (ok : Sou
   unfolding speaking
   speak-whole s a =
       let rest : List Row = thenFits (namedRows r (speechFits s)) r d (spoken r s) in
-      let g = passed-by (stageRows r (kindIn s) ++ rest) _ refl a in
-      ok .ids (schemeNow r) (now-below r (true-behind (stageRows r (kindIn s) ++ (row 25 (speechFits s) ∷ [])) (row 15 (schemeAllowed r)) (fits r d (length (spoken r s)) ∷ []) g))
+      let g = passed-by (stageRows r (classIn s) ++ rest) _ refl a in
+      ok .ids (schemeNow r) (now-below r (true-behind (stageRows r (classIn s) ++ (row 25 (speechFits s) ∷ [])) (row 15 (schemeAllowed r)) (fits r d (length (spoken r s)) ∷ []) g))
 
   choose-whole : (m : ℕ) (s : Speech) → isAccepted (choosing r d m s .answer) ≡ true → length (schemeAt (chose r m) (schemeNow (chose r m))) ≡ 16
   unfolding choosing
@@ -127,13 +127,13 @@ module _ (id : Id) (e : End) (peer : List ℕ) (log : List (List ℕ)) (ok : Sou
   accepted-one (offer nego) a = rw a (one-of (verifyFor id) _ false (other-message id r NEGO _ refl))
   accepted-one (reply m nego) a = rw a (one-of (verifyFor id) _ false (other-message id r NEGO _ refl))
   accepted-one (metadata scheme value) a = rw a (one-of (verifyFor id) _ false (other-message id r METADATA _ refl))
-  accepted-one (speak (request value)) a = rw a (one-of (verifyFor id) _ false (other-message id r (kindIn (request value)) _ refl))
+  accepted-one (speak (request value)) a = rw a (one-of (verifyFor id) _ false (other-message id r (classIn (request value)) _ refl))
   accepted-one (speak (checksum type value)) a = rw a (one-of (verifyFor id) _ _ (verify-message id r _ type value (ok .talk) (speak-whole (checksum type value) a)))
-  accepted-one (speak (alarm code)) a = rw a (one-of (verifyFor id) _ false (other-message id r (kindIn (alarm code)) _ refl))
+  accepted-one (speak (alarm code)) a = rw a (one-of (verifyFor id) _ false (other-message id r (classIn (alarm code)) _ refl))
   accepted-one read a = refl
-  accepted-one (choose m (request value)) a = rw a (one-of (verifyFor id) _ false (other-message id (chose r m) (kindIn (request value)) _ refl))
+  accepted-one (choose m (request value)) a = rw a (one-of (verifyFor id) _ false (other-message id (chose r m) (classIn (request value)) _ refl))
   accepted-one (choose m (checksum type value)) a = rw a (one-of (verifyFor id) _ _ (verify-message id (chose r m) _ type value (ok .talk) (choose-whole m (checksum type value) a)))
-  accepted-one (choose m (alarm code)) a = rw a (one-of (verifyFor id) _ false (other-message id (chose r m) (kindIn (alarm code)) _ refl))
+  accepted-one (choose m (alarm code)) a = rw a (one-of (verifyFor id) _ false (other-message id (chose r m) (classIn (alarm code)) _ refl))
 
   one-call : (k : Call) → length (keep (verifyFor id) (addedBy isWriting e peer k)) ≡ cond (isAccepted (act e peer k .answer) && verifies id r k) 1 0
   one-call k = elim (which (isAccepted (act e peer k .answer))) [ inl a ↦ rw a (rw a at (accepted-one k a)) | inr a ↦ rw a (rw a at (none k a)) ] where
@@ -179,8 +179,8 @@ verify-once o cs x id = let e = few o cs x id in let h = once id (world o) x cs 
 
 -- the flag is set exactly where the call that writes the one for the chosen scheme is in the run
 flagged : (o : Opening) (cs : List (Bool × Call)) (x : Bool) → recordAt x (ends (world o) cs) .stage ≡ LATER
-    → verifyCount (world o) x (chosenIn (recordAt x (ends (world o) cs))) cs ≡ cond (recordAt x (ends (world o) cs) .verified) 1 0
-flagged o cs x st = go (r .verified) refl where
+    → verifyCount (world o) x (chosenIn (recordAt x (ends (world o) cs))) cs ≡ cond (recordAt x (ends (world o) cs) .attested) 1 0
+flagged o cs x st = go (r .attested) refl where
   r : Record
   r = recordAt x (ends (world o) cs)
 
@@ -193,7 +193,7 @@ flagged o cs x st = go (r .verified) refl where
   low : count ≤ 1
   low = once id (world o) x cs (invs-start o)
 
-  go : (b : Bool) → r .verified ≡ b → count ≡ cond b 1 0
+  go : (b : Bool) → r .attested ≡ b → count ≡ cond b 1 0
   go true v =
       let some : 1 ≤ 0 + count = has-behind id (world o) x cs (invs-start o) 0 (has-start o id x) .had (λ z. omega arith) v (ap (schemeAt r) (sym (rw st))) in
       omega (arith, low)

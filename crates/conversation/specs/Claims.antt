@@ -13,7 +13,7 @@
 --   decides            an answer that is no refusal, or that closes the record
 --   RefusedStays       a call that does not decide leaves the two ends as they were
 --   acceptedOf         the calls of a list that are accepted, in order; decidingOf: those that decide
---   DecidingEnds       any two ends behind a list of calls are those of its deciding calls alone
+--   DecidingEnds       any two ends after a list of calls are those of its deciding calls alone
 --   AcceptedEnds       the two ends of a run without a test call are those of its accepted calls alone
 --   OpeningFresh       the records that a run starts with are those that opening answers
 --   leftWith o ma mi   what rule 2 leaves of the lists of an opening, with the marks of either end; replyWith o m: the reply's list with the acceptor's
@@ -33,7 +33,7 @@
 --   FlagSays           once the choice is fixed, the record says whether the VERIFY for the chosen scheme is written
 --   HeardOnce          of the messages that an end reads in a run at most one is a VERIFY for a scheme; HeardSays: as FlagSays, of what is read
 --   Arrays r           the lengths of a record's arrays, as the struct gives them
---   sentBy r k         the message that a writing call sends: the record's number and conversation, and the call's arguments; sent: one of a kind
+--   sentBy r k         the message that a writing call sends: the record's number and conversation, and the call's arguments; sent: one of a class
 --   ReadsAsSent        a message stands at the transcript's end and reads as it was sent, whatever follows
 --   WrittenReads       demand 2's round trip: what an accepted writing call appended does, on every record
 --   ChoiceSpoken       the message of an accepted choosing call is the next one, and names the choice that the call answers
@@ -58,7 +58,7 @@ use Rattle.conversation.specs.declared.Answer.{Answer}
 use Rattle.conversation.specs.State.{LATER, CLOSED, withStage, closed, ownOf, schemeAt, limitRows, fresh}
 use Rattle.conversation.specs.Turns.{NEGO, METADATA, mayRead}
 use Rattle.conversation.specs.Outcomes.{Outcome, zeroId, answered, refused, closedBy}
-use Rattle.conversation.specs.Writing.{heading, messageOf, negoIn, schemeNow, Speech, kindIn, contentsIn, spoken, opening}
+use Rattle.conversation.specs.Writing.{heading, messageOf, negoIn, schemeNow, Speech, classIn, contentsIn, spoken, opening}
 use Rattle.conversation.specs.Admitting.{schemeIn}
 use Rattle.conversation.specs.Reading.{conversationOf, readingToken}
 use Rattle.conversation.specs.Choosing.{chose, choosing}
@@ -176,7 +176,7 @@ NoneRefused =
 
 -- "the acceptor's, by its own marks alone, is answered when its NEGO is written": the first and the number of the common schemes less its marks; 17 is
 -- given only where there is none, and wherever there is none and none of 18, 19, 25 and 26 goes before (15 is not asked of this call, and 16 comes
--- behind 17)
+-- after 17)
 pub record ReplyAnswer (o : Opening) (m : ℕ) (a : Answer) : Type 0 where
   pub refuses : a .refusal ≡ 17 → replyWith o m ≡ []
   pub answers : isAccepted a ≡ true → (first (replyWith o m) ≡ some (a .choice)) × (a .left ≡ length (replyWith o m))
@@ -251,12 +251,12 @@ recordAt true w = w .a .record-of
 abbrev pub chosenIn : Record → Id
 chosenIn r = schemeAt r (r .chosen)
 
--- C-15: "Such a VERIFY counts as the end's one only if its scheme is the one chosen": behind the choice `verified` is set exactly where the one that
+-- C-15: "Such a VERIFY counts as the end's one only if its scheme is the one chosen": after the choice `attested` is set exactly where the one that
 -- counts is written, early or later
 abbrev pub FlagSays : Type 0
 FlagSays =
     (o : Opening) (cs : List (Bool × Call)) (x : Bool) → recordAt x (ends (world o) cs) .stage ≡ LATER
-    → length (keep (verifyFor (chosenIn (recordAt x (ends (world o) cs)))) (writtenIn x (world o) cs)) ≡ cond (recordAt x (ends (world o) cs) .verified) 1 0
+    → length (keep (verifyFor (chosenIn (recordAt x (ends (world o) cs)))) (writtenIn x (world o) cs)) ≡ cond (recordAt x (ends (world o) cs) .attested) 1 0
 
 -- the same of what an end reads: 14 for the peer's second
 abbrev pub HeardOnce : Type 0
@@ -265,22 +265,22 @@ HeardOnce = (o : Opening) (cs : List (Bool × Call)) (x : Bool) (id : Id) → le
 abbrev pub HeardSays : Type 0
 HeardSays =
     (o : Opening) (cs : List (Bool × Call)) (x : Bool) → recordAt x (ends (world o) cs) .stage ≡ LATER
-    → length (keep (verifyFor (chosenIn (recordAt x (ends (world o) cs)))) (readIn x (world o) cs)) ≡ cond (recordAt x (ends (world o) cs) .heard) 1 0
+    → length (keep (verifyFor (chosenIn (recordAt x (ends (world o) cs)))) (readIn x (world o) cs)) ≡ cond (recordAt x (ends (world o) cs) .confirmed) 1 0
 
 pub record Arrays (r : Record) : Type 0 where
   pub list : length (r .list) ≡ 256
   pub conversation : length (r .conversation) ≡ 16
 
 abbrev pub sent : Record → ℕ → Contents → Option Outgoing
-sent r kind c = some (record { heading = heading r kind; contents = c })
+sent r class c = some (record { heading = heading r class; contents = c })
 
 abbrev pub sentBy : Record → Call → Option Outgoing
 sentBy r (offer g) = sent r NEGO (negoIn (g .0) (take (16 * r .count) (r .list)))
 sentBy r (reply m g) = sent r NEGO (negoIn (g .0) (joinIds (left (ownOf r) (r .common) m)))
 sentBy r (metadata id value) = sent r METADATA (exchangeOf (id .0) value)
-sentBy r (speak s) = sent r (kindIn s) (contentsIn (schemeAt r (schemeNow r)) s)
+sentBy r (speak s) = sent r (classIn s) (contentsIn (schemeAt r (schemeNow r)) s)
 sentBy r read = none
-sentBy r (choose m s) = sent r (kindIn s) (contentsIn (schemeAt r (schemeNow (chose r m))) s)
+sentBy r (choose m s) = sent r (classIn s) (contentsIn (schemeAt r (schemeNow (chose r m))) s)
 
 pub record ReadsAsSent (r : Record) (d : List ℕ) (m : Outgoing) (o : Outcome) : Type 0 where
   pub stands : Stands d (r .used) (m .heading) (m .contents) (o .answer .next .used) (o .transcript)
@@ -296,4 +296,4 @@ WrittenReads =
 abbrev pub ChoiceSpoken : Type 0
 ChoiceSpoken =
     (r : Record) (d : List ℕ) (m : ℕ) (s : Speech) → isAccepted (choosing r d m s .answer) ≡ true
-    → spoken (chose r m) s ≡ messageOf r (kindIn s) (contentsIn (choosing r d m s .answer .choice) s)
+    → spoken (chose r m) s ≡ messageOf r (classIn s) (contentsIn (choosing r d m s .answer .choice) s)

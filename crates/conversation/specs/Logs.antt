@@ -3,14 +3,14 @@
 --
 -- Glossary
 --   messagesIn c        the messages of a chain
---   added               what an accepted call adds to the messages that its end has read and written; logged: all of them behind any call
+--   added               what an accepted call adds to the messages that its end has read and written; logged: all of them after any call
 --   Logs                for each end the messages, as octets, that it has read and written since opening, in order
---   nextLogs            the logs behind one call; logsBehind: behind a list of calls; logsOf: from the opening on
+--   nextLogs            the logs after one call; logsAfter: after a list of calls; logsOf: from the opening on
 --   InOrder q log       the messages' headers number them on from q
 --   Counted r d log     the record r is inside its limits and counts its log, which the transcript d begins with
---   InStep              a log is one that the other end's begins with, and the own turn behind it
+--   InStep              a log is one that the other end's begins with, and the own turn after it
 --   Holds w l           both, of both ends
---   EveryRun            that holds behind every list of calls
+--   EveryRun            that holds after every list of calls
 use Prim.Native.Nat.{ℕ, _+_, _≤_}
 use mathlib.Core.Path.{_≡_}
 use mathlib.Core.Bool.{Bool, true, false, cond}
@@ -53,12 +53,12 @@ abbrev pub nextLogs : World → Bool → Call → Logs → Logs
 nextLogs w false k l = record { i = logged (w .i) (w .a .turn) k (outcomeAt w false k) (l .i); a = l .a }
 nextLogs w true k l = record { i = l .i; a = logged (w .a) (w .i .turn) k (outcomeAt w true k) (l .a) }
 
-abbrev pub logsBehind : World → Logs → List (Bool × Call) → Logs
-logsBehind w l [] = l
-logsBehind w l (c ∷ cs) = logsBehind (next w (c .0) (c .1)) (nextLogs w (c .0) (c .1) l) cs
+abbrev pub logsAfter : World → Logs → List (Bool × Call) → Logs
+logsAfter w l [] = l
+logsAfter w l (c ∷ cs) = logsAfter (next w (c .0) (c .1)) (nextLogs w (c .0) (c .1) l) cs
 
 abbrev pub logsOf : Opening → List (Bool × Call) → Logs
-logsOf o cs = logsBehind (world o) (record { i = []; a = [] }) cs
+logsOf o cs = logsAfter (world o) (record { i = []; a = [] }) cs
 
 -- "Sequence numbers start at 0 and rise by one over both ends' messages together."
 abbrev pub InOrder : ℕ → List (List ℕ) → Type 0

@@ -1,16 +1,16 @@
 -- What a call answers and leaves: one ordered table of refusals, then one action. Document 01, "Refusal numbers".
 --
 -- Glossary
---   Outcome          an answer, and the lent transcript afterwards
+--   Outcome          an answer, and the lent transcript afterwards; leaving a d: the answer a, which leaves the transcript d
 --   zeroId           sixteen zeros: no choice
 --   answered n p r   the answer with the number n, the place p and the record r, and nothing else to say
 --   refused r d n p  "Each returns its number and the token place of the message at fault": n and p, with the record r and the transcript d
---   closedBy n r     the record behind a reading that the number n refuses: closed by 12, else as it was
+--   closedBy n r     the record after a reading that the number n refuses: closed by 12, else as it was
 --   decide           the first row that fails refuses; where all hold, the action; row makes a row
 --   room d           "Its room is the smaller of the buffer's length and 65,535."
 --   fits             16: used plus the length to add is within the room
---   WrittenAs        what a written message changes in a record beside position, sequence and used; unchanged: nothing
---   wrote            the record behind a written message
+--   WrittenAs        what a written message changes in a record beside position, sequence and used; unchanged: nothing; marking m: the marks
+--   wrote            the record after a written message
 --   appended         a written message at the transcript's end
 use Prim.Native.Nat.{ℕ, _+_, min}
 use mathlib.Core.Bool.{Bool, cond}
@@ -27,6 +27,9 @@ pub record Outcome : Type 0 where
   pub answer : Answer
   pub transcript : List ℕ
 
+abbrev pub leaving : Answer → List ℕ → Outcome
+leaving a d = record { answer = a; transcript = d }
+
 abbrev pub zeroId : List ℕ
 zeroId = replicate 16 0
 
@@ -34,7 +37,7 @@ abbrev pub answered : ℕ → ℕ → Record → Answer
 answered number place r = record { refusal = number; place = record { 0 = place }; messages = 0; choice = zeroId; left = 0; next = r }
 
 abbrev pub refused : Record → List ℕ → ℕ → ℕ → Outcome
-refused r d number place = record { answer = answered number place r; transcript = d }
+refused r d number place = leaving (answered number place r) d
 
 -- C-18: "Refusal 12 now returns the record closed, everything else in it unchanged"
 abbrev pub closedBy : ℕ → Record → Record
@@ -55,12 +58,15 @@ fits r d size = row 16 (leb (r .used + size) (room d))
 
 pub record WrittenAs : Type 0 where
   pub marks : ℕ
-  pub told : ℕ
-  pub asked : ℕ
-  pub verified : Bool
+  pub metadata : ℕ
+  pub requested : ℕ
+  pub attested : Bool
 
 abbrev pub unchanged : Record → WrittenAs
-unchanged r = record { marks = r .marks; told = r .told; asked = r .asked; verified = r .verified }
+unchanged r = record { marks = r .marks; metadata = r .metadata; requested = r .requested; attested = r .attested }
+
+abbrev pub marking : ℕ → Record → WrittenAs
+marking m r = record { marks = m; metadata = r .metadata; requested = r .requested; attested = r .attested }
 
 abbrev pub wrote : Record → ℕ → ℕ → WrittenAs → Record
 wrote r position size w = record {
@@ -73,16 +79,15 @@ wrote r position size w = record {
   marks = w .marks;
   common = r .common;
   kept = r .kept;
-  told = w .told;
-  asked = w .asked;
+  metadata = w .metadata;
+  requested = w .requested;
   chosen = r .chosen;
-  verified = w .verified;
-  heard = r .heard;
+  attested = w .attested;
+  confirmed = r .confirmed;
   sequence = r .sequence + 1;
   used = r .used + size;
 }
 
 -- "Each written message, and each accepted token, is put at its end; no other octet changes."
 abbrev pub appended : Record → List ℕ → ℕ → List ℕ → WrittenAs → Outcome
-appended r d position message w =
-    record { answer = answered 0 0 (wrote r position (length message) w); transcript = put d (r .used) message }
+appended r d position message w = leaving (answered 0 0 (wrote r position (length message) w)) (put d (r .used) message)

@@ -7,11 +7,11 @@
 --   Judged          a whole token with the number of its messages and what is carried out of it, or the first refusal with its place
 --   judge           the chain of messages, judged message by message; thenJudge: the next one, where this one is let through
 --   chainFor        the chain of a token in a conversation; judged: the token judged
---   commonAfter     the common set behind a token; keptAfter: the kept places
---   countsBehind    the own one VERIFY is spent behind a token
---   taken           the record behind an accepted token; takenAs: its answer
+--   commonAfter     the common set after a token; keptAfter: the kept places
+--   countsAfter     the own one VERIFY is spent after a token
+--   taken           the record after an accepted token; takenAs: its answer
 --   accepted        the outcome of a whole token that has room
---   finish          the first refusal, by which 12 closes the record; 16, behind all messages; then that outcome
+--   finish          the first refusal, by which 12 closes the record; 16, after all messages; then that outcome
 --   readingToken    the call: record, transcript and token in, outcome out; tokenRows: 18 and 1
 use Prim.Native.Nat.{ℕ, _+_}
 use mathlib.Core.Bool.{Bool, cond, _&&_}
@@ -37,7 +37,7 @@ unfoldable pub conversationOf : Record → List ℕ → Id
 conversationOf r t = cond (eqb (reads r) FIRST) (octets 16 t 24) (r .conversation)
 
 abbrev pub startOf : Record → Scan
-startOf r = record { position = 0; named = 0; asked = r .asked; chosen = r .chosen; heard = r .heard }
+startOf r = record { position = 0; named = 0; requested = r .requested; chosen = r .chosen; confirmed = r .confirmed }
 
 pub data Judged : Type 0 where
   whole : (messages : ℕ) → Scan → Judged
@@ -68,11 +68,11 @@ commonAfter r t =
 unfoldable pub keptAfter : Record → List ℕ → List ℕ
 keptAfter r t = cond (eqb (reads r) ANSWER) (padTo 16 (keptPlaces (ownOf r) (listedBy t))) (r .kept)
 
--- C-15: an early VERIFY of the acceptor counts, behind its first later token, if the chosen scheme is the AP_REQUEST's
-abbrev pub countsBehind : Record → Scan → Bool
-countsBehind r c = cond (eqb (r .stage) REPLY) (r .verified && eqb (c .chosen) (r .asked)) (r .verified)
+-- C-15: an early VERIFY of the acceptor counts, after its first later token, if the chosen scheme is the AP_REQUEST's
+abbrev pub countsAfter : Record → Scan → Bool
+countsAfter r c = cond (eqb (r .stage) REPLY) (r .attested && eqb (c .chosen) (r .requested)) (r .attested)
 
--- the stage behind the first token is REPLY, behind the reply CHOOSING, behind a later one LATER; where no token is read (`mayRead`), none is taken
+-- the stage after the first token is REPLY, after the reply CHOOSING, after a later one LATER; where no token is read (`mayRead`), none is taken
 abbrev pub taken : Record → List ℕ → ℕ → Scan → Record
 taken r t n c = record {
   acceptor = r .acceptor;
@@ -84,11 +84,11 @@ taken r t n c = record {
   marks = r .marks;
   common = commonAfter r t;
   kept = keptAfter r t;
-  told = 0;
-  asked = c .asked;
+  metadata = 0;
+  requested = c .requested;
   chosen = c .chosen;
-  verified = countsBehind r c;
-  heard = c .heard;
+  attested = countsAfter r c;
+  confirmed = c .confirmed;
   sequence = r .sequence + n;
   used = r .used + length t;
 }

@@ -7,16 +7,16 @@
 --   Call             the calls, with what each is given
 --   End              an end of a run: its record, its transcript buffer, and its turn so far
 --   act              a call at an end, beside the other end's turn so far: its outcome
---   moved            the end behind a call; turnAfter: its turn so far, where the call is accepted
+--   moved            the end after a call; turnAfter: its turn so far, where the call is accepted
 --   Opening, World   what a run starts with; the two ends; world: the two ends, fresh from opening
---   outcomeAt, next  a call at one of two ends: its outcome, and the two ends behind it; ends: those behind a list of calls
+--   outcomeAt, next  a call at one of two ends: its outcome, and the two ends after it; ends: those after a list of calls
 --   Entry, run       a call with its end and its answer; those of a list of calls
 --   isAccepted       an answer that is no refusal
 --   isLawful         "none of 15, 16, 18, 19 applies", nor 25 or 26
 --   Replied          the marks with which the acceptor's NEGO was written in a run; ChoseWith: those with which the initiator chose
 --   MarksKept        the marks of the second run are those of the first, for the schemes that both ends listed there
---   Choice           what a lawful choosing call answers behind a longer offer
---   NotLost          what holds of a call behind a longer offer, the first run's choice being c
+--   Choice           what a lawful choosing call answers after a longer offer
+--   NotLost          what holds of a call after a longer offer, the first run's choice being c
 --   Demand3          the demand, over any two runs
 use Prim.Native.Nat.{ℕ}
 use mathlib.Core.Path.{_≡_}

@@ -54,11 +54,11 @@ withStage stage r = record {
   marks = r .marks;
   common = r .common;
   kept = r .kept;
-  told = r .told;
-  asked = r .asked;
+  metadata = r .metadata;
+  requested = r .requested;
   chosen = r .chosen;
-  verified = r .verified;
-  heard = r .heard;
+  attested = r .attested;
+  confirmed = r .confirmed;
   sequence = r .sequence;
   used = r .used;
 }
@@ -88,7 +88,7 @@ limitRows r =
     ∷ limit (distinct (ownOf r))
     ∷ limit (below (r .count) (r .marks))
     ∷ limit (below (r .count) (r .common))
-    ∷ limit (below (r .count) (r .told))
+    ∷ limit (below (r .count) (r .metadata))
     ∷ limit (r .acceptor || keptBelow (r .count) (r .kept) (r .common))
     ∷ limit (eqb (r .chosen) NONE || ltb (r .chosen) (r .count))
     ∷ limit (leb (r .used) 65535)
@@ -108,11 +108,11 @@ fresh acceptor own conversation = record {
   marks = 0;
   common = 0;
   kept = replicate 16 0;
-  told = 0;
-  asked = NONE;
+  metadata = 0;
+  requested = NONE;
   chosen = NONE;
-  verified = false;
-  heard = false;
+  attested = false;
+  confirmed = false;
   sequence = 0;
   used = 0;
 }

@@ -12,16 +12,16 @@
 --   Right, AllRight a case holds; all of a list do
 --   Worked          document 01's examples hold
 --   longerLists     a second opening, with longer lists than the first
---   LongerRun       demand 3, for that opening behind the first's choice; LongerChoice: what is chosen there
+--   LongerRun       demand 3, for that opening after the first's choice; LongerChoice: what is chosen there
 --   conversation    calls of a whole conversation; allAccepted: every entry of a run is accepted
 --   WholeConversation   every call of it is accepted; WholeLogs: and each end has all of its messages
 --   attempts        choosing calls of each refusal, then one that is accepted; AtOnce: what they answer
---   early           calls in which either end writes a VERIFY before the choice, and tries one behind it: with marks of either end, and the content of the choice
+--   early           calls in which either end writes a VERIFY before the choice, and tries one after it: with marks of either end, and the content of the choice
 --   EarlyVerify     C-15: what they answer, where the early ones count and where they do not
 --   two t           two extensions or alerts, of the types t and 5, the second with an empty value; nine: one more than there may be; octets: the values of two
 --   ordinary, critical, tooMany   contents of a NEGO with these: no critical type; the type minus 2, in a test call or not; nine
 --   extended        C-22: calls with extensions and alerts, those of each refusal, and test calls; Extended: what they answer
---   readInTurn      the numbers that an end answers to tokens, read one behind the other
+--   readInTurn      the numbers that an end answers to tokens, read one after the other
 --   StaysRejected   C-18, with the examples' tokens
 use Prim.Native.Nat.{ℕ}
 use mathlib.Core.Path.{_≡_, refl}
@@ -266,7 +266,7 @@ AtOnce =
     ≡ done ∷ done ∷ names (scheme 2) 2 ∷ done ∷ refuses 18 ∷ refuses 16 ∷ refuses 19 ∷ refuses 17 ∷ refuses 18 ∷ refuses 18 ∷ names (scheme 3) 1 ∷ refuses 18
     ∷ refuses 18 ∷ done ∷ done ∷ []
 
--- C-15: a VERIFY before and behind the AP_REQUEST, and behind the CHALLENGE; a choice with a VERIFY, and one with a content; then a VERIFY of either end
+-- C-15: a VERIFY before and after the AP_REQUEST, and after the CHALLENGE; a choice with a VERIFY, and one with a content; then a VERIFY of either end
 abbrev pub early : ℕ → ℕ → Speech → List (Bool × Call)
 early acceptorMarks initiatorMarks content =
     (false, offer plain)
@@ -316,7 +316,7 @@ unfoldable pub tooMany : NegoCall
 unfolding itemsOf
 tooMany = (negoWith false nine [], record { random = refl; types = refl })
 
--- C-22, 25 and 26 of either NEGO: behind 18 and 19, and before 17; extensions that the peer reads; a critical one in a test call, which closes its reader;
+-- C-22, 25 and 26 of either NEGO: after 18 and 19, and before 17; extensions that the peer reads; a critical one in a test call, which closes its reader;
 -- 25 of an ALERT and of the choosing call, before 15 and 17
 abbrev pub extended : List (Bool × Call)
 extended =

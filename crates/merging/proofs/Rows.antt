@@ -49,7 +49,7 @@ run-octets q s = pieces-long (runFrom q (messagesOf s)) (run-pieces q (messagesO
 pub pieces-run : (q : ℕ) (s : List ℕ) → Pieces (runFrom q (messagesOf s))
 pieces-run q s = run-pieces q (messagesOf s) (pieces-cut s 0 0)
 
--- 2. a run, in octets: those at the front, and what is left behind them
+-- 2. a run, in octets: those at the front, and what is left after them
 
 record Off (run ms : List (List ℕ)) (s : List ℕ) : Type 0 where
   front-is : take (length (join run)) s ≡ join run

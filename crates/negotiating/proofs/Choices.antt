@@ -20,7 +20,7 @@ use Rattle.conversation.specs.declared.Answer.{Answer}
 use Rattle.conversation.specs.State.{ownOf, limitRows}
 use Rattle.conversation.specs.Turns.{writing, after, placeAfter}
 use Rattle.conversation.specs.Outcomes.{Outcome, answered, refused, decide, room, fits, appended}
-use Rattle.conversation.specs.Writing.{stageRows, namedRows, firstOr, naming, Speech, kindIn, speechFits, spoken, spokenAs, speaking}
+use Rattle.conversation.specs.Writing.{stageRows, namedRows, firstOr, naming, Speech, classIn, speechFits, spoken, spokenAs, speaking}
 use Rattle.conversation.specs.Choosing.{openTo, firstPlace, chose, mayChoose, choiceRows, choosing}
 use Rattle.conversation.proofs.Rows.{front-true, back-true}
 use Rattle.conversation.proofs.Decides.{decide-refused, first-stop}
@@ -31,11 +31,11 @@ use Rattle.calls.proofs.Lefts.{kept-inside, open-none, open-some, open-count, o
 use Rattle.negotiating.specs.Ready.{ChoiceReady, namedChoice}
 
 -- ---- an early VERIFY counts for the AP_REQUEST's scheme
-pub counts-early : (v : Bool) (place asked : ℕ) → v ≡ true → eqb place asked ≡ (v && eqb place asked)
-counts-early v place asked e = rw e
+pub counts-early : (v : Bool) (place requested : ℕ) → v ≡ true → eqb place requested ≡ (v && eqb place requested)
+counts-early v place requested e = rw e
 
-pub counts-none : (v : Bool) (place asked : ℕ) → v ≡ false → false ≡ (v && eqb place asked)
-counts-none v place asked e = rw e
+pub counts-none : (v : Bool) (place requested : ℕ) → v ≡ false → false ≡ (v && eqb place requested)
+counts-none v place requested e = rw e
 
 pub ruleset countings = (counts-early, counts-none)
 
@@ -75,12 +75,12 @@ module _ (r : Record) (m : ℕ) (fit : Bool) (kind n : ℕ) (n-is : n ≡ firstF
             pub choice-none : l .left ≡ 0 → 17 ≡ callRefusal r (choiceRows r m fit kind)
             choice-none e = behind 17 (rw (may, ← b-is, t, keeps, ← open-none (r .list) (r .count) l (openTo r m) l-is e))
 
-            module _ (some : l .left ≡ 0 → ⊥) (v : Bool) (v-is : v ≡ (r .verified && eqb (l .place) (r .asked))) (p : ℕ) (p-is : p ≡ after 2 0 v kind) where
+            module _ (some : l .left ≡ 0 → ⊥) (v : Bool) (v-is : v ≡ (r .attested && eqb (l .place) (r .requested))) (p : ℕ) (p-is : p ≡ after 2 0 v kind) where
               place : placeAfter (chose r m) kind ≡ p
               unfolding writing
               place =
-                  ap (λ (a : Bool). after (writing a 3) 0 (r .verified && eqb (firstPlace (openTo r m)) (r .asked)) kind) i
-                  ∙ ap (λ (k : ℕ). after 2 0 (r .verified && eqb k (r .asked)) kind) (first-place (openTo r m) l l-is some)
+                  ap (λ (a : Bool). after (writing a 3) 0 (r .attested && eqb (firstPlace (openTo r m)) (r .requested)) kind) i
+                  ∙ ap (λ (k : ℕ). after 2 0 (r .attested && eqb k (r .requested)) kind) (first-place (openTo r m) l l-is some)
                   ∙ ap (λ (x : Bool). after 2 0 x kind) (sym v-is) ∙ sym p-is
 
               pub choice-kind : p ≡ 0 → 18 ≡ callRefusal r (choiceRows r m fit kind)
@@ -91,7 +91,7 @@ module _ (r : Record) (m : ℕ) (fit : Bool) (kind n : ℕ) (n-is : n ≡ firstF
 
 pub ruleset choice-refusals = (limits-stop, choice-role, choice-stage, choice-kind, choice-marks, choice-unfit, choice-none, choice-some)
 
--- ---- the record behind the choice, and the answer
+-- ---- the record after the choice, and the answer
 module _ (r : Record) (m : ℕ) (y : ChoiceReady r m) (l : Left) (l-is : l ≡ leftOf (openPlaces (r .kept) (r .common) m)) where
   found : (l .place < r .count) × ((octets 16 (r .list) (16 * l .place) ≡ firstOr (named (ownOf r) (openTo r m))) × (l .place ≡ firstPlace (openTo r m)))
   found = open-first (r .list) (r .count) l (openTo r m) l-is (kept-inside (r .count) (r .kept) (r .common) m (y .kept)) (y .some)
@@ -99,8 +99,8 @@ module _ (r : Record) (m : ℕ) (y : ChoiceReady r m) (l : Left) (l-is : l ≡ l
   pub choice-place : l .place < 16
   choice-place = omega (arith, found .0, y .inside .few)
 
-  pub choice-made : (v : Bool) → v ≡ (r .verified && eqb (l .place) (r .asked)) → (h : Bool) → h ≡ (r .heard && eqb (l .place) (r .asked))
-      → record { acceptor = r .acceptor; stage = 3; position = 0; list = r .list; count = r .count; conversation = r .conversation; marks = m; common = r .common; kept = r .kept; told = r .told; asked = r .asked; chosen = l .place; verified = v; heard = h; sequence = r .sequence; used = r .used } ≡ chose r m
+  pub choice-made : (v : Bool) → v ≡ (r .attested && eqb (l .place) (r .requested)) → (h : Bool) → h ≡ (r .confirmed && eqb (l .place) (r .requested))
+      → record { acceptor = r .acceptor; stage = 3; position = 0; list = r .list; count = r .count; conversation = r .conversation; marks = m; common = r .common; kept = r .kept; metadata = r .metadata; requested = r .requested; chosen = l .place; attested = v; confirmed = h; sequence = r .sequence; used = r .used } ≡ chose r m
   choice-made v v-is h h-is = rw (v-is, h-is) (rw (found .1 .1))
 
   pub choice-named : (a : Answer) → a .refusal ≡ 0 → (id : List ℕ) → id ≡ octets 16 (r .list) (16 * l .place) → (b : Answer)
@@ -112,7 +112,7 @@ choice-kept r m a h b b-is = b-is ∙ rw (ne-eqb (a .refusal) 0 h)
 
 pub ruleset choices = (choice-place, choice-made, choice-named, choice-kept)
 
--- ---- the call, by its refusal: the message is that of the writer in the record behind the choice
+-- ---- the call, by its refusal: the message is that of the writer in the record after the choice
 decide-last : (xs : List Row) (x : Row) (r : Record) (d : List ℕ) (action : Outcome) → AllTrue xs → decide (xs ++ (x ∷ [])) r d action ≡ cond (x .test) action (refused r d (x .number) 0)
 decide-last [] x r d action h = refl
 decide-last (y ∷ xs) x r d action h = rw (h .0) (decide-last xs x r d action (h .1))
@@ -135,22 +135,22 @@ module _ (r : Record) (m : ℕ) (fit : Bool) (kind n : ℕ) (n-is : n ≡ callRe
       let (may, (marks, (keeps, (some, (speaks, end))))) = back-true (limitRows r) (choiceRows r m fit kind) given in
       record { inside = limits-inside r (choiceRows r m fit kind) given; kept = kept; some = some }
 
-  -- the tests of the writer before 16 pass in the record behind the choice
+  -- the tests of the writer before 16 pass in the record after the choice
   passed : AllTrue (stageRows (chose r m) kind ++ namedRows (chose r m) fit)
   passed =
       let (may, (marks, (keeps, (some, (speaks, end))))) = back-true (limitRows r) (choiceRows r m fit kind) given in
       let (l1, (l2, (l3, (l4, (l5, (l6, (l7, (l8, (l9, (l10, (l11, tail))))))))))) = limits-chose r (front-true (limitRows r) (choiceRows r m fit kind) given) m role marks in
       (l1, (l2, (l3, (l4, (l5, (l6, (l7, (l8, (l9, (l10, (l11, (speaks, (keeps, (chosen-allowed r m kept some, tt))))))))))))))
 
-module _ (r : Record) (d : List ℕ) (m : ℕ) (s : Speech) (n : ℕ) (n-is : n ≡ callRefusal r (choiceRows r m (speechFits s) (kindIn s))) where
+module _ (r : Record) (d : List ℕ) (m : ℕ) (s : Speech) (n : ℕ) (n-is : n ≡ callRefusal r (choiceRows r m (speechFits s) (classIn s))) where
   abbrev rows : List Row
-  rows = limitRows r ++ choiceRows r m (speechFits s) (kindIn s)
+  rows = limitRows r ++ choiceRows r m (speechFits s) (classIn s)
 
   abbrev last : Row
   last = fits (chose r m) d (length (spoken (chose r m) s))
 
   abbrev message : Outcome
-  message = appended (chose r m) d (placeAfter (chose r m) (kindIn s)) (spoken (chose r m) s) (spokenAs (chose r m) s)
+  message = appended (chose r m) d (placeAfter (chose r m) (classIn s)) (spoken (chose r m) s) (spokenAs (chose r m) s)
 
   pub choose-refused : (n ≡ 0 → ⊥) → (a : Answer) → a ≡ answered n 0 r → _≡_ {A = Outcome} (record { answer = a; transcript = d }) (choosing r d m s)
   unfolding choosing callRefusal
@@ -161,11 +161,11 @@ module _ (r : Record) (d : List ℕ) (m : ℕ) (s : Speech) (n : ℕ) (n-is : n 
   module _ (z : n ≡ 0) where
     said : speaking (chose r m) d s ≡ cond (leb (r .used + length (spoken (chose r m) s)) (room d)) message (refused (chose r m) d 16 0)
     unfolding speaking
-    said = decide-last (stageRows (chose r m) (kindIn s) ++ namedRows (chose r m) (speechFits s)) last (chose r m) d message (passed r m (speechFits s) (kindIn s) n n-is z)
+    said = decide-last (stageRows (chose r m) (classIn s) ++ namedRows (chose r m) (speechFits s)) last (chose r m) d message (passed r m (speechFits s) (classIn s) n n-is z)
 
     chosen : choosing r d m s ≡ cond (leb (r .used + length (spoken (chose r m) s)) (room d)) (naming (named (ownOf r) (openTo r m)) message) (refused r d 16 0)
     unfolding choosing
-    chosen = decide-last rows last r d (naming (named (ownOf r) (openTo r m)) message) (given r m (speechFits s) (kindIn s) n n-is z)
+    chosen = decide-last rows last r d (naming (named (ownOf r) (openTo r m)) message) (given r m (speechFits s) (classIn s) n n-is z)
 
     pub choose-made : (q : Record) → q ≡ chose r m → (v : Speech) → v ≡ s → (o : Answer) (d' : List ℕ) → _≡_ {A = Outcome} (record { answer = o; transcript = d' }) (speaking q d v) → (a : Answer) → a ≡ namedChoice r m o
         → _≡_ {A = Outcome} (record { answer = a; transcript = d' }) (choosing r d m s)

@@ -23,13 +23,13 @@ use Rattle.conversation.specs.State.{fresh}
 use Rattle.conversation.specs.Outcomes.{zeroId, answered}
 use Rattle.conversation.specs.Writing.{opening}
 
--- a list put into zeros has zeros behind it
+-- a list put into zeros has zeros after it
 pub put-zeros : (n : ℕ) (own : List ℕ) → length own ≤ n → put (replicate n 0) 0 own ≡ padTo n own
 unfolding put
 put-zeros n own h = ap (λ (v : List ℕ). v ++ drop (0 + length own) (replicate n 0)) (sym (take-length own)) ∙ simp sub-zero at (paste-pad n [] own 0 (length own) refl refl (omega arith))
 
 pub freshly : (acceptor : Bool) (own conversation list : List ℕ) (k : ℕ) → length own ≤ 256 → Written (replicate 256 0) 0 (length own) own list k
-    → _≡_ {A = Record} (record { acceptor = acceptor; stage = 0; position = 0; list = list; count = length own / 16; conversation = conversation; marks = 0; common = 0; kept = replicate 16 0; told = 0; asked = 255; chosen = 255; verified = false; heard = false; sequence = 0; used = 0 }) (fresh acceptor own conversation)
+    → _≡_ {A = Record} (record { acceptor = acceptor; stage = 0; position = 0; list = list; count = length own / 16; conversation = conversation; marks = 0; common = 0; kept = replicate 16 0; metadata = 0; requested = 255; chosen = 255; attested = false; confirmed = false; sequence = 0; used = 0 }) (fresh acceptor own conversation)
 freshly acceptor own conversation list k h w = let e : list ≡ padTo 256 own = w .holds ∙ put-zeros 256 own h in rw e
 
 -- an own list fits the record's array

@@ -1,4 +1,4 @@
--- What the choice, once it is not refused, relies on, and the answer behind its message.
+-- What the choice, once it is not refused, relies on, and the answer after its message.
 --
 -- Glossary
 --   ChoiceReady       a choice may be made: some scheme is left, and the kept places are the list's

@@ -9,29 +9,27 @@ use calls::answer;
 use calls::naming;
 use conversation::Answer;
 use conversation::Record;
+use conversation::Turn;
 use conversation::limits::outside;
-use conversation::turns::place_behind;
+use conversation::turns::place_after;
 use schemes::choosing::choose_kept;
 use schemes::list::id_of;
 use schemes::set::within;
 use vector::TokenPlace;
 
-// A later token, as `place_behind` numbers them.
-const FURTHER: u8 = 2;
-
-// Whether an early VERIFY counts behind a choice: it is for the AP_REQUEST's scheme.
-fn counts_for(early: bool, place: usize, asked: usize) -> bool
-    ensures { λ a. ⌜ a ≡ (early && eqb place asked) ⌝ }
+// Whether an early VERIFY counts after a choice: it is for the AP_REQUEST's scheme.
+fn counts_for(early: bool, place: usize, requested: usize) -> bool
+    ensures { λ a. ⌜ a ≡ (early && eqb place requested) ⌝ }
 {
     if early {
-        return place == asked;
+        return place == requested;
     }
     false
 }
 
-// 18, 19, 25, 17 and 18 for a choice with a message of a kind, whose content keeps its limits or doesn't: the first that refuses, or 0.
-pub fn choice_refusal(r: Record, kind: u8, marks: u16, fit: bool) -> u32
-    ensures { λ a. ⌜ a ≡ callRefusal r (choiceRows r marks fit kind) ⌝ }
+// 18, 19, 25, 17 and 18 for a choice with a message of a class, whose content keeps its limits or doesn't: the first that refuses, or 0.
+pub fn choice_refusal(r: Record, class: u8, marks: u16, fit: bool) -> u32
+    ensures { λ a. ⌜ a ≡ callRefusal r (choiceRows r marks fit class) ⌝ }
 {
     let n = outside(r);
     if n != 0 {
@@ -54,14 +52,14 @@ pub fn choice_refusal(r: Record, kind: u8, marks: u16, fit: bool) -> u32
     if left.left == 0 {
         return 17;
     }
-    let spent = counts_for(r.verified, left.place as usize, r.asked);
-    if place_behind(FURTHER, 0, spent, kind) == 0 {
+    let spent = counts_for(r.attested, left.place as usize, r.requested);
+    if place_after(Turn::FURTHER, 0, spent, class) == 0 {
         return 18;
     }
     0
 }
 
-// The record behind the choice: the first kept place that is not marked. The message is written in it.
+// The record after the choice: the first kept place that is not marked. The message is written in it.
 pub fn chosen_record(r: Record, marks: u16) -> Record
     requires { ⌜ ChoiceReady r marks ⌝ }
     ensures { λ a. ⌜ a ≡ chose r marks ⌝ }
@@ -74,12 +72,12 @@ pub fn chosen_record(r: Record, marks: u16) -> Record
     next.position = 0;
     next.marks = marks;
     next.chosen = place;
-    next.verified = counts_for(r.verified, place, r.asked);
-    next.heard = counts_for(r.heard, place, r.asked);
+    next.attested = counts_for(r.attested, place, r.requested);
+    next.confirmed = counts_for(r.confirmed, place, r.requested);
     next
 }
 
-// The answer behind the message: it names the choice and how many were left. Where the message was refused, nothing is chosen.
+// The answer after the message: it names the choice and how many were left. Where the message was refused, nothing is chosen.
 pub fn name_choice(r: Record, marks: u16, a: Answer) -> Answer
     requires { ⌜ ChoiceReady r marks ⌝ }
     ensures { λ b. ⌜ b ≡ namedChoice r marks a ⌝ }

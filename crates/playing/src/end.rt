@@ -100,7 +100,7 @@ fn reopened(c: Command, e: End, a: Answer) -> End {
     }
 }
 
-// An end behind a call: it goes on with the record that the call returned, and an accepted reading ends its turn.
+// An end after a call: it goes on with the record that the call returned, and an accepted reading ends its turn.
 pub(crate) fn moved(c: Command, e: End, a: Answer) -> End {
     if c.verb == Command::OPEN {
         return reopened(c, e, a);

@@ -30,7 +30,7 @@ fn span(d: &mut [u8], from: usize, to: usize) -> &mut [u8] {
     &mut d[from..to]
 }
 
-// A command as the library is given it: `read` with nothing behind it reads a copy of the other end's turn so far, which is put at the front of the
+// A command as the library is given it: `read` with nothing after it reads a copy of the other end's turn so far, which is put at the front of the
 // lent slice. An end that is not open has written nothing.
 fn given(c: Command, other: End, both: &[u8], lent: &mut [u8]) -> Command {
     if c.verb != Command::TURN {
@@ -73,7 +73,7 @@ fn called(c: Command, e: End, both: &mut [u8], lent: &mut [u8]) -> End {
     moved(c, e, a)
 }
 
-// Plays a command, and answers the ends behind it.
+// Plays a command, and answers the ends after it.
 fn play_command(c: Command, ends: Ends, both: &mut [u8], lent: &mut [u8]) -> Ends {
     let e = end_of(ends, c.acceptor);
     if is_call(c, e) {} else {

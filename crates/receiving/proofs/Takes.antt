@@ -1,4 +1,4 @@
--- The record behind an accepted token, in the words of the code.
+-- The record after an accepted token, in the words of the code.
 -- Assumes nothing.
 use Prim.Native.Nat.{ℕ, _≤_}
 use mathlib.Core.Path.{_≡_, sym, ap, _∙_}
@@ -19,7 +19,7 @@ use Rattle.conversation.specs.declared.Scan.{Scan}
 use Rattle.conversation.specs.State.{ownOf}
 use Rattle.conversation.specs.Turns.{reading, reads}
 use Rattle.conversation.specs.Admitting.{listedBy}
-use Rattle.conversation.specs.Reading.{commonAfter, keptAfter, countsBehind, taken}
+use Rattle.conversation.specs.Reading.{commonAfter, keptAfter, countsAfter, taken}
 use Rattle.admitting.specs.Admissions.{listedIn}
 use Rattle.admitting.proofs.Lists.{listed-by}
 use Rattle.receiving.specs.Receiving.{Taking, withSets, movedBy}
@@ -38,16 +38,16 @@ reading-small false stage = either (eqb stage 0) 1 _ (omega arith) (either (eqb 
 pub token-small : (r : Record) (token : ℕ) → token ≡ reads r → token ≤ 3
 token-small r token e = omega (arith, reading-small (r .acceptor) (r .stage))
 
--- the own VERIFY behind a token
+-- the own VERIFY after a token
 module _ (r : Record) (c : Scan) where
-  pub counts-stage : (r .stage ≡ 1 → ⊥) → r .verified ≡ countsBehind r c
+  pub counts-stage : (r .stage ≡ 1 → ⊥) → r .attested ≡ countsAfter r c
   counts-stage h = rw (ne-eqb _ _ h)
 
   module _ (s : r .stage ≡ 1) where
-    pub counts-none : r .verified ≡ false → false ≡ countsBehind r c
+    pub counts-none : r .attested ≡ false → false ≡ countsAfter r c
     counts-none e = rw (eq-eqb _ _ s, e)
 
-    pub counts-early : r .verified ≡ true → eqb (c .chosen) (r .asked) ≡ countsBehind r c
+    pub counts-early : r .attested ≡ true → eqb (c .chosen) (r .requested) ≡ countsAfter r c
     counts-early e = rw (eq-eqb _ _ s, e)
 
 pub ruleset countings = (counts-stage, counts-none, counts-early)

@@ -3,10 +3,10 @@
 -- Glossary
 --   judgedAs         what an answer of src/ says of a token
 --   cutBy, haltedBy  a message's refusal by 2 to 13, or by 14 and 15, at its place
---   Taking r size n  what the record behind a token of n messages relies on
+--   Taking r size n  what the record after a token of n messages relies on
 --   withSets         a record with another common set and other kept places
 --   movedBy          what every accepted token changes in a record
---   Judging          what 16 and the record rely on behind the messages
+--   Judging          what 16 and the record rely on after the messages
 --   haltedAs         the answer to a token that is halted
 use Prim.Native.Nat.{ℕ, _≤_}
 use mathlib.Core.Path.{_≡_}
@@ -53,11 +53,11 @@ withSets r x k = record {
   marks = r .marks;
   common = x;
   kept = k;
-  told = r .told;
-  asked = r .asked;
+  metadata = r .metadata;
+  requested = r .requested;
   chosen = r .chosen;
-  verified = r .verified;
-  heard = r .heard;
+  attested = r .attested;
+  confirmed = r .confirmed;
   sequence = r .sequence;
   used = r .used;
 }

@@ -16,6 +16,7 @@ use admitting::Admission;
 use admitting::admit::admit_message;
 use conversation::Record;
 use conversation::Scan;
+use conversation::Turn;
 use conversation::turns::reading_token;
 use message::Read;
 use message::field;
@@ -52,9 +53,9 @@ fn start_of(r: Record) -> Scan
     Scan {
         position: 0,
         named: 0,
-        asked: r.asked,
+        requested: r.requested,
         chosen: r.chosen,
-        heard: r.heard,
+        confirmed: r.confirmed,
     }
 }
 
@@ -93,7 +94,7 @@ pub(crate) fn conversation_of(r: Record, t: &[u8]) -> [u8; 16]
     ensures { λ a. ⌜ a ≡ conversationOf r (now (t .entry)) ⌝ }
 {
     let token = reading_token(r.acceptor, r.stage);
-    if token == 0 {
+    if token == Turn::FIRST {
         return id_at(t, field::CONVERSATION);
     }
     r.conversation
@@ -104,7 +105,7 @@ fn expected<'a>(token: u8, t: &'a [u8], own: &'a [u8]) -> &'a [u8]
     requires { ⌜ 40 ≤ length (now t) ⌝ }
     ensures { λ a. ⌜ now a ≡ cond (eqb token 0) (octets 16 (now (t .entry)) 24) (now (own .entry)) ⌝ }
 {
-    if token == 0 {
+    if token == Turn::FIRST {
         return &t[field::CONVERSATION..field::COMMON_HEADER];
     }
     own

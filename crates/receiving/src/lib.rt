@@ -2,7 +2,7 @@
 ghost use mathlib.Core.Path.{_≡_};
 ghost use Prim.Native.Nat.{_+_, _≤_};
 ghost use lib.ListN.{length};
-ghost use Rattle.conversation.specs.Outcomes.{Outcome, closedBy};
+ghost use Rattle.conversation.specs.Outcomes.{leaving, closedBy};
 ghost use Rattle.conversation.specs.Reading.{accepted, finish, tokenRows, readingToken};
 ghost use Rattle.calls.specs.Calls.{callRefusal};
 ghost use Rattle.receiving.specs.Receiving.{Taking, Judging, judgedAs, haltedAs};
@@ -44,7 +44,7 @@ fn refusal_before(r: Record, size: usize) -> u32
     0
 }
 
-// The record behind a token's refusal: 12 closes it.
+// The record after a token's refusal: 12 closes it.
 fn closed_by(number: u32, r: Record) -> Record
     ensures { λ a. ⌜ a ≡ closedBy number r ⌝ }
 {
@@ -69,7 +69,7 @@ fn refuse_halted(r: Record, j: Judgement) -> Answer
 // An accepted token: put at the transcript's end, and taken into the record.
 fn accept(r: Record, transcript: &mut [u8], t: &[u8], n: u32, c: Scan) -> Answer
     requires { ⌜ Taking r (length (now t)) n × (r .used + length (now t) ≤ length (now transcript)) ⌝ }
-    ensures { λ a. ⌜ _≡_ {A = Outcome} (record { answer = a; transcript = now (transcript .exit) }) (accepted r (now (transcript .entry)) (now (t .entry)) n c) ⌝ }
+    ensures { λ a. ⌜ leaving a (now (transcript .exit)) ≡ accepted r (now (transcript .entry)) (now (t .entry)) n c ⌝ }
 {
     put_octets(transcript, r.used, t);
     let next = taken_record(r, t, n, c);
@@ -86,7 +86,7 @@ fn accept(r: Record, transcript: &mut [u8], t: &[u8], n: u32, c: Scan) -> Answer
 // 16, after all messages.
 fn finish_token(r: Record, transcript: &mut [u8], t: &[u8], j: Judgement) -> Answer
     requires { ⌜ Judging r (now t) j ⌝ }
-    ensures { λ a. ⌜ _≡_ {A = Outcome} (record { answer = a; transcript = now (transcript .exit) }) (finish r (now (transcript .entry)) (now (t .entry)) (judgedAs j)) ⌝ }
+    ensures { λ a. ⌜ leaving a (now (transcript .exit)) ≡ finish r (now (transcript .entry)) (now (t .entry)) (judgedAs j) ⌝ }
 {
     let Judgement::Whole(n, c) = j else {
         return refuse_halted(r, j);
@@ -99,7 +99,7 @@ fn finish_token(r: Record, transcript: &mut [u8], t: &[u8], j: Judgement) -> Ans
 
 // A peer's token, read into the record and put at the transcript's end.
 pub fn read(r: Record, transcript: &mut [u8], token: &[u8]) -> Answer
-    ensures { λ a. ⌜ _≡_ {A = Outcome} (record { answer = a; transcript = now (transcript .exit) }) (readingToken r (now (transcript .entry)) (now (token .entry))) ⌝ }
+    ensures { λ a. ⌜ leaving a (now (transcript .exit)) ≡ readingToken r (now (transcript .entry)) (now (token .entry)) ⌝ }
 {
     let number = refusal_before(r, token.len());
     if number != 0 {

@@ -1,28 +1,29 @@
-// The record behind an accepted token.
+// The record after an accepted token.
 ghost use mathlib.Core.Path.{_≡_};
 ghost use lib.ListN.{length};
-ghost use Rattle.conversation.specs.Reading.{countsBehind, taken};
+ghost use Rattle.conversation.specs.Reading.{countsAfter, taken};
 ghost use Rattle.receiving.specs.Receiving.{Taking, movedBy};
 use super::judge::conversation_of;
 use admitting::named::listed;
 use conversation::Record;
 use conversation::Scan;
+use conversation::Turn;
 use conversation::turns::reading_token;
 use schemes::reply::kept_places;
 use schemes::set::common_set;
 use schemes::set::full_set;
 
-// Whether the own one VERIFY is spent behind a token: the acceptor's first later token fixes the choice, and with it whether an early one counts.
-fn counts_behind(r: Record, c: Scan) -> bool
-    ensures { λ a. ⌜ a ≡ countsBehind r c ⌝ }
+// Whether the own one VERIFY is spent after a token: the acceptor's first later token fixes the choice, and with it whether an early one counts.
+fn counts_after(r: Record, c: Scan) -> bool
+    ensures { λ a. ⌜ a ≡ countsAfter r c ⌝ }
 {
     if r.stage != Record::REPLY {
-        return r.verified;
+        return r.attested;
     }
-    if r.verified {} else {
+    if r.attested {} else {
         return false;
     }
-    c.chosen == r.asked
+    c.chosen == r.requested
 }
 
 // What every accepted token changes: stage, turn, conversation, and what was carried out of it.
@@ -32,33 +33,33 @@ fn moved(r: Record, t: &[u8], n: u32, c: Scan) -> Record
 {
     let token = reading_token(r.acceptor, r.stage);
     let conversation = conversation_of(r, t);
-    let verified = counts_behind(r, c);
+    let attested = counts_after(r, c);
     let mut next = r;
     next.stage = token + 1;
     next.position = 0;
     next.conversation = conversation;
-    next.told = 0;
-    next.asked = c.asked;
+    next.metadata = 0;
+    next.requested = c.requested;
     next.chosen = c.chosen;
-    next.verified = verified;
-    next.heard = c.heard;
+    next.attested = attested;
+    next.confirmed = c.confirmed;
     next.sequence = r.sequence + n;
     next.used = r.used + t.len();
     next
 }
 
-// The record behind a token of n messages: the first gives the common schemes, the reply the kept places too.
+// The record after a token of n messages: the first gives the common schemes, the reply the kept places too.
 pub(crate) fn taken_record(r: Record, t: &[u8], n: u32, c: Scan) -> Record
     requires { ⌜ Taking r (length (now t)) n ⌝ }
     ensures { λ a. ⌜ a ≡ taken r (now (t .entry)) n c ⌝ }
 {
     let token = reading_token(r.acceptor, r.stage);
     let mut next = moved(r, t, n, c);
-    if token == 0 {
+    if token == Turn::FIRST {
         next.common = common_set(&r.list, r.count, listed(t));
         return next;
     }
-    if token == 1 {
+    if token == Turn::ANSWER {
         let kept = kept_places(&r.list, r.count, listed(t));
         let places = kept.places;
         next.kept = places;

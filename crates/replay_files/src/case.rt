@@ -15,7 +15,7 @@ pub(crate) struct Case {
 impl Case {
     pub(crate) const WHOLE: u8 = 4;
 
-    // behind a line that is not of the form
+    // after a line that is not of the form
     pub(crate) const BAD: u8 = 5;
 }
 
@@ -27,7 +27,7 @@ fn nothing() -> GivenText {
     }
 }
 
-// A case behind its next line, which is of the form or not.
+// A case after its next line, which is of the form or not.
 fn counted(c: Case, ok: bool, lines: u8) -> Case {
     let mut next = c;
     if ok {
@@ -38,7 +38,7 @@ fn counted(c: Case, ok: bool, lines: u8) -> Case {
     next
 }
 
-// A case behind a line that is neither empty nor a comment.
+// A case after a line that is neither empty nor a comment.
 fn behind_line(c: Case, line: &[u8], ilist: &mut [u8], alist: &mut [u8]) -> Case {
     if c.lines == 0 {
         return counted(c, 0 < read_behind(line, b"initiator ").len(), 1);
@@ -62,7 +62,7 @@ fn behind_line(c: Case, line: &[u8], ilist: &mut [u8], alist: &mut [u8]) -> Case
     counted(c, false, Case::BAD)
 }
 
-// A case behind its next line: an empty one and a comment are passed over.
+// A case after its next line: an empty one and a comment are passed over.
 fn read_line(c: Case, line: &[u8], ilist: &mut [u8], alist: &mut [u8]) -> Case {
     if line.len() == 0 {
         return c;

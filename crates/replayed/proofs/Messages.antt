@@ -22,8 +22,8 @@ use Rattle.roundtrip.proofs.Heads.{head-fields}
 use Rattle.schemes.specs.Lists.{Id, joinIds}
 use Rattle.conversation.specs.declared.Record.{Record}
 use Rattle.conversation.specs.State.{ownOf, schemeAt}
-use Rattle.conversation.specs.Turns.{kindOf, typeOf}
-use Rattle.conversation.specs.Writing.{heading, messageOf, Speech, request, checksum, alarm, kindIn, contentsIn}
+use Rattle.conversation.specs.Turns.{classOf, typeOf}
+use Rattle.conversation.specs.Writing.{heading, messageOf, Speech, request, checksum, alarm, classIn, contentsIn}
 use Rattle.conversation.specs.Admitting.{schemeIn}
 use Rattle.conversation.proofs.Inside.{own-length}
 use Rattle.conversation.proofs.Logs.{type-known}
@@ -74,7 +74,7 @@ scheme-at r kind s c more is talk whole =
 pub scheme-exchange : (r : Record) (kind : ℕ) (s value : List ℕ) → length (r .conversation) ≡ 16 → length s ≡ 16 → schemeIn (messageOf r kind (ofExchange (record { scheme = s; value = value }))) ≡ s
 scheme-exchange r kind s value talk whole = scheme-at r kind s (ofExchange (record { scheme = s; value = value })) _ refl talk whole
 
-pub scheme-spoken : (r : Record) (s : Id) (c : Speech) → length (r .conversation) ≡ 16 → length s ≡ 16 → schemeIn (messageOf r (kindIn c) (contentsIn s c)) ≡ s
+pub scheme-spoken : (r : Record) (s : Id) (c : Speech) → length (r .conversation) ≡ 16 → length s ≡ 16 → schemeIn (messageOf r (classIn c) (contentsIn s c)) ≡ s
 scheme-spoken r s (request value) talk whole = scheme-exchange r _ s value talk whole
 scheme-spoken r s (checksum type value) talk whole = scheme-at r _ s (contentsIn s (checksum type value)) _ refl talk whole
 scheme-spoken r s (alarm code) talk whole = scheme-at r _ s (contentsIn s (alarm code)) _ refl talk whole

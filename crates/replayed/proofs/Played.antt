@@ -1,4 +1,4 @@
--- Turns played one behind the other: what the sides have read and written, and one more turn at the end.
+-- Turns played one after the other: what the sides have read and written, and one more turn at the end.
 -- Assumes nothing.
 use Prim.Native.Nat.{ℕ, _+_, _<_, _≤_}
 use mathlib.Core.Path.{_≡_, refl, sym, ap, subst, _∙_}

@@ -25,7 +25,7 @@ use Rattle.conversation.specs.State.{limitRows, fresh}
 use Rattle.conversation.specs.Outcomes.{zeroId}
 use Rattle.conversation.specs.Writing.{opening}
 use Rattle.conversation.specs.Runs.{Sized, Call, offer, reply, metadata, speak, read, choose, End, act, moved, Opening, World, world, outcomeAt, next, ends, Entry, run, isAccepted, Replied, ChoseWith}
-use Rattle.conversation.specs.Logs.{InOrder, Logs, nextLogs, logsBehind, logsOf, added, Counted}
+use Rattle.conversation.specs.Logs.{InOrder, Logs, nextLogs, logsAfter, logsOf, added, Counted}
 use Rattle.conversation.specs.Claims.{isReading, addedAt, writtenIn, readIn}
 use Rattle.conversation.proofs.Decides.{first-none}
 use Rattle.conversation.proofs.Accepted.{refused-stays}
@@ -231,13 +231,13 @@ module _ (c : Case) (s₀ : Sides) (v : List ℕ) where
 
   run-inv : (w : World) (l : Logs) (wi wa ri ra : List (List ℕ)) → Both w l → State w l wi wa ri ra → (cs : List (Bool × Call))
       → ((x : Entry) → List·Memᴰ x (run w cs) → isAccepted (x .said) ≡ true → Marked (x .acceptor) (marksOf (x .acceptor) c) (x .call))
-      → State (ends w cs) (logsBehind w l cs) (wi ++ writtenIn false w cs) (wa ++ writtenIn true w cs) (ri ++ readIn false w cs) (ra ++ readIn true w cs)
+      → State (ends w cs) (logsAfter w l cs) (wi ++ writtenIn false w cs) (wa ++ writtenIn true w cs) (ri ++ readIn false w cs) (ra ++ readIn true w cs)
   run-inv w l wi wa ri ra b h [] m = moved-to w l (nil wi) (nil wa) (nil ri) (nil ra) h
   run-inv w l wi wa ri ra b h (x ∷ cs) m =
       let y : Bool = x .0 in
       let k : Call = x .1 in
       let w′ : World = next w y k in
-      moved-to (ends w′ cs) (logsBehind w′ (nextLogs w y k l) cs)
+      moved-to (ends w′ cs) (logsAfter w′ (nextLogs w y k l) cs)
       (append-assoc wi (addedAt isWriting false w y k) (writtenIn false w′ cs))
       (append-assoc wa (addedAt isWriting true w y k) (writtenIn true w′ cs))
       (append-assoc ri (addedAt isReading false w y k) (readIn false w′ cs))

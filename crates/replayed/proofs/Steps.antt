@@ -57,7 +57,7 @@ accepted-reads : (e : End) (peer : List ℕ) → isAccepted (act e peer read .an
 unfolding act
 accepted-reads e peer a = a
 
--- an end behind an accepted call that writes
+-- an end after an accepted call that writes
 record Wrote (e e′ : End) (message : List ℕ) : Type 0 where
   type : ℕ
   head : Headed type (e .record-of .sequence) (e .record-of .conversation) message
@@ -133,7 +133,7 @@ fresh-barred marks r base m role st b on =
     let same : begun marks r ≡ r = rw (role, st) in
     on (ap (λ (q : Record). writes q) (b ∙ same) ∙ rw (role, st))
 
--- a turn so far begins with the number behind all that is played
+-- a turn so far begins with the number after all that is played
 abbrev Begins : ℕ → List (List ℕ) → Type 0
 Begins q [] = Unit {0}
 Begins q (m ∷ ms) = (rest : List ℕ) → headOf (m ++ rest) .sequence ≡ q

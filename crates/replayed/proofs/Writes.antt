@@ -1,4 +1,4 @@
--- A call of a run that writes: its message, and the writer's record behind it, are what a replay makes of the message.
+-- A call of a run that writes: its message, and the writer's record after it, are what a replay makes of the message.
 -- Assumes nothing.
 use Prim.Native.Nat.{ℕ, _+_, _*_, _^_, _<_, _≤_}
 use mathlib.Core.Path.{_≡_, refl, sym, ap, subst, _∙_}
@@ -21,9 +21,9 @@ use Rattle.schemes.specs.Sets.{left, named, below}
 use Rattle.schemes.specs.Answers.{withBit}
 use Rattle.conversation.specs.declared.Record.{Record}
 use Rattle.conversation.specs.State.{ownOf, schemeAt, limitRows}
-use Rattle.conversation.specs.Turns.{FIRST, ANSWER, FURTHER, NEGO, METADATA, EXCHANGE, VERIFY, ALERT, writing, kindOf, typeOf, after, afterOpening, afterFurther, writes, placeAfter, mayWrite}
+use Rattle.conversation.specs.Turns.{FIRST, ANSWER, FURTHER, NEGO, METADATA, EXCHANGE, VERIFY, ALERT, writing, classOf, typeOf, after, afterOpening, afterFurther, writes, placeAfter, mayWrite}
 use Rattle.conversation.specs.Outcomes.{Outcome, decide, row, room, fits, WrittenAs, unchanged, wrote, appended}
-use Rattle.conversation.specs.Writing.{negoIn, extensionRows, speechFits, messageOf, stageRows, thenFits, offered, offerRows, offering, someLeft, firstOr, replyMessage, naming, replyRows, replying, metadataAllowed, metadataMessage, metadataRows, writingMetadata, schemeNow, schemeAllowed, namedRows, Speech, request, checksum, alarm, kindIn, contentsIn, spoken, spokenAs, speaking}
+use Rattle.conversation.specs.Writing.{negoIn, extensionRows, speechFits, messageOf, stageRows, thenFits, offered, offerRows, offering, someLeft, firstOr, replyMessage, naming, replyRows, replying, metadataAllowed, metadataMessage, metadataRows, writingMetadata, schemeNow, schemeAllowed, namedRows, Speech, request, checksum, alarm, classIn, contentsIn, spoken, spokenAs, speaking}
 use Rattle.conversation.specs.Admitting.{schemeIn, listedBy}
 use Rattle.conversation.specs.Choosing.{openTo, chose, mayChoose, choosing}
 use Rattle.conversation.specs.Runs.{NegoCall, Sized, Call, offer, reply, metadata, speak, read, choose, End, act, turnAfter, isAccepted}
@@ -77,7 +77,7 @@ unfolding after afterOpening afterFurther
 no-metadata-first token v = elim (which (leb token 1)) [ inl e ↦ rw e | inr e ↦ elim (which (eqb token 2)) [ inl f ↦ rw (e, f) | inr f ↦ rw (e, f) ] ]
 
 -- a turn that begins with an exchange, a VERIFY or an ALERT is a later one
-speech-first : (s : Speech) (token : ℕ) (v : Bool) → not (eqb (after token 0 v (kindIn s)) 0) ≡ true → token ≡ 2
+speech-first : (s : Speech) (token : ℕ) (v : Bool) → not (eqb (after token 0 v (classIn s)) 0) ≡ true → token ≡ 2
 unfolding after afterOpening afterFurther
 speech-first (request value) token v h = elim (which (leb token 1)) [ inl f ↦ no-true (rw f at h) | inr f ↦ elim (which (eqb token 2)) [ inl e ↦ eqb-true _ _ e | inr e ↦ no-true (rw (f, e) at h) ] ]
 speech-first (checksum type value) token true h = no-true h
@@ -93,12 +93,12 @@ later-unchosen false st h = elim (which (eqb st 2)) [
   | inr e ↦ rw e
 ]
 
-kind-type : (a : Bool) (kind : ℕ) → kindOf true (typeOf true kind) ≡ kind → kindOf false (typeOf false kind) ≡ kind → kindOf a (typeOf a kind) ≡ kind
+kind-type : (a : Bool) (kind : ℕ) → classOf true (typeOf true kind) ≡ kind → classOf false (typeOf false kind) ≡ kind → classOf a (typeOf a kind) ≡ kind
 kind-type true kind e f = e
 kind-type false kind e f = f
 
-kind-speech : (a : Bool) (s : Speech) → kindOf a (typeOf a (kindIn s)) ≡ kindIn s
-unfolding kindOf typeOf
+kind-speech : (a : Bool) (s : Speech) → classOf a (typeOf a (classIn s)) ≡ classIn s
+unfolding classOf typeOf
 kind-speech true (request value) = refl
 kind-speech true (checksum type value) = refl
 kind-speech true (alarm code) = refl
@@ -106,7 +106,7 @@ kind-speech false (request value) = refl
 kind-speech false (checksum type value) = refl
 kind-speech false (alarm code) = refl
 
-said-spoken : (r : Record) (s : Speech) (id : Id) → saidAs r (kindIn s) id ≡ spokenAs r s
+said-spoken : (r : Record) (s : Speech) (id : Id) → saidAs r (classIn s) id ≡ spokenAs r s
 said-spoken r (request value) id = refl
 said-spoken r (checksum type value) id = refl
 said-spoken r (alarm code) id = refl
@@ -209,7 +209,7 @@ module _ (e : End) (peer : List ℕ) (log : List (List ℕ)) (ok : Sound (e .rec
       (λ g a. g)
 
   made : (k : Call) (base : Record) (kind : ℕ) (c : Contents) (w : WrittenAs)
-      → kindOf (base .acceptor) (typeOf (base .acceptor) kind) ≡ kind → base .acceptor ≡ r .acceptor → base .sequence ≡ r .sequence → base .conversation ≡ r .conversation → Whole c
+      → classOf (base .acceptor) (typeOf (base .acceptor) kind) ≡ kind → base .acceptor ≡ r .acceptor → base .sequence ≡ r .sequence → base .conversation ≡ r .conversation → Whole c
       → leb (r .used + length (messageOf base kind c)) (room d) ≡ true
       → saidAs base kind (schemeIn (messageOf base kind c)) ≡ w → mayWrite base kind ≡ true
       → added e peer k ≡ messageOf base kind c ∷ [] → turnAfter e k ≡ e .turn ++ messageOf base kind c
@@ -223,7 +223,7 @@ module _ (e : End) (peer : List ℕ) (log : List (List ℕ)) (ok : Sound (e .rec
       let h : Headed (typeOf (base .acceptor) kind) (base .sequence) (base .conversation) x = headed base kind c (omega (arith, counts)) (ap length talk ∙ ok .talk) whole (omega arith) in
       let h′ : Headed (typeOf (base .acceptor) kind) (r .sequence) (r .conversation) x =
       subst (λ (v : List ℕ). Headed (typeOf (base .acceptor) kind) (r .sequence) v x) talk (subst (λ (q : ℕ). Headed (typeOf (base .acceptor) kind) q (base .conversation) x) sequence h) in
-      let is : kindOf (base .acceptor) (headOf x .kind) ≡ kind = ap (kindOf (base .acceptor)) (h .kind) ∙ known in
+      let is : classOf (base .acceptor) (headOf x .kind) ≡ kind = ap (classOf (base .acceptor)) (h .kind) ∙ known in
       let same : said base x ≡ wrote base (placeAfter base kind) (length x) w =
       ap (λ (j : ℕ). wrote base (placeAfter base j) (length x) (saidAs base j (schemeIn x))) is ∙ ap (wrote base (placeAfter base kind) (length x)) says in
       let s = start h′ in
@@ -248,7 +248,7 @@ module _ (e : End) (peer : List ℕ) (log : List (List ℕ)) (ok : Sound (e .rec
   next-is rows action g = ap (λ (o : Outcome). o .answer .next) (sym (decide-passed rows r d action g))
 
   writes-offer : (nego : NegoCall) → isAccepted (act e peer (offer nego) .answer) ≡ true → Writes (offer nego)
-  unfolding act offering kindOf typeOf
+  unfolding act offering classOf typeOf
   writes-offer nego a =
       let x : List ℕ = offered r (nego .0) in
       let c : Contents = negoIn (nego .0) (take (16 * r .count) (r .list)) in
@@ -259,7 +259,7 @@ module _ (e : End) (peer : List ℕ) (log : List (List ℕ)) (ok : Sound (e .rec
       let role : not (r .acceptor) ≡ true = true-behind (stageRows r NEGO) (row 18 (not (r .acceptor))) (extensionRows (nego .0) ++ (fits r d (length x) ∷ [])) g in
       let (is-initiator, (x25, (x26, behind))) = back-true (stageRows r NEGO) (thenFits (offerRows r (nego .0)) r d x) g in
       let fit = true-behind (stageRows r NEGO ++ offerRows r (nego .0)) (fits r d (length x)) [] g in
-      let start = nego-start (writes r) (r .position) (r .verified) may in
+      let start = nego-start (writes r) (r .position) (r .attested) may in
       let first = initiator-first (r .acceptor) (r .stage) role (start .0) in
       let sized = own-sized r (ok .ids) in
       let (l1, (l2, rest)) = ok .limits in
@@ -274,12 +274,12 @@ module _ (e : End) (peer : List ℕ) (log : List (List ℕ)) (ok : Sound (e .rec
       })
 
   writes-reply : (nego : NegoCall) → isAccepted (act e peer (reply marks nego) .answer) ≡ true → Writes (reply marks nego)
-  unfolding act replying kindOf typeOf
+  unfolding act replying classOf typeOf
   writes-reply nego a =
       let l : List Id = left (ownOf r) (r .common) marks in
       let x : List ℕ = replyMessage r marks (nego .0) in
       let c : Contents = negoIn (nego .0) (joinIds l) in
-      let w : WrittenAs = record { marks = marks; told = r .told; asked = r .asked; verified = r .verified } in
+      let w : WrittenAs = record { marks = marks; metadata = r .metadata; requested = r .requested; attested = r .attested } in
       let rows : List Row = stageRows r NEGO ++ thenFits (replyRows r marks (nego .0)) r d x in
       let action : Outcome = naming l (appended r d (placeAfter r NEGO) x w) in
       let g = passed-by rows action refl a in
@@ -288,7 +288,7 @@ module _ (e : End) (peer : List ℕ) (log : List (List ℕ)) (ok : Sound (e .rec
       let (is-acceptor, (below-count, (x25, (x26, behind)))) = back-true (stageRows r NEGO) (thenFits (replyRows r marks (nego .0)) r d x) g in
       let some : someLeft l ≡ true = true-behind (stageRows r NEGO ++ (row 18 (r .acceptor) ∷ row 19 (below (r .count) marks) ∷ extensionRows (nego .0))) (row 17 (someLeft l)) (fits r d (length x) ∷ []) g in
       let fit = true-behind (stageRows r NEGO ++ replyRows r marks (nego .0)) (fits r d (length x)) [] g in
-      let start = nego-start (writes r) (r .position) (r .verified) may in
+      let start = nego-start (writes r) (r .position) (r .attested) may in
       let answers : writes r ≡ 1 = acceptor-answers (r .acceptor) (r .stage) role (start .0) in
       let sized = left-sized (ownOf r) (r .common) marks (own-sized r (ok .ids)) in
       let (l1, (l2, rest)) = ok .limits in
@@ -304,11 +304,11 @@ module _ (e : End) (peer : List ℕ) (log : List (List ℕ)) (ok : Sound (e .rec
       })
 
   writes-metadata : (id : Sized 16) (value : List ℕ) → isAccepted (act e peer (metadata id value) .answer) ≡ true → Writes (metadata id value)
-  unfolding act writingMetadata kindOf typeOf
+  unfolding act writingMetadata classOf typeOf
   writes-metadata id value a =
       let x : List ℕ = metadataMessage r (id .0) value in
       let c : Contents = ofExchange (record { scheme = id .0; value = value }) in
-      let w : WrittenAs = record { marks = r .marks; told = r .told + 2 ^ place (ownOf r) (id .0); asked = r .asked; verified = r .verified } in
+      let w : WrittenAs = record { marks = r .marks; metadata = r .metadata + 2 ^ place (ownOf r) (id .0); requested = r .requested; attested = r .attested } in
       let rows : List Row = stageRows r METADATA ++ thenFits (metadataRows r (id .0) (length value)) r d x in
       let action : Outcome = appended r d (placeAfter r METADATA) x w in
       let g = passed-by rows action refl a in
@@ -322,11 +322,11 @@ module _ (e : End) (peer : List ℕ) (log : List (List ℕ)) (ok : Sound (e .rec
         begins = λ p. absurd (none p may);
         goes-on = λ p q. refl;
       }) where
-        told-is : (s : Id) → metadataAllowed r s ≡ true → saidAs r METADATA s ≡ record { marks = r .marks; told = r .told + 2 ^ place (ownOf r) s; asked = r .asked; verified = r .verified }
+        told-is : (s : Id) → metadataAllowed r s ≡ true → saidAs r METADATA s ≡ record { marks = r .marks; metadata = r .metadata + 2 ^ place (ownOf r) s; requested = r .requested; attested = r .attested }
         told-is s h = rw (lt-ltb _ _ (place-own r s (allowed-own r s h))) (unfold withBit in rw (allowed-untold r s h))
 
         none : r .position ≡ 0 → mayWrite r METADATA ≡ true → ⊥
-        none p h = let z : not (eqb (after (writes r) 0 (r .verified) METADATA) 0) ≡ true = rw p at h in no-after (after (writes r) 0 (r .verified) METADATA) (no-metadata-first (writes r) (r .verified)) z
+        none p h = let z : not (eqb (after (writes r) 0 (r .attested) METADATA) 0) ≡ true = rw p at h in no-after (after (writes r) 0 (r .attested) METADATA) (no-metadata-first (writes r) (r .attested)) z
 
   writes-speech : (s : Speech) → isAccepted (act e peer (speak s) .answer) ≡ true → Writes (speak s)
   unfolding act speaking
@@ -334,17 +334,17 @@ module _ (e : End) (peer : List ℕ) (log : List (List ℕ)) (ok : Sound (e .rec
       let x : List ℕ = spoken r s in
       let id : Id = schemeAt r (schemeNow r) in
       let c : Contents = contentsIn id s in
-      let rows : List Row = stageRows r (kindIn s) ++ thenFits (namedRows r (speechFits s)) r d x in
-      let action : Outcome = appended r d (placeAfter r (kindIn s)) x (spokenAs r s) in
+      let rows : List Row = stageRows r (classIn s) ++ thenFits (namedRows r (speechFits s)) r d x in
+      let action : Outcome = appended r d (placeAfter r (classIn s)) x (spokenAs r s) in
       let g = passed-by rows action refl a in
-      let may : mayWrite r (kindIn s) ≡ true = true-behind (limitRows r) (row 18 (mayWrite r (kindIn s))) (thenFits (namedRows r (speechFits s)) r d x) g in
-      let allowed : schemeAllowed r ≡ true = true-behind (stageRows r (kindIn s) ++ (row 25 (speechFits s) ∷ [])) (row 15 (schemeAllowed r)) (fits r d (length x) ∷ []) g in
-      let fit = true-behind (stageRows r (kindIn s) ++ namedRows r (speechFits s)) (fits r d (length x)) [] g in
+      let may : mayWrite r (classIn s) ≡ true = true-behind (limitRows r) (row 18 (mayWrite r (classIn s))) (thenFits (namedRows r (speechFits s)) r d x) g in
+      let allowed : schemeAllowed r ≡ true = true-behind (stageRows r (classIn s) ++ (row 25 (speechFits s) ∷ [])) (row 15 (schemeAllowed r)) (fits r d (length x) ∷ []) g in
+      let fit = true-behind (stageRows r (classIn s) ++ namedRows r (speechFits s)) (fits r d (length x)) [] g in
       let whole : length id ≡ 16 = ok .ids (schemeNow r) (now-below r allowed) in
-      made (speak s) r (kindIn s) c (spokenAs r s) (kind-speech (r .acceptor) s) refl refl refl (whole-speech s id whole) fit (said-spoken r s (schemeIn x)) may refl refl (next-is rows action g)
+      made (speak s) r (classIn s) c (spokenAs r s) (kind-speech (r .acceptor) s) refl refl refl (whole-speech s id whole) fit (said-spoken r s (schemeIn x)) may refl refl (next-is rows action g)
       (λ h. record {
         begins = λ p.
-            let later : writes r ≡ 2 = speech-first s (writes r) (r .verified) (rw p at may) in
+            let later : writes r ≡ 2 = speech-first s (writes r) (r .attested) (rw p at may) in
             let no : mayChoose r ≡ false = later-unchosen (r .acceptor) (r .stage) later in
             let f : eqb (writes r) FIRST ≡ false = rw later in
             let n : eqb (writes r) ANSWER ≡ false = rw later in
@@ -359,7 +359,7 @@ module _ (e : End) (peer : List ℕ) (log : List (List ℕ)) (ok : Sound (e .rec
       let x : List ℕ = spoken q s in
       let id : Id = schemeAt q (schemeNow q) in
       let l : List Id = named (ownOf r) (openTo r marks) in
-      let action : Outcome = naming l (appended q d (placeAfter q (kindIn s)) x (spokenAs q s)) in
+      let action : Outcome = naming l (appended q d (placeAfter q (classIn s)) x (spokenAs q s)) in
       let g = passed-by (choiceTable r d marks s) action refl a in
       let p = choice-passed r d marks s g in
       let role : r .acceptor ≡ false = not-true _ (and-l (not (r .acceptor)) (eqb (r .stage) 2) (p .may)) in
@@ -368,7 +368,7 @@ module _ (e : End) (peer : List ℕ) (log : List (List ℕ)) (ok : Sound (e .rec
       let whole : length id ≡ 16 = ap (λ (k : ℕ). length (schemeAt q k)) (now-chosen r marks) ∙ ok .ids _ (chosen-below r marks (rw role at l7) (p .left)) in
       let f : eqb (writes r) FIRST ≡ false = rw none in
       let n : eqb (writes r) ANSWER ≡ false = rw none in
-      made (choose marks s) q (kindIn s) (contentsIn id s) (spokenAs q s) (kind-speech (r .acceptor) s) refl refl refl (whole-speech s id whole) (p .fitting) (said-spoken q s (schemeIn x)) (p .speaks) refl refl (next-is (choiceTable r d marks s) action g)
+      made (choose marks s) q (classIn s) (contentsIn id s) (spokenAs q s) (kind-speech (r .acceptor) s) refl refl refl (whole-speech s id whole) (p .fitting) (said-spoken q s (schemeIn x)) (p .speaks) refl refl (next-is (choiceTable r d marks s) action g)
       (λ h. record {
         begins = λ z. (sym (begun-choice marks r (p .may)), λ more. owed-choice marks r (x ++ more) f n (p .may) (p .left) (scheme-front x more (h .long) ∙ scheme-spoken q id s (ok .talk) whole ∙ scheme-chosen r marks (p .left)));
         goes-on = λ z y. absurd (y none);

@@ -15,7 +15,7 @@
 --   Begun              a replay at work has not begun: what is left of it is the whole
 --   Stood, stood       a replay at work, with its transcript
 --   roleOf x s         the record of a role
---   wentOn, endedWith  a replay at work behind an accepted turn, and behind a refused one; whoseIn: whose the refusal is
+--   wentOn, endedWith  a replay at work after an accepted turn, and after a refused one; whoseIn: whose the refusal is
 --   heardBy            either, by the reader's outcome; afterTurn: by the turn
 --   Ready s k n        what a turn of k octets and n messages asks of a replay at work
 --   octetsIn, turnIn   the octets of the turn that a replay at work has just played, and the turn
@@ -57,7 +57,7 @@ whoseAs k = cond (eqb k 0) initiator (cond (eqb k 1) acceptor neither)
 unfoldable pub endingAs : Fault → Ending
 endingAs f = cond (f .missing) unopened (cond (eqb (f .refusal) 0) finished (refused (f .refusal) (f .place .0) (whoseAs (f .whose))))
 
--- behind the lists: each file, and 24
+-- after the lists: each file, and 24
 unfoldable pub filesEnding : Found → List ℕ → List ℕ → Ending
 filesEnding f i a =
     firstEnding (fileEnding initiator (fileIf (f .initiator) i))
@@ -131,7 +131,7 @@ abbrev pub roleOf : Bool → Replay → Record
 roleOf false s = s .initiator
 roleOf true s = s .acceptor
 
--- behind an accepted turn of n messages and k octets
+-- after an accepted turn of n messages and k octets
 abbrev pub wentOn : Bool → Replay → Record → Record → ℕ → ℕ → Replay
 wentOn false s w r k n = record {
   initiator = w;
@@ -195,7 +195,7 @@ pub record Ready (s : Replay) (k n : ℕ) : Type 0 where
   pub numbers : s .number + n < 4294967296
   pub turns : s .turns + 1 < 4294967296
 
--- the octets of the last turn, between the places before it and behind it
+-- the octets of the last turn, between the places before it and after it
 abbrev pub octetsIn : Bool → List ℕ → List ℕ → Replay → Replay → List ℕ
 octetsIn false i a s s′ = take (s′ .iplace - s .iplace) (drop (s .iplace) i)
 octetsIn true i a s s′ = take (s′ .aplace - s .aplace) (drop (s .aplace) a)

@@ -1,4 +1,4 @@
--- Each line as the calls that write it, one behind the other, in the words of the code: t is the text before, u the text after.
+-- Each line as the calls that write it, one after the other, in the words of the code: t is the text before, u the text after.
 -- Assumes nothing.
 use Prim.Native.Nat.{ℕ, suc, _+_, _≤_, _<_}
 use mathlib.Core.Path.{_≡_, sym, ap, _∙_}

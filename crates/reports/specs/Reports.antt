@@ -3,9 +3,9 @@
 --
 -- Glossary
 --   digitsOf v         octets as digits; wroteText v: a written message
---   choiceText i n     a choice, behind a written message: its id, and how many were left
+--   choiceText i n     a choice, after a written message: its id, and how many were left
 --   namesChoice v      the verb v is that of a call that answers one
---   numbersLine        a line of two numbers, each behind its words
+--   numbersLine        a line of two numbers, each after its words
 --   usedLine i a       the last line
 --   reportOf c a m     the line of the command c, whose call answered a and wrote the message m
 use Prim.Native.Nat.{ℕ}

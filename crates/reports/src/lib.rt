@@ -10,7 +10,7 @@ use text::hex;
 use text::id;
 use text::wide_field;
 
-// Two numbers, each behind its words, and the line's end.
+// Two numbers, each after its words, and the line's end.
 fn numbers(d: &mut [u8], words: &[u8], n: u32, further: &[u8], k: usize) -> usize
     ensures { λ r. ⌜ text (now (d .exit)) r ≡ written (numbersLine (now (words .entry)) n (now (further .entry)) k) (text (now (d .entry)) 0) ⌝ }
 {

@@ -32,7 +32,7 @@ module _ (r : Record) (t : ℕ) (t-is : t ≡ writing (r .acceptor) (r .stage)) 
   now-first e = rw (← t-is, e)
 
   module _ (f : t ≡ 0 → ⊥) where
-    pub now-answer : t ≡ 1 → r .asked ≡ schemeNow r
+    pub now-answer : t ≡ 1 → r .requested ≡ schemeNow r
     unfolding schemeNow
     now-answer e = rw (← t-is, e)
 
@@ -75,9 +75,9 @@ starts-none (x ∷ l) id e = no-true e
 
 module _ (r : Record) (b : Inside r) (z : Left) (z-is : z ≡ leftOf (leftPlaces 16 (r .common) (r .marks))) where
   pub first-empty : z .left ≡ 0 → false ≡ firstOfReply r
-  first-empty e = go (ltb (r .asked) (r .count)) where
-    go : (b : Bool) → false ≡ (b && startsWith (replied r) (schemeAt r (r .asked)))
-    go true = sym (starts-none (replied r) (schemeAt r (r .asked)) (own-none (r .list) (r .count) z (b .few) (r .common) (r .marks) (b .bound) z-is e))
+  first-empty e = go (ltb (r .requested) (r .count)) where
+    go : (b : Bool) → false ≡ (b && startsWith (replied r) (schemeAt r (r .requested)))
+    go true = sym (starts-none (replied r) (schemeAt r (r .requested)) (own-none (r .list) (r .count) z (b .few) (r .common) (r .marks) (b .bound) z-is e))
     go false = refl
 
   module _ (some : z .left ≡ 0 → ⊥) where
@@ -87,25 +87,25 @@ module _ (r : Record) (b : Inside r) (z : Left) (z-is : z ≡ leftOf (leftPlaces
     inside : z .place < r .count
     inside = own-place (r .list) (r .count) z (b .few) (r .common) (r .marks) (b .bound) z-is left-some
 
-    starts : startsWith (replied r) (schemeAt r (r .asked)) ≡ sameOctets (schemeAt r (r .asked)) (schemeAt r (z .place))
+    starts : startsWith (replied r) (schemeAt r (r .requested)) ≡ sameOctets (schemeAt r (r .requested)) (schemeAt r (z .place))
     starts =
-        own-starts (r .list) (r .count) z (b .few) (r .common) (r .marks) (b .bound) z-is left-some (schemeAt r (r .asked))
-        ∙ ap (sameOctets (schemeAt r (r .asked))) (sym (id-at (r .count) (r .list) (z .place) inside))
+        own-starts (r .list) (r .count) z (b .few) (r .common) (r .marks) (b .bound) z-is left-some (schemeAt r (r .requested))
+        ∙ ap (sameOctets (schemeAt r (r .requested))) (sym (id-at (r .count) (r .list) (z .place) inside))
 
     place-at : (k : ℕ) → k < r .count → place (ownOf r) (schemeAt r k) ≡ k
     place-at k h = place-of (ownOf r) k (b .different) (rw length-ids h)
 
-    pub first-same : eqb (z .place) (r .asked) ≡ firstOfReply r
-    first-same = rw starts (go (which (eqb (z .place) (r .asked))) (which (ltb (r .asked) (r .count))) (which (sameOctets (schemeAt r (r .asked)) (schemeAt r (z .place))))) where
-      go : (eqb (z .place) (r .asked) ≡ true) ⊎ (eqb (z .place) (r .asked) ≡ false) → (ltb (r .asked) (r .count) ≡ true) ⊎ (ltb (r .asked) (r .count) ≡ false)
-          → (sameOctets (schemeAt r (r .asked)) (schemeAt r (z .place)) ≡ true) ⊎ (sameOctets (schemeAt r (r .asked)) (schemeAt r (z .place)) ≡ false)
-          → eqb (z .place) (r .asked) ≡ (ltb (r .asked) (r .count) && sameOctets (schemeAt r (r .asked)) (schemeAt r (z .place)))
+    pub first-same : eqb (z .place) (r .requested) ≡ firstOfReply r
+    first-same = rw starts (go (which (eqb (z .place) (r .requested))) (which (ltb (r .requested) (r .count))) (which (sameOctets (schemeAt r (r .requested)) (schemeAt r (z .place))))) where
+      go : (eqb (z .place) (r .requested) ≡ true) ⊎ (eqb (z .place) (r .requested) ≡ false) → (ltb (r .requested) (r .count) ≡ true) ⊎ (ltb (r .requested) (r .count) ≡ false)
+          → (sameOctets (schemeAt r (r .requested)) (schemeAt r (z .place)) ≡ true) ⊎ (sameOctets (schemeAt r (r .requested)) (schemeAt r (z .place)) ≡ false)
+          → eqb (z .place) (r .requested) ≡ (ltb (r .requested) (r .count) && sameOctets (schemeAt r (r .requested)) (schemeAt r (z .place)))
       go (inl e) l s =
-          let p : z .place ≡ r .asked = eqb-true _ _ e in
+          let p : z .place ≡ r .requested = eqb-true _ _ e in
           e ∙ sym (rw (← p, lt-ltb _ _ inside) (same-refl (schemeAt r (z .place))))
       go (inr e) (inr l) s = rw (e, l)
       go (inr e) (inl l) (inr s) = rw (e, l, s)
       go (inr e) (inl l) (inl s) =
-          absurd (eqb-false _ _ e (sym (place-at (z .place) inside) ∙ ap (place (ownOf r)) (sym (same-eq _ _ s)) ∙ place-at (r .asked) (ltb-true _ _ l)))
+          absurd (eqb-false _ _ e (sym (place-at (z .place) inside) ∙ ap (place (ownOf r)) (sym (same-eq _ _ s)) ∙ place-at (r .requested) (ltb-true _ _ l)))
 
 pub ruleset firsts = (first-empty, first-same)

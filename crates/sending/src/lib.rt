@@ -7,6 +7,7 @@ ghost use Rattle.calls.specs.Calls.{writeRefusal, Inside};
 use calls::has_room;
 use calls::stage_refusal;
 use conversation::Record;
+use conversation::Turn;
 use conversation::turns::writing_token;
 use schemes::choosing::choose_own;
 use schemes::list::id_of;
@@ -16,11 +17,11 @@ fn scheme_now(r: Record) -> usize
     ensures { λ a. ⌜ a ≡ schemeNow r ⌝ }
 {
     let token = writing_token(r.acceptor, r.stage);
-    if token == 0 {
+    if token == Turn::FIRST {
         return 0;
     }
-    if token == 1 {
-        return r.asked;
+    if token == Turn::ANSWER {
+        return r.requested;
     }
     r.chosen
 }
@@ -34,7 +35,7 @@ fn first_of_reply(r: Record) -> bool
     if left.left == 0 {
         return false;
     }
-    left.place as usize == r.asked
+    left.place as usize == r.requested
 }
 
 // 15, where the scheme follows from the rule.
@@ -43,7 +44,7 @@ fn scheme_allowed(r: Record) -> bool
     ensures { λ a. ⌜ a ≡ schemeAllowed r ⌝ }
 {
     let token = writing_token(r.acceptor, r.stage);
-    if token == 1 {
+    if token == Turn::ANSWER {
         return first_of_reply(r);
     }
     scheme_now(r) < r.count
@@ -60,10 +61,10 @@ pub fn scheme_id(r: Record) -> [u8; 16]
 }
 
 // The first refusal of a message of n octets behind its header, whose content keeps its limits or doesn't, or 0.
-pub fn named_refusal(r: Record, kind: u8, fit: bool, header: usize, n: usize, len: usize) -> u32
-    ensures { λ a. ⌜ a ≡ writeRefusal r kind (namedRows r fit) (header + n) len ⌝ }
+pub fn named_refusal(r: Record, class: u8, fit: bool, header: usize, n: usize, len: usize) -> u32
+    ensures { λ a. ⌜ a ≡ writeRefusal r class (namedRows r fit) (header + n) len ⌝ }
 {
-    let stage = stage_refusal(r, kind);
+    let stage = stage_refusal(r, class);
     if stage != 0 {
         return stage;
     }

@@ -4,15 +4,15 @@ ghost use mathlib.Core.Bool.{true};
 ghost use Rattle.elements.specs.Elements.{itemsOf, elementsFit};
 ghost use Rattle.encode.specs.Encode.{alertOf};
 ghost use Rattle.conversation.specs.Turns.{ALERT};
-ghost use Rattle.conversation.specs.Outcomes.{Outcome};
-ghost use Rattle.conversation.specs.Writing.{alarm, speaking};
+ghost use Rattle.conversation.specs.Outcomes.{leaving};
+ghost use Rattle.conversation.specs.Writing.{alarm, speaking, alertContent};
 ghost use Rattle.conversation.specs.Choosing.{choosing};
 ghost use Rattle.calls.specs.Calls.{Ready, Appended};
-use calls::ALERT;
 use calls::answer;
 use calls::next::after_message;
 use calls::next::heading_of;
 use conversation::Answer;
+use conversation::Class;
 use conversation::Record;
 use elements::Elements;
 use elements::fits;
@@ -41,10 +41,10 @@ fn append_alert(
     requires { ⌜ (elementsFit alerts (now values) ≡ true) × Ready r (now transcript) ALERT (alertOf id code (itemsOf alerts (now values))) ⌝ }
     ensures { λ a. ⌜ Appended r (now (transcript .entry)) ALERT (alertOf id code (itemsOf alerts (now (values .entry)))) (now (transcript .exit)) a ⌝ }
 {
-    let heading = heading_of(r, ALERT);
+    let heading = heading_of(r, Class::ALERT);
     let size = size_of(alerts, values);
     write(transcript, r.used, heading, id, code, alerts, values);
-    after_message(r, ALERT, HEADER + size)
+    after_message(r, Class::ALERT, HEADER + size)
 }
 
 // Writes an ALERT of the chosen scheme: an error code, with alerts.
@@ -55,11 +55,11 @@ pub fn write_alert(
     alerts: Elements,
     values: &[u8],
 ) -> Answer
-    ensures { λ a. ⌜ _≡_ {A = Outcome} (record { answer = a; transcript = now (transcript .exit) }) (speaking r (now (transcript .entry)) (alarm (record { code = code; alerts = alerts; values = now (values .entry) }))) ⌝ }
+    ensures { λ a. ⌜ leaving a (now (transcript .exit)) ≡ speaking r (now (transcript .entry)) (alarm (alertContent code alerts (now (values .entry)))) ⌝ }
 {
     let fit = fits(alerts, values);
     let size = size_of(alerts, values);
-    let n = named_refusal(r, ALERT, fit, HEADER, size, transcript.len());
+    let n = named_refusal(r, Class::ALERT, fit, HEADER, size, transcript.len());
     if n != 0 {
         return answer(n, TokenPlace(0), r);
     }
@@ -77,10 +77,10 @@ pub fn choose_alert(
     alerts: Elements,
     values: &[u8],
 ) -> Answer
-    ensures { λ a. ⌜ _≡_ {A = Outcome} (record { answer = a; transcript = now (transcript .exit) }) (choosing r (now (transcript .entry)) marks (alarm (record { code = code; alerts = alerts; values = now (values .entry) }))) ⌝ }
+    ensures { λ a. ⌜ leaving a (now (transcript .exit)) ≡ choosing r (now (transcript .entry)) marks (alarm (alertContent code alerts (now (values .entry)))) ⌝ }
 {
     let fit = fits(alerts, values);
-    let n = choice_refusal(r, ALERT, marks, fit);
+    let n = choice_refusal(r, Class::ALERT, marks, fit);
     if n != 0 {
         return answer(n, TokenPlace(0), r);
     }

@@ -12,20 +12,20 @@ use Rattle.conversation.specs.declared.Answer.{Answer}
 use Rattle.conversation.specs.State.{schemeAt}
 use Rattle.conversation.specs.Turns.{typeOf, writing}
 use Rattle.conversation.specs.Outcomes.{Outcome, answered}
-use Rattle.conversation.specs.Writing.{schemeNow, namedRows, request, askedBy, speaking}
+use Rattle.conversation.specs.Writing.{schemeNow, namedRows, request, requestedBy, speaking}
 use Rattle.calls.specs.Calls.{writeRefusal, Ready, Appended}
 use Rattle.conversation.specs.Claims.{Arrays}
 use Rattle.calls.proofs.Writes.{changed, write-ready}
 use Rattle.sending.proofs.Named.{named-refused, named-written}
 
 module _ (r : Record) (t : ℕ) (t-is : t ≡ writing (r .acceptor) (r .stage)) where
-  pub asked-first : t ≡ 0 → 0 ≡ askedBy r
-  asked-first e = rw (← t-is, e)
+  pub requested-first : t ≡ 0 → 0 ≡ requestedBy r
+  requested-first e = rw (← t-is, e)
 
-  pub asked-later : (t ≡ 0 → ⊥) → r .asked ≡ askedBy r
-  asked-later e = rw (← t-is, ne-eqb _ _ e)
+  pub requested-later : (t ≡ 0 → ⊥) → r .requested ≡ requestedBy r
+  requested-later e = rw (← t-is, ne-eqb _ _ e)
 
-pub ruleset askeds = (asked-first, asked-later)
+pub ruleset requesteds = (requested-first, requested-later)
 
 -- ---- the call, by its refusal
 module _ (r : Record) (arrays : Arrays r) (d value : List ℕ) (n : ℕ) (n-is : n ≡ writeRefusal r 3 (namedRows r true) (64 + length value) (length d)) where
@@ -42,9 +42,9 @@ module _ (r : Record) (arrays : Arrays r) (d value : List ℕ) (n : ℕ) (n-is :
     exchange-ready s = write-ready r d 3 (namedRows r true) (64 + length value) n n-is z refl (exchange s) refl tt refl refl
 
     module _ (s : List ℕ) (s-is : s ≡ schemeAt r (schemeNow r)) where
-      pub exchange-written : (k : ℕ) → k ≡ askedBy r → (d' : List ℕ) (next : Record) → Appended r d 3 (exchange s) d' next → (a : Answer)
-          → a ≡ answered 0 0 (changed next (record { marks = next .marks; told = next .told; asked = k; verified = next .verified }))
+      pub exchange-written : (k : ℕ) → k ≡ requestedBy r → (d' : List ℕ) (next : Record) → Appended r d 3 (exchange s) d' next → (a : Answer)
+          → a ≡ answered 0 0 (changed next (record { marks = next .marks; metadata = next .metadata; requested = k; attested = next .attested }))
           → _≡_ {A = Outcome} (record { answer = a; transcript = d' }) (speaking r d (request value))
       unfolding speaking
       exchange-written k k-is d' next y a a-is =
-          named-written r arrays d 3 true exchange (λ s l. l) (64 + length value) (λ t. refl) n n-is z (λ q. record { marks = q .marks; told = q .told; asked = askedBy r; verified = q .verified }) s s-is (exchange s) refl d' next y a (a-is ∙ rw k-is)
+          named-written r arrays d 3 true exchange (λ s l. l) (64 + length value) (λ t. refl) n n-is z (λ q. record { marks = q .marks; metadata = q .metadata; requested = requestedBy r; attested = q .attested }) s s-is (exchange s) refl d' next y a (a-is ∙ rw k-is)

@@ -50,14 +50,14 @@ module _ (r : Record) (id : Id) (p : ℕ) (p-is : p ≡ place (ownOf r) id) wher
   pub find-few : r .count ≤ 16 → p ≤ 16
   find-few h = omega (arith, p-is, place-most (ownOf r) id, length-ids (r .count) (r .list))
 
-  module _ (b : Bool) (b-is : b ≡ bit (r .told) p) where
+  module _ (b : Bool) (b-is : b ≡ bit (r .metadata) p) where
     pub told-again : b ≡ true → false ≡ metadataAllowed r id
     told-again e =
-        let q : bit (r .told) (place (ownOf r) id) ≡ true = rw (← p-is) (sym b-is ∙ e) in
+        let q : bit (r .metadata) (place (ownOf r) id) ≡ true = rw (← p-is) (sym b-is ∙ e) in
         rw q (none (mem id (cond (r .acceptor) (replied r) (ownOf r))))
 
     module _ (once : b ≡ false) where
-      q : bit (r .told) (place (ownOf r) id) ≡ false
+      q : bit (r .metadata) (place (ownOf r) id) ≡ false
       q = rw (← p-is) (sym b-is ∙ once)
 
       pub told-acceptor : r .acceptor ≡ true → (x : Bool) → x ≡ mem id (replied r) → x ≡ metadataAllowed r id
@@ -105,9 +105,9 @@ module _ (r : Record) (id : Id) (v len n : ℕ) (n-is : n ≡ writeRefusal r 2 (
   pub metadata-place : (p : ℕ) → p ≡ place (ownOf r) id → p < 16
   metadata-place p p-is = omega (arith, p-is, place-own r id (allowed-own r id allowed), length-ids (r .count) (r .list), metadata-inside .few)
 
-  metadata-told : (p : ℕ) → p ≡ place (ownOf r) id → withBit (r .told) p ≡ r .told + 2 ^ place (ownOf r) id
+  metadata-told : (p : ℕ) → p ≡ place (ownOf r) id → withBit (r .metadata) p ≡ r .metadata + 2 ^ place (ownOf r) id
   unfolding withBit
-  metadata-told p p-is = ap (withBit (r .told)) p-is ∙ rw (allowed-untold r id allowed)
+  metadata-told p p-is = ap (withBit (r .metadata)) p-is ∙ rw (allowed-untold r id allowed)
 
 module _ (r : Record) (arrays : Arrays r) (d : List ℕ) (id : Id) (full : length id ≡ 16) (value : List ℕ) (n : ℕ) (n-is : n ≡ writeRefusal r 2 (metadataRows r id (length value)) (64 + length value) (length d)) where
   abbrev contents : Contents
@@ -125,11 +125,11 @@ module _ (r : Record) (arrays : Arrays r) (d : List ℕ) (id : Id) (full : lengt
     unfolding typeOf
     metadata-ready = write-ready r d 2 (metadataRows r id (length value)) (64 + length value) n n-is z refl contents refl tt refl refl
 
-    pub metadata-written : (p : ℕ) → p ≡ place (ownOf r) id → (t : ℕ) → t ≡ withBit (r .told) p → (d' : List ℕ) (next : Record) → Appended r d 2 contents d' next → (a : Answer)
-        → a ≡ answered 0 0 (changed next (record { marks = next .marks; told = t; asked = next .asked; verified = next .verified }))
+    pub metadata-written : (p : ℕ) → p ≡ place (ownOf r) id → (t : ℕ) → t ≡ withBit (r .metadata) p → (d' : List ℕ) (next : Record) → Appended r d 2 contents d' next → (a : Answer)
+        → a ≡ answered 0 0 (changed next (record { marks = next .marks; metadata = t; requested = next .requested; attested = next .attested }))
         → _≡_ {A = Outcome} (record { answer = a; transcript = d' }) (writingMetadata r d id value)
     unfolding writingMetadata
     metadata-written p p-is t t-is d' next y a a-is =
-        let e : t ≡ r .told + 2 ^ place (ownOf r) id = t-is ∙ metadata-told r id (length value) (length d) n n-is z p p-is in
+        let e : t ≡ r .metadata + 2 ^ place (ownOf r) id = t-is ∙ metadata-told r id (length value) (length d) n n-is z p p-is in
         write-written r arrays d 2 (metadataRows r id (length value)) contents (64 + length value) whole n n-is z refl
-        (λ q. record { marks = q .marks; told = r .told + 2 ^ place (ownOf r) id; asked = q .asked; verified = q .verified }) contents refl d' next y a (a-is ∙ rw e)
+        (λ q. record { marks = q .marks; metadata = r .metadata + 2 ^ place (ownOf r) id; requested = q .requested; attested = q .attested }) contents refl d' next y a (a-is ∙ rw e)

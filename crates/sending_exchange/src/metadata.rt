@@ -2,18 +2,18 @@
 ghost use mathlib.Core.Path.{_≡_};
 ghost use Prim.Native.Nat.{_+_};
 ghost use Rattle.conversation.specs.Turns.{METADATA};
-ghost use Rattle.conversation.specs.Outcomes.{Outcome};
+ghost use Rattle.conversation.specs.Outcomes.{leaving};
 ghost use Rattle.conversation.specs.Writing.{metadataAllowed, metadataRows, writingMetadata};
 ghost use Rattle.calls.specs.Calls.{writeRefusal, Inside};
 use super::exchange::HEADER;
 use super::exchange::append_payload;
-use calls::METADATA;
 use calls::answer;
 use calls::find_own;
 use calls::has_room;
 use calls::in_reply;
 use calls::stage_refusal;
 use conversation::Answer;
+use conversation::Class;
 use conversation::Record;
 use schemes::set::bit_of;
 use schemes::set::with_bit;
@@ -25,7 +25,7 @@ fn metadata_allowed(r: Record, id: [u8; 16]) -> bool
     ensures { λ a. ⌜ a ≡ metadataAllowed r id ⌝ }
 {
     let place = find_own(r, &id);
-    if bit_of(r.told, place as u32) {
+    if bit_of(r.metadata, place as u32) {
         return false;
     }
     if r.acceptor {
@@ -37,7 +37,7 @@ fn metadata_allowed(r: Record, id: [u8; 16]) -> bool
 fn metadata_refusal(r: Record, id: [u8; 16], n: usize, len: usize) -> u32
     ensures { λ a. ⌜ a ≡ writeRefusal r METADATA (metadataRows r id n) (64 + n) len ⌝ }
 {
-    let stage = stage_refusal(r, METADATA);
+    let stage = stage_refusal(r, Class::METADATA);
     if stage != 0 {
         return stage;
     }
@@ -55,15 +55,15 @@ fn metadata_refusal(r: Record, id: [u8; 16], n: usize, len: usize) -> u32
 
 // Writes metadata of a scheme that the own NEGO lists.
 pub fn write_metadata(r: Record, transcript: &mut [u8], id: [u8; 16], value: &[u8]) -> Answer
-    ensures { λ a. ⌜ _≡_ {A = Outcome} (record { answer = a; transcript = now (transcript .exit) }) (writingMetadata r (now (transcript .entry)) id (now (value .entry))) ⌝ }
+    ensures { λ a. ⌜ leaving a (now (transcript .exit)) ≡ writingMetadata r (now (transcript .entry)) id (now (value .entry)) ⌝ }
 {
     let n = metadata_refusal(r, id, value.len(), transcript.len());
     if n != 0 {
         return answer(n, TokenPlace(0), r);
     }
     let place = find_own(r, &id);
-    let told = with_bit(r.told, place as u32);
-    let mut next = append_payload(r, transcript, METADATA, id, value);
-    next.told = told;
+    let metadata = with_bit(r.metadata, place as u32);
+    let mut next = append_payload(r, transcript, Class::METADATA, id, value);
+    next.metadata = metadata;
     answer(0, TokenPlace(0), next)
 }

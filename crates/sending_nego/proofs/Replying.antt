@@ -137,8 +137,8 @@ module _ (r : Record) (d : List ℕ) (m : ℕ) (random : List ℕ) (e : Elements
     pub reply-named : (l : Left) → l ≡ leftOf (leftPlaces 16 (r .common) m) → (d' : List ℕ) (next : Record)
         → Appended r d 1 (negoOf random (take (16 * s .count) (s .octets)) (itemsOf e v)) d' next
         → (id : List ℕ) → id ≡ octets 16 (r .list) (16 * l .place) → (a : Answer)
-        → a ≡ record { refusal = 0; place = record { 0 = 0 }; messages = 0; choice = id; left = l .left; next = changed next (record { marks = m; told = next .told; asked = next .asked; verified = next .verified }) }
-        → _≡_ {A = Outcome} (record { answer = a; transcript = d' }) (naming (listed r m) (appended r d (placeAfter r 1) (messageOf r 1 (negoOf random (joinIds (listed r m)) (itemsOf e v))) (record { marks = m; told = r .told; asked = r .asked; verified = r .verified })))
+        → a ≡ record { refusal = 0; place = record { 0 = 0 }; messages = 0; choice = id; left = l .left; next = changed next (record { marks = m; metadata = next .metadata; requested = next .requested; attested = next .attested }) }
+        → _≡_ {A = Outcome} (record { answer = a; transcript = d' }) (naming (listed r m) (appended r d (placeAfter r 1) (messageOf r 1 (negoOf random (joinIds (listed r m)) (itemsOf e v))) (record { marks = m; metadata = r .metadata; requested = r .requested; attested = r .attested })))
     reply-named l l-is d' next w id id-is a a-is =
         let x : Appended r d 1 (negoOf random (joinIds (listed r m)) (itemsOf e v)) d' next = rw reply-octets at w in
         rw (a-is, x .counted, x .holds, id-is, own-first (r .list) (r .count) l (inside .few) (r .common) m (inside .bound) l-is (y .some), own-count (r .list) (r .count) l (inside .few) (r .common) m (inside .bound) l-is)
@@ -177,6 +177,6 @@ module _ (r : Record) (arrays : Arrays r) (d : List ℕ) (m : ℕ) (g : NegoCont
           some = own .1 .1 .1 .1 .0;
         }
 
-    pub reply-written : (o : Outcome) → o ≡ naming (listed r m) (appended r d (placeAfter r 1) (messageOf r 1 answer) (record { marks = m; told = r .told; asked = r .asked; verified = r .verified })) → o ≡ replying r d m g
+    pub reply-written : (o : Outcome) → o ≡ naming (listed r m) (appended r d (placeAfter r 1) (messageOf r 1 answer) (record { marks = m; metadata = r .metadata; requested = r .requested; attested = r .attested })) → o ≡ replying r d m g
     unfolding replying
     reply-written o e = e ∙ write-passed r arrays d 1 (replyRows r m g) answer (replySize r m g) whole n n-is z refl _

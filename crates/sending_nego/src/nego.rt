@@ -9,9 +9,9 @@ ghost use Rattle.conversation.specs.Turns.{NEGO};
 ghost use Rattle.conversation.specs.Writing.{extensionRows};
 ghost use Rattle.calls.specs.Calls.{Appended};
 ghost use Rattle.sending_nego.specs.Ready.{tested, NegoReady};
-use calls::NEGO;
 use calls::next::after_message;
 use calls::next::heading_of;
+use conversation::Class;
 use conversation::Record;
 use elements::Elements;
 use elements::are_ordinary;
@@ -59,7 +59,7 @@ pub(crate) fn append_nego(
     requires { ⌜ NegoReady r (now transcript) random (now schemes) extensions (now values) ⌝ }
     ensures { λ a. ⌜ Appended r (now (transcript .entry)) NEGO (negoOf random (now (schemes .entry)) (itemsOf extensions (now (values .entry)))) (now (transcript .exit)) a ⌝ }
 {
-    let heading = heading_of(r, NEGO);
+    let heading = heading_of(r, Class::NEGO);
     let n = schemes.len();
     let size = size_of(extensions, values);
     write(
@@ -71,5 +71,5 @@ pub(crate) fn append_nego(
         extensions,
         values,
     );
-    after_message(r, NEGO, HEADER + n + size)
+    after_message(r, Class::NEGO, HEADER + n + size)
 }

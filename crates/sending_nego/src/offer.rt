@@ -3,18 +3,18 @@ ghost use mathlib.Core.Path.{_≡_};
 ghost use Prim.Native.Nat.{_+_, _*_};
 ghost use Rattle.elements.specs.Elements.{handedSize};
 ghost use Rattle.conversation.specs.Turns.{NEGO};
-ghost use Rattle.conversation.specs.Outcomes.{Outcome};
-ghost use Rattle.conversation.specs.Writing.{offerRows, offering};
+ghost use Rattle.conversation.specs.Outcomes.{leaving};
+ghost use Rattle.conversation.specs.Writing.{offerRows, offering, negoContent};
 ghost use Rattle.calls.specs.Calls.{writeRefusal};
 ghost use Rattle.sending_nego.specs.Ready.{tested};
 use super::nego::HEADER;
 use super::nego::append_nego;
 use super::nego::extension_refusal;
-use calls::NEGO;
 use calls::answer;
 use calls::has_room;
 use calls::stage_refusal;
 use conversation::Answer;
+use conversation::Class;
 use conversation::Record;
 use elements::Elements;
 use elements::size_of;
@@ -24,7 +24,7 @@ use vector::TokenPlace;
 fn offer_refusal(r: Record, test: bool, extensions: Elements, values: &[u8], len: usize) -> u32
     ensures { λ a. ⌜ a ≡ writeRefusal r NEGO (offerRows r (tested test extensions (now (values .entry)))) (96 + 16 * r .count + handedSize extensions (now (values .entry))) len ⌝ }
 {
-    let n = stage_refusal(r, NEGO);
+    let n = stage_refusal(r, Class::NEGO);
     if n != 0 {
         return n;
     }
@@ -51,7 +51,7 @@ pub fn write_offer(
     extensions: Elements,
     values: &[u8],
 ) -> Answer
-    ensures { λ a. ⌜ _≡_ {A = Outcome} (record { answer = a; transcript = now (transcript .exit) }) (offering r (now (transcript .entry)) (record { random = random; test = test; extensions = extensions; values = now (values .entry) })) ⌝ }
+    ensures { λ a. ⌜ leaving a (now (transcript .exit)) ≡ offering r (now (transcript .entry)) (negoContent random test extensions (now (values .entry))) ⌝ }
 {
     let n = offer_refusal(r, test, extensions, values, transcript.len());
     if n != 0 {

@@ -8,19 +8,19 @@ ghost use Rattle.schemes.specs.Lists.{joinIds};
 ghost use Rattle.schemes.specs.Sets.{left};
 ghost use Rattle.conversation.specs.State.{ownOf};
 ghost use Rattle.conversation.specs.Turns.{NEGO, placeAfter};
-ghost use Rattle.conversation.specs.Outcomes.{Outcome, appended};
-ghost use Rattle.conversation.specs.Writing.{messageOf, replyRows, naming, replying};
+ghost use Rattle.conversation.specs.Outcomes.{leaving, marking, appended};
+ghost use Rattle.conversation.specs.Writing.{messageOf, replyRows, naming, replying, negoContent};
 ghost use Rattle.calls.specs.Calls.{writeRefusal};
 ghost use Rattle.sending_nego.specs.Ready.{tested, ReplyReady};
 use super::nego::HEADER;
 use super::nego::append_nego;
 use super::nego::extension_refusal;
-use calls::NEGO;
 use calls::answer;
 use calls::has_room;
 use calls::naming;
 use calls::stage_refusal;
 use conversation::Answer;
+use conversation::Class;
 use conversation::Record;
 use elements::Elements;
 use elements::size_of;
@@ -41,7 +41,7 @@ fn reply_refusal(
 ) -> u32
     ensures { λ a. ⌜ a ≡ writeRefusal r NEGO (replyRows r marks (tested test extensions (now (values .entry)))) (96 + 16 * length (left (ownOf r) (r .common) marks) + handedSize extensions (now (values .entry))) len ⌝ }
 {
-    let n = stage_refusal(r, NEGO);
+    let n = stage_refusal(r, Class::NEGO);
     if n != 0 {
         return n;
     }
@@ -76,7 +76,7 @@ fn reply_with(
     values: &[u8],
 ) -> Answer
     requires { ⌜ ReplyReady r (now transcript) marks random extensions (now values) ⌝ }
-    ensures { λ a. ⌜ _≡_ {A = Outcome} (record { answer = a; transcript = now (transcript .exit) }) (naming (left (ownOf r) (r .common) marks) (appended r (now (transcript .entry)) (placeAfter r NEGO) (messageOf r NEGO (negoOf random (joinIds (left (ownOf r) (r .common) marks)) (itemsOf extensions (now (values .entry))))) (record { marks = marks; told = r .told; asked = r .asked; verified = r .verified }))) ⌝ }
+    ensures { λ a. ⌜ leaving a (now (transcript .exit)) ≡ naming (left (ownOf r) (r .common) marks) (appended r (now (transcript .entry)) (placeAfter r NEGO) (messageOf r NEGO (negoOf random (joinIds (left (ownOf r) (r .common) marks)) (itemsOf extensions (now (values .entry))))) (marking marks r)) ⌝ }
 {
     let list = r.list;
     let s = gather(list, r.count, r.common & !marks);
@@ -99,7 +99,7 @@ pub fn write_reply(
     extensions: Elements,
     values: &[u8],
 ) -> Answer
-    ensures { λ a. ⌜ _≡_ {A = Outcome} (record { answer = a; transcript = now (transcript .exit) }) (replying r (now (transcript .entry)) marks (record { random = random; test = test; extensions = extensions; values = now (values .entry) })) ⌝ }
+    ensures { λ a. ⌜ leaving a (now (transcript .exit)) ≡ replying r (now (transcript .entry)) marks (negoContent random test extensions (now (values .entry))) ⌝ }
 {
     let n = reply_refusal(r, marks, test, extensions, values, transcript.len());
     if n != 0 {

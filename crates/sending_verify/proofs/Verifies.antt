@@ -36,10 +36,10 @@ module _ (r : Record) (arrays : Arrays r) (d : List ℕ) (type : ℤ) (value : L
 
     module _ (s : List ℕ) (s-is : s ≡ schemeAt r (schemeNow r)) (t : ℤ) (t-is : t ≡ type) where
       pub verify-written : (d' : List ℕ) (next : Record) → Appended r d 4 (ofVerify (record { scheme = s; type = t; value = value })) d' next → (a : Answer)
-          → a ≡ answered 0 0 (changed next (record { marks = next .marks; told = next .told; asked = next .asked; verified = true }))
+          → a ≡ answered 0 0 (changed next (record { marks = next .marks; metadata = next .metadata; requested = next .requested; attested = true }))
           → _≡_ {A = Outcome} (record { answer = a; transcript = d' }) (speaking r d (checksum type value))
       unfolding speaking
-      verify-written = named-written r arrays d 4 true verify (λ s l. l) (80 + length value) (λ t. refl) n n-is z (λ q. record { marks = q .marks; told = q .told; asked = q .asked; verified = true }) s s-is _ (rw t-is)
+      verify-written = named-written r arrays d 4 true verify (λ s l. l) (80 + length value) (λ t. refl) n n-is z (λ q. record { marks = q .marks; metadata = q .metadata; requested = q .requested; attested = true }) s s-is _ (rw t-is)
 
 -- ---- with the choice
 pub choose-verify-made : (r : Record) (d : List ℕ) (m : ℕ) (type : ℤ) (value : List ℕ) (n : ℕ) → n ≡ callRefusal r (choiceRows r m true 4) → n ≡ 0 → (q : Record) → q ≡ chose r m → (t : ℤ) → t ≡ type

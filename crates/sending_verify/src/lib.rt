@@ -2,15 +2,15 @@
 ghost use mathlib.Core.Path.{_≡_};
 ghost use Rattle.encode.specs.Encode.{ofVerify};
 ghost use Rattle.conversation.specs.Turns.{VERIFY};
-ghost use Rattle.conversation.specs.Outcomes.{Outcome};
+ghost use Rattle.conversation.specs.Outcomes.{leaving};
 ghost use Rattle.conversation.specs.Writing.{checksum as Speech·checksum, speaking};
 ghost use Rattle.conversation.specs.Choosing.{choosing};
 ghost use Rattle.calls.specs.Calls.{Ready, Appended};
-use calls::VERIFY;
 use calls::answer;
 use calls::next::after_message;
 use calls::next::heading_of;
 use conversation::Answer;
+use conversation::Class;
 use conversation::Record;
 use encode_verify::write;
 use message::Kind;
@@ -35,23 +35,30 @@ fn append_verify(
     requires { ⌜ Ready r (now transcript) VERIFY (ofVerify (record { scheme = id; type = checksum; value = now value })) ⌝ }
     ensures { λ a. ⌜ Appended r (now (transcript .entry)) VERIFY (ofVerify (record { scheme = id; type = checksum; value = now (value .entry) })) (now (transcript .exit)) a ⌝ }
 {
-    let heading = heading_of(r, VERIFY);
+    let heading = heading_of(r, Class::VERIFY);
     let n = value.len();
     write(transcript, r.used, heading, id, checksum, value);
-    after_message(r, VERIFY, HEADER + n)
+    after_message(r, Class::VERIFY, HEADER + n)
 }
 
 // Writes a VERIFY of the chosen scheme: the checksum's type and its value.
 pub fn write_verify(r: Record, transcript: &mut [u8], checksum: i32, value: &[u8]) -> Answer
-    ensures { λ a. ⌜ _≡_ {A = Outcome} (record { answer = a; transcript = now (transcript .exit) }) (speaking r (now (transcript .entry)) (Speech·checksum checksum (now (value .entry)))) ⌝ }
+    ensures { λ a. ⌜ leaving a (now (transcript .exit)) ≡ speaking r (now (transcript .entry)) (Speech·checksum checksum (now (value .entry))) ⌝ }
 {
-    let n = named_refusal(r, VERIFY, true, HEADER, value.len(), transcript.len());
+    let n = named_refusal(
+        r,
+        Class::VERIFY,
+        true,
+        HEADER,
+        value.len(),
+        transcript.len(),
+    );
     if n != 0 {
         return answer(n, TokenPlace(0), r);
     }
     let id = scheme_id(r);
     let mut next = append_verify(r, transcript, id, checksum, value);
-    next.verified = true;
+    next.attested = true;
     answer(0, TokenPlace(0), next)
 }
 
@@ -63,9 +70,9 @@ pub fn choose_verify(
     checksum: i32,
     value: &[u8],
 ) -> Answer
-    ensures { λ a. ⌜ _≡_ {A = Outcome} (record { answer = a; transcript = now (transcript .exit) }) (choosing r (now (transcript .entry)) marks (Speech·checksum checksum (now (value .entry)))) ⌝ }
+    ensures { λ a. ⌜ leaving a (now (transcript .exit)) ≡ choosing r (now (transcript .entry)) marks (Speech·checksum checksum (now (value .entry))) ⌝ }
 {
-    let n = choice_refusal(r, VERIFY, marks, true);
+    let n = choice_refusal(r, Class::VERIFY, marks, true);
     if n != 0 {
         return answer(n, TokenPlace(0), r);
     }

@@ -49,7 +49,7 @@ unfolding cutFrom
 turn-stops place [] w e = absurd (omega arith)
 turn-stops place (x ∷ xs) w e = rw e
 
--- 2. a message by itself, and with anything behind it
+-- 2. a message by itself, and with anything after it
 
 pub record Piece (m : List ℕ) : Type 0 where
   pub passes : fits m ≡ true
@@ -90,7 +90,7 @@ module _ (m r : List ℕ) (e : Piece m) where
 pub piece-long : (m : List ℕ) → Piece m → 64 ≤ length m
 piece-long m e = let z = fits-sized m (e .passes) in omega (arith, z, e .exact)
 
--- 3. messages one behind the other
+-- 3. messages one after the other
 
 abbrev pub Pieces : List (List ℕ) → Type 0
 Pieces [] = Unit {0}

@@ -33,7 +33,7 @@ use Rattle.conversation.proofs.Rows.{decide-out}
 use Rattle.conversation.proofs.Tokens.{judged-number}
 use Rattle.conversation.proofs.Messages.{FramedFrom, Taken, token-taken}
 use Rattle.sides.specs.Merging.{fits}
-use Rattle.sides.specs.Turning.{behindFirst, heardTurn}
+use Rattle.sides.specs.Turning.{afterFirst, heardTurn}
 use Rattle.sides.proofs.Cutting.{Pieces, piece-front}
 
 -- 1. an accepted reading
@@ -76,10 +76,10 @@ unfolding heardTurn readingToken
 heard-turn true r d t = λ a. (refl, heard-by r d t a)
 heard-turn false r d t =
     let rows : List Row = limitRows r ++ tokenRows r (length t) in
-    decide-out (λ out. isAccepted (out .answer) ≡ true → (false ≡ true) × Heard r t (out .answer .next)) rows r d (finish r d t (behindFirst false (judged r t)))
+    decide-out (λ out. isAccepted (out .answer) ≡ true → (false ≡ true) × Heard r t (out .answer .next)) rows r d (finish r d t (afterFirst false (judged r t)))
     (λ n f a. no-true (sym (ne-eqb n 0 (fails-other 0 rows n refl f)) ∙ a))
     (λ g. token (judged r t) refl) where
-      token : (j : Judged) → judged r t ≡ j → isAccepted (finish r d t (behindFirst false j) .answer) ≡ true → (false ≡ true) × Heard r t (finish r d t (behindFirst false j) .answer .next)
+      token : (j : Judged) → judged r t ≡ j → isAccepted (finish r d t (afterFirst false j) .answer) ≡ true → (false ≡ true) × Heard r t (finish r d t (afterFirst false j) .answer .next)
       token (halted n zero) w a = absurd (judged-number r t n 0 w .0 (eqb-true n 0 (unfold finish in a)))
       token (halted n (suc p)) w a = no-true (unfold finish in a)
       token (whole n c) w a = no-true (unfold finish in a)
@@ -213,9 +213,9 @@ pub refused-same : (ok : Bool) (r : Record) (d t : List ℕ) → (heardTurn ok r
 unfolding heardTurn
 refused-same ok r d t =
     let rows : List Row = limitRows r ++ tokenRows r (length t) in
-    decide-out (λ out. (out .answer .refusal ≡ 0 → ⊥) → out .transcript ≡ d) rows r d (finish r d t (behindFirst ok (judged r t)))
+    decide-out (λ out. (out .answer .refusal ≡ 0 → ⊥) → out .transcript ≡ d) rows r d (finish r d t (afterFirst ok (judged r t)))
     (λ n f h. refl)
-    (λ g. token (behindFirst ok (judged r t))) where
+    (λ g. token (afterFirst ok (judged r t))) where
       token : (j : Judged) → (finish r d t j .answer .refusal ≡ 0 → ⊥) → finish r d t j .transcript ≡ d
       token (halted n p) h = unfold finish in refl
       token (whole n c) h = unfold finish in elim (which (leb (r .used + length t) (room d))) [ inl b ↦ absurd (h (unfold finish in rw b)) | inr b ↦ rw b ]

@@ -87,7 +87,7 @@ module _ (q x : ℕ) (i a : List ℕ) (next : x ≡ q) where
   one-on : RowFrom q (x ∷ i) a ↔ RowFrom (q + 1) i a
   one-on = (on, back)
 
--- the run at the front of a file, and what is behind it
+-- the run at the front of a file, and what is after it
 abbrev ran : ℕ → List (List ℕ) → ℕ
 ran q ms = length (runFrom q ms)
 

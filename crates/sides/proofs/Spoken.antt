@@ -1,4 +1,4 @@
--- The writer's record behind its messages: what it counts, and what it keeps.
+-- The writer's record after its messages: what it counts, and what it keeps.
 -- Assumes nothing.
 use Prim.Native.Nat.{ℕ, _+_}
 use mathlib.Core.Path.{_≡_, refl, sym, ap, _∙_}

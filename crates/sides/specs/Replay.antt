@@ -13,10 +13,10 @@
 --   fileEnding       what ends a replay as a file is opened and cut up: `no file`, 1 to 6; cutEnding: 2 to 6
 --   fileOf f         the octets of a file, none where it cannot be opened; messagesBy g: the messages of a side's file
 --   before c         what ends a replay before play: 19, the initiator's file, the acceptor's file, 24
---   Shown            an accepted turn as it is printed: the turn, and the initiator's choice behind it; choiceOf r: that of a record
---   Played           a replay: its accepted turns, the sides behind them, and its ending
---   outcomeOf        what a turn's reader answers; soPlayed: the sides behind an accepted turn
---   playFrom         the replay of turns; withTurn: a replay, behind one more turn
+--   Shown            an accepted turn as it is printed: the turn, and the initiator's choice after it; choiceOf r: that of a record
+--   Played           a replay: its accepted turns, the sides after them, and its ending
+--   outcomeOf        what a turn's reader answers; soPlayed: the sides after an accepted turn
+--   playFrom         the replay of turns; withTurn: a replay, after one more turn
 --   conversationIn   the first message's conversation
 --   opened           the sides before the first turn
 --   endedBy          a replay, where nothing ends it before play

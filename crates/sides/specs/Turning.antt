@@ -5,10 +5,10 @@
 --   withMarks m r    the record r with the marks m
 --   begun m w        the record in which the writer w, whose marks are m, writes the first message of its turn
 --   owed m w t       28: the first message of the token t is what the list and marks of its writer w give
---   behindFirst      28, behind the first message's 15 and before the next message
+--   afterFirst       28, after the first message's 15 and before the next message
 --   heardTurn        the reader's outcome: as of any token, with 28 in it
---   saidAs, said     what a message changes in its writer's record, and the record behind it; saidAll: behind messages
---   spoke            the writer's record behind its turn
+--   saidAs, said     what a message changes in its writer's record, and the record after it; saidAll: after messages
+--   spoke            the writer's record after its turn
 use Prim.Native.Nat.{ℕ, zero, suc}
 use mathlib.Core.Bool.{Bool, true, false, cond, _&&_, _||_}
 use mathlib.Core.List.{List, [], _∷_, _++_}
@@ -20,7 +20,7 @@ use Rattle.schemes.specs.Lists.{Id, place, joinIds}
 use Rattle.schemes.specs.Answers.{withBit}
 use Rattle.conversation.specs.declared.Record.{Record}
 use Rattle.conversation.specs.State.{ownOf, replied, limitRows}
-use Rattle.conversation.specs.Turns.{FIRST, ANSWER, METADATA, EXCHANGE, VERIFY, kindOf, writes, placeAfter}
+use Rattle.conversation.specs.Turns.{FIRST, ANSWER, METADATA, EXCHANGE, VERIFY, classOf, writes, placeAfter}
 use Rattle.conversation.specs.Outcomes.{Outcome, decide, WrittenAs, wrote}
 use Rattle.conversation.specs.Writing.{someLeft, firstOr}
 use Rattle.conversation.specs.Admitting.{schemeIn, listedBy}
@@ -43,11 +43,11 @@ withMarks m r = record {
   marks = m;
   common = r .common;
   kept = r .kept;
-  told = r .told;
-  asked = r .asked;
+  metadata = r .metadata;
+  requested = r .requested;
   chosen = r .chosen;
-  verified = r .verified;
-  heard = r .heard;
+  attested = r .attested;
+  confirmed = r .confirmed;
   sequence = r .sequence;
   used = r .used;
 }
@@ -65,30 +65,30 @@ owed m w t =
     (cond (mayChoose w) (someLeft (named (ownOf w) (openTo w m)) && sameOctets (schemeIn t) (firstOr (named (ownOf w) (openTo w m))))
     true))
 
--- "with 28 behind 15": a refusal at place 0 is the first message's, and any other comes behind it
-abbrev pub behindFirst : Bool → Judged → Judged
-behindFirst true j = j
-behindFirst false (halted number zero) = halted number zero
-behindFirst false (halted number (suc place)) = halted 28 0
-behindFirst false (whole n c) = halted 28 0
+-- "with 28 behind 15": a refusal at place 0 is the first message's, and any other comes after it
+abbrev pub afterFirst : Bool → Judged → Judged
+afterFirst true j = j
+afterFirst false (halted number zero) = halted number zero
+afterFirst false (halted number (suc place)) = halted 28 0
+afterFirst false (whole n c) = halted 28 0
 
 -- "then those of 01": 18, 1, message by message, 16; the writer's messages "are checked as its peer would read them"
 unfoldable pub heardTurn : Bool → Record → List ℕ → List ℕ → Outcome
-heardTurn ok r d t = decide (limitRows r ++ tokenRows r (length t)) r d (finish r d t (behindFirst ok (judged r t)))
+heardTurn ok r d t = decide (limitRows r ++ tokenRows r (length t)) r d (finish r d t (afterFirst ok (judged r t)))
 
 -- as the calls that write a message of this kind, and name this scheme
 abbrev pub saidAs : Record → ℕ → Id → WrittenAs
 saidAs w kind id = record {
   marks = w .marks;
-  told = cond (eqb kind METADATA && ltb (place (ownOf w) id) (w .count)) (withBit (w .told) (place (ownOf w) id)) (w .told);
-  asked = cond (eqb kind EXCHANGE && eqb (writes w) FIRST) 0 (w .asked);
-  verified = eqb kind VERIFY || w .verified;
+  metadata = cond (eqb kind METADATA && ltb (place (ownOf w) id) (w .count)) (withBit (w .metadata) (place (ownOf w) id)) (w .metadata);
+  requested = cond (eqb kind EXCHANGE && eqb (writes w) FIRST) 0 (w .requested);
+  attested = eqb kind VERIFY || w .attested;
 }
 
 unfoldable pub said : Record → List ℕ → Record
 said w m =
-    wrote w (placeAfter w (kindOf (w .acceptor) (headOf m .kind))) (length m)
-    (saidAs w (kindOf (w .acceptor) (headOf m .kind)) (schemeIn m))
+    wrote w (placeAfter w (classOf (w .acceptor) (headOf m .kind))) (length m)
+    (saidAs w (classOf (w .acceptor) (headOf m .kind)) (schemeIn m))
 
 unfoldable pub saidAll : Record → List (List ℕ) → Record
 saidAll w [] = w

@@ -3,7 +3,7 @@
 -- Glossary
 --   written x         the messages that the end x wrote in the examples' whole conversation, numbered 0 to 3, 7, 10, 11, and 4 to 6, 8, 9, 12
 --   case              a case of the examples' two lists, with marks and messages; reordered: its initiator's list in another order
---   Saw, saw          what is seen of a replay: the side of each turn and the choice behind it, and the ending; that of a case
+--   Saw, saw          what is seen of a replay: the side of each turn and the choice after it, and the ending; that of a case
 --   turnsSeen n       the first n of the six turns of the whole conversation
 --   WholeReplayed     the whole conversation is replayed to its end, in these turns
 --   Example           a case, the number of turns that are seen of it, and its ending; ends makes one; examples: a list of them

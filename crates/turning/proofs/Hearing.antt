@@ -1,4 +1,4 @@
--- The reader's answer, in the words of the code: what comes behind the first message is 28, where that is owed.
+-- The reader's answer, in the words of the code: what comes after the first message is 28, where that is owed.
 -- Assumes nothing.
 use Prim.Native.Nat.{ℕ, zero, suc, _+_, _-_, _<_, _≤_}
 use mathlib.Core.Path.{_≡_, refl, sym, ap, subst, _∙_}
@@ -22,7 +22,7 @@ use Rattle.conversation.specs.Reading.{Judged, whole, halted, chainFor, convers
 use Rattle.conversation.proofs.Rows.{decide-out}
 use Rattle.conversation.proofs.Tokens.{Numbers, judged-numbers}
 use Rattle.conversation.proofs.Decides.{decide-passed, decide-refused}
-use Rattle.sides.specs.Turning.{behindFirst, heardTurn}
+use Rattle.sides.specs.Turning.{afterFirst, heardTurn}
 use Rattle.turning.specs.Hearing.{owedBefore}
 
 -- 1. no message is refused with 16
@@ -73,7 +73,7 @@ pub ruleset answers = (owed-room, owed-later, owed-here)
 
 pub hear-good : (good : Bool) (r : Record) (d t : List ℕ) → good ≡ true → (o : Outcome) → o ≡ readingToken r d t → o ≡ heardTurn good r d t
 unfolding readingToken heardTurn
-hear-good good r d t e o o-is = o-is ∙ ap (λ (b : Bool). decide (limitRows r ++ tokenRows r (length t)) r d (finish r d t (behindFirst b (judged r t)))) (sym e)
+hear-good good r d t e o o-is = o-is ∙ ap (λ (b : Bool). decide (limitRows r ++ tokenRows r (length t)) r d (finish r d t (afterFirst b (judged r t)))) (sym e)
 
 module _ (r : Record) (d t little : List ℕ) (long : 64 ≤ length t) (small : length little ≡ 16) where
   abbrev rows : List Row
@@ -82,7 +82,7 @@ module _ (r : Record) (d t little : List ℕ) (long : 64 ≤ length t) (small : 
   abbrev Same : Outcome → Outcome → Type 0
   Same x y = record { answer = owedBefore r (x .answer); transcript = d } ≡ y
 
-  behind : (j : Judged) → judged r t ≡ j → Same (finish r little t j) (finish r d t (behindFirst false j))
+  behind : (j : Judged) → judged r t ≡ j → Same (finish r little t j) (finish r d t (afterFirst false j))
   unfolding finish owedBefore
   behind (halted n zero) e = rw (ne-eqb n 16 (judged-16 r t n 0 e))
   behind (halted n (suc p)) e = let z : 0 < suc p = omega arith in rw (ne-eqb n 16 (judged-16 r t n (suc p) e), lt-ltb 0 (suc p) z)
@@ -101,7 +101,7 @@ module _ (r : Record) (d t little : List ℕ) (long : 64 ≤ length t) (small : 
 
   both : Same (readingToken r little t) (heardTurn false r d t)
   unfolding readingToken heardTurn
-  both = two rows (finish r little t (judged r t)) (finish r d t (behindFirst false (judged r t))) refl (λ g. behind (judged r t) refl)
+  both = two rows (finish r little t (judged r t)) (finish r d t (afterFirst false (judged r t))) refl (λ g. behind (judged r t) refl)
 
   pub hear-owed : (good : Bool) → good ≡ false → (o : Outcome) → o ≡ readingToken r little t → (b : Answer) → b ≡ owedBefore r (o .answer) → record { answer = b; transcript = d } ≡ heardTurn good r d t
   hear-owed good e o o-is b b-is =

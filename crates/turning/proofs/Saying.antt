@@ -1,4 +1,4 @@
--- The writer's record behind its messages, in the words of the code.
+-- The writer's record after its messages, in the words of the code.
 -- Assumes nothing.
 use Prim.Native.Nat.{ℕ, _+_, _*_, _-_, _<_, _≤_}
 use mathlib.Core.Path.{_≡_, refl, sym, ap, subst, _∙_}
@@ -19,7 +19,7 @@ use Rattle.schemes.specs.Lists.{place}
 use Rattle.schemes.specs.Answers.{withBit}
 use Rattle.conversation.specs.declared.Record.{Record}
 use Rattle.conversation.specs.State.{ownOf}
-use Rattle.conversation.specs.Turns.{ANSWER, kindOf, writing, writes, placeAfter}
+use Rattle.conversation.specs.Turns.{ANSWER, classOf, writing, writes, placeAfter}
 use Rattle.conversation.specs.Outcomes.{WrittenAs, unchanged, wrote}
 use Rattle.conversation.specs.Admitting.{schemeIn}
 use Rattle.conversation.specs.Choosing.{chose, mayChoose}
@@ -31,7 +31,7 @@ use Rattle.merging.proofs.Runs.{messages-on, messages-none}
 -- 1. one message
 
 abbrev saidBy : Record → ℕ → ℕ → Bool → Record
-saidBy r told asked verified = record {
+saidBy r told requested attested = record {
   acceptor = r .acceptor;
   stage = r .stage;
   position = r .position;
@@ -41,27 +41,27 @@ saidBy r told asked verified = record {
   marks = r .marks;
   common = r .common;
   kept = r .kept;
-  told = told;
-  asked = asked;
+  metadata = told;
+  requested = requested;
   chosen = r .chosen;
-  verified = verified;
-  heard = r .heard;
+  attested = attested;
+  confirmed = r .confirmed;
   sequence = r .sequence;
   used = r .used;
 }
 
-module _ (w : Record) (m : List ℕ) (type : ℕ) (type-is : type ≡ le 4 m 8) (kind : ℕ) (kind-is : kind ≡ kindOf (w .acceptor) type) (token : ℕ) (token-is : token ≡ writing (w .acceptor) (w .stage)) where
-  pub say-is : (told : ℕ) → told ≡ cond (eqb kind 2 && ltb (place (ownOf w) (take 16 (drop 40 m))) (w .count)) (withBit (w .told) (place (ownOf w) (take 16 (drop 40 m)))) (w .told)
-      → (asked : ℕ) → asked ≡ cond (eqb kind 3 && eqb token 0) 0 (w .asked) → (verified : Bool) → verified ≡ (eqb kind 4 || w .verified)
-      → (next : Record) → next ≡ wrote w (placeAfter w kind) (length m) (unchanged w) → saidBy next told asked verified ≡ said w m
+module _ (w : Record) (m : List ℕ) (type : ℕ) (type-is : type ≡ le 4 m 8) (kind : ℕ) (kind-is : kind ≡ classOf (w .acceptor) type) (token : ℕ) (token-is : token ≡ writing (w .acceptor) (w .stage)) where
+  pub say-is : (told : ℕ) → told ≡ cond (eqb kind 2 && ltb (place (ownOf w) (take 16 (drop 40 m))) (w .count)) (withBit (w .metadata) (place (ownOf w) (take 16 (drop 40 m)))) (w .metadata)
+      → (requested : ℕ) → requested ≡ cond (eqb kind 3 && eqb token 0) 0 (w .requested) → (attested : Bool) → attested ≡ (eqb kind 4 || w .attested)
+      → (next : Record) → next ≡ wrote w (placeAfter w kind) (length m) (unchanged w) → saidBy next told requested attested ≡ said w m
   unfolding said headOf
-  say-is told told-is asked asked-is verified verified-is next next-is =
-      let a : asked ≡ cond (eqb kind 3 && eqb (writes w) 0) 0 (w .asked) = asked-is ∙ ap (λ (k : ℕ). cond (eqb kind 3 && eqb k 0) 0 (w .asked)) token-is in
-      ap (λ (r : Record). saidBy r told asked verified) next-is
-      ∙ ap (λ (k : ℕ). saidBy (wrote w (placeAfter w kind) (length m) (unchanged w)) k asked verified) told-is
-      ∙ ap (λ (k : ℕ). saidBy (wrote w (placeAfter w kind) (length m) (unchanged w)) (saidAs w kind (schemeIn m) .told) k verified) a
-      ∙ ap (λ (b : Bool). saidBy (wrote w (placeAfter w kind) (length m) (unchanged w)) (saidAs w kind (schemeIn m) .told) (saidAs w kind (schemeIn m) .asked) b) verified-is
-      ∙ ap (λ (k : ℕ). wrote w (placeAfter w k) (length m) (saidAs w k (schemeIn m))) (kind-is ∙ ap (kindOf (w .acceptor)) type-is)
+  say-is told told-is requested requested-is attested attested-is next next-is =
+      let a : requested ≡ cond (eqb kind 3 && eqb (writes w) 0) 0 (w .requested) = requested-is ∙ ap (λ (k : ℕ). cond (eqb kind 3 && eqb k 0) 0 (w .requested)) token-is in
+      ap (λ (r : Record). saidBy r told requested attested) next-is
+      ∙ ap (λ (k : ℕ). saidBy (wrote w (placeAfter w kind) (length m) (unchanged w)) k requested attested) told-is
+      ∙ ap (λ (k : ℕ). saidBy (wrote w (placeAfter w kind) (length m) (unchanged w)) (saidAs w kind (schemeIn m) .metadata) k attested) a
+      ∙ ap (λ (b : Bool). saidBy (wrote w (placeAfter w kind) (length m) (unchanged w)) (saidAs w kind (schemeIn m) .metadata) (saidAs w kind (schemeIn m) .requested) b) attested-is
+      ∙ ap (λ (k : ℕ). wrote w (placeAfter w k) (length m) (saidAs w k (schemeIn m))) (kind-is ∙ ap (classOf (w .acceptor)) type-is)
 
 -- 2. a turn
 

@@ -24,31 +24,31 @@ may-choose w e = rw e
 pub may-not-choose : (w : Record) → w .acceptor ≡ true → false ≡ mayChoose w
 may-not-choose w e = rw e
 
-module _ (early : Bool) (place asked : ℕ) where
-  pub counts-early : early ≡ true → eqb place asked ≡ early && eqb place asked
+module _ (early : Bool) (place requested : ℕ) where
+  pub counts-early : early ≡ true → eqb place requested ≡ early && eqb place requested
   counts-early e = rw e
 
-  pub counts-none : early ≡ false → false ≡ early && eqb place asked
+  pub counts-none : early ≡ false → false ≡ early && eqb place requested
   counts-none e = rw e
 
-module _ (kind token asked : ℕ) where
-  pub asked-other : (kind ≡ 3 → ⊥) → asked ≡ cond (eqb kind 3 && eqb token 0) 0 asked
-  asked-other h = rw (ne-eqb _ _ h)
+module _ (kind token requested : ℕ) where
+  pub requested-other : (kind ≡ 3 → ⊥) → requested ≡ cond (eqb kind 3 && eqb token 0) 0 requested
+  requested-other h = rw (ne-eqb _ _ h)
 
-  pub asked-later : kind ≡ 3 → (token ≡ 0 → ⊥) → asked ≡ cond (eqb kind 3 && eqb token 0) 0 asked
-  asked-later k h = rw (eq-eqb _ _ k, ne-eqb _ _ h)
+  pub requested-later : kind ≡ 3 → (token ≡ 0 → ⊥) → requested ≡ cond (eqb kind 3 && eqb token 0) 0 requested
+  requested-later k h = rw (eq-eqb _ _ k, ne-eqb _ _ h)
 
-  pub asked-first : kind ≡ 3 → token ≡ 0 → 0 ≡ cond (eqb kind 3 && eqb token 0) 0 asked
-  asked-first k h = rw (eq-eqb _ _ k, eq-eqb _ _ h)
+  pub requested-first : kind ≡ 3 → token ≡ 0 → 0 ≡ cond (eqb kind 3 && eqb token 0) 0 requested
+  requested-first k h = rw (eq-eqb _ _ k, eq-eqb _ _ h)
 
-module _ (kind : ℕ) (verified : Bool) where
-  pub verified-now : kind ≡ 4 → true ≡ eqb kind 4 || verified
-  verified-now h = rw (eq-eqb _ _ h)
+module _ (kind : ℕ) (attested : Bool) where
+  pub attested-now : kind ≡ 4 → true ≡ eqb kind 4 || attested
+  attested-now h = rw (eq-eqb _ _ h)
 
-  pub verified-before : (kind ≡ 4 → ⊥) → verified ≡ eqb kind 4 || verified
-  verified-before h = rw (ne-eqb _ _ h)
+  pub attested-before : (kind ≡ 4 → ⊥) → attested ≡ eqb kind 4 || attested
+  attested-before h = rw (ne-eqb _ _ h)
 
-pub ruleset flags = (may-choose, may-not-choose, counts-early, counts-none, asked-other, asked-later, asked-first, verified-now, verified-before)
+pub ruleset flags = (may-choose, may-not-choose, counts-early, counts-none, requested-other, requested-later, requested-first, attested-now, attested-before)
 
 -- the first open place
 module _ (ks : List ℕ) (z : Left) (is : z ≡ leftOf ks) where
@@ -68,9 +68,9 @@ module _ (ks : List ℕ) (z : Left) (is : z ≡ leftOf ks) where
 
 pub ruleset opens = (open-none, open-first)
 
--- the record behind the choice, and the one in which a turn begins
+-- the record after the choice, and the one in which a turn begins
 abbrev chosenAs : Record → ℕ → ℕ → Bool → Bool → Record
-chosenAs w marks place verified heard = record {
+chosenAs w marks place attested confirmed = record {
   acceptor = w .acceptor;
   stage = 3;
   position = 0;
@@ -80,20 +80,20 @@ chosenAs w marks place verified heard = record {
   marks = marks;
   common = w .common;
   kept = w .kept;
-  told = w .told;
-  asked = w .asked;
+  metadata = w .metadata;
+  requested = w .requested;
   chosen = place;
-  verified = verified;
-  heard = heard;
+  attested = attested;
+  confirmed = confirmed;
   sequence = w .sequence;
   used = w .used;
 }
 
-pub chosen-is : (w : Record) (marks place : ℕ) (v h : Bool) → place ≡ firstPlace (openTo w marks) → v ≡ (w .verified && eqb place (w .asked)) → h ≡ (w .heard && eqb place (w .asked)) → chosenAs w marks place v h ≡ chose w marks
+pub chosen-is : (w : Record) (marks place : ℕ) (v h : Bool) → place ≡ firstPlace (openTo w marks) → v ≡ (w .attested && eqb place (w .requested)) → h ≡ (w .confirmed && eqb place (w .requested)) → chosenAs w marks place v h ≡ chose w marks
 chosen-is w marks place v h p-is v-is h-is =
     ap (λ (x : Bool). chosenAs w marks place x h) v-is
-    ∙ ap (λ (x : Bool). chosenAs w marks place (w .verified && eqb place (w .asked)) x) h-is
-    ∙ ap (λ (k : ℕ). chosenAs w marks k (w .verified && eqb k (w .asked)) (w .heard && eqb k (w .asked))) p-is
+    ∙ ap (λ (x : Bool). chosenAs w marks place (w .attested && eqb place (w .requested)) x) h-is
+    ∙ ap (λ (k : ℕ). chosenAs w marks k (w .attested && eqb k (w .requested)) (w .confirmed && eqb k (w .requested))) p-is
 
 module _ (w : Record) (marks : ℕ) (b : Bool) (b-is : b ≡ mayChoose w) where
   pub begun-chosen : b ≡ true → (r : Record) → r ≡ chose w marks → r ≡ begun marks w
@@ -114,18 +114,18 @@ pub ruleset begins = (chosen-is, begun-chosen, begun-same, begun-marked)
 -- metadata that is told
 module _ (w : Record) (kind : ℕ) (id : List ℕ) where
   abbrev toldThen : ℕ
-  toldThen = cond (eqb kind 2 && ltb (place (ownOf w) id) (w .count)) (withBit (w .told) (place (ownOf w) id)) (w .told)
+  toldThen = cond (eqb kind 2 && ltb (place (ownOf w) id) (w .count)) (withBit (w .metadata) (place (ownOf w) id)) (w .metadata)
 
-  pub told-other : (kind ≡ 2 → ⊥) → w .told ≡ toldThen
+  pub told-other : (kind ≡ 2 → ⊥) → w .metadata ≡ toldThen
   told-other h = rw (ne-eqb _ _ h)
 
   module _ (m : kind ≡ 2) (k : ℕ) (k-is : k ≡ place (idsAt (w .count) (w .list)) id) where
-    pub told-foreign : w .count ≤ k → w .told ≡ toldThen
+    pub told-foreign : w .count ≤ k → w .metadata ≡ toldThen
     told-foreign h = rw (eq-eqb _ _ m, le-ltb (place (ownOf w) id) (w .count) (let z : w .count ≤ place (ownOf w) id = omega arith in z))
 
-    pub told-own : k < w .count → (x : ℕ) → x ≡ withBit (w .told) k → x ≡ toldThen
+    pub told-own : k < w .count → (x : ℕ) → x ≡ withBit (w .metadata) k → x ≡ toldThen
     told-own h x x-is =
-        rw (eq-eqb _ _ m, lt-ltb (place (ownOf w) id) (w .count) (let z : place (ownOf w) id < w .count = omega arith in z)) (x-is ∙ ap (withBit (w .told)) k-is)
+        rw (eq-eqb _ _ m, lt-ltb (place (ownOf w) id) (w .count) (let z : place (ownOf w) id < w .count = omega arith in z)) (x-is ∙ ap (withBit (w .metadata)) k-is)
 
 pub list-room : (w : Record) → w .count ≤ 16 → (l : List ℕ) → l ≡ w .list → length l ≡ 256 → w .count * 16 ≤ length l
 list-room w h l e n = omega arith

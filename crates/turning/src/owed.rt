@@ -14,6 +14,7 @@ ghost use Rattle.sides.specs.Turning.{sameList, withMarks, owed};
 use admitting::fits::same_at;
 use admitting::named::listed;
 use conversation::Record;
+use conversation::Turn;
 use conversation::turns::writing_token;
 use message::field;
 use schemes::choosing::choose_kept;
@@ -103,10 +104,10 @@ pub fn owes(w: Record, marks: u16, t: &[u8]) -> bool
     ensures { λ r. ⌜ r ≡ owed marks w (now (t .entry)) ⌝ }
 {
     let token = writing_token(w.acceptor, w.stage);
-    if token == 0 {
+    if token == Turn::FIRST {
         return lists_own(w, t);
     }
-    if token == 1 {
+    if token == Turn::ANSWER {
         return lists_reply(w, marks, t);
     }
     if may_choose(w) {

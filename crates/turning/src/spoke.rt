@@ -1,4 +1,4 @@
-// The writer's record behind its turn, as if it had written it.
+// The writer's record after its turn, as if it had written it.
 ghost use mathlib.Core.Path.{_≡_};
 ghost use mathlib.Core.Bool.{cond, _&&_, _||_};
 ghost use Prim.Native.Nat.{_+_, _*_, _≤_};
@@ -11,12 +11,11 @@ ghost use Rattle.conversation.specs.Choosing.{openTo, firstPlace, chose};
 ghost use Rattle.sides.specs.Merging.{messagesOf};
 ghost use Rattle.sides.specs.Turning.{begun, said, spoke};
 use super::owed::may_choose;
-use calls::EXCHANGE;
-use calls::METADATA;
-use calls::VERIFY;
 use calls::next::after_message;
+use conversation::Class;
 use conversation::Record;
-use conversation::turns::kind_of;
+use conversation::Turn;
+use conversation::turns::class_of;
 use conversation::turns::writing_token;
 use message::Read;
 use message::field;
@@ -41,17 +40,17 @@ fn first_open(w: Record, marks: u16) -> usize
     left.place as usize
 }
 
-// Whether an early VERIFY counts behind a choice.
-fn counts_for(early: bool, place: usize, asked: usize) -> bool
-    ensures { λ a. ⌜ a ≡ (early && eqb place asked) ⌝ }
+// Whether an early VERIFY counts after a choice.
+fn counts_for(early: bool, place: usize, requested: usize) -> bool
+    ensures { λ a. ⌜ a ≡ (early && eqb place requested) ⌝ }
 {
     if early {
-        return place == asked;
+        return place == requested;
     }
     false
 }
 
-// The record behind the choice.
+// The record after the choice.
 fn chosen(w: Record, marks: u16) -> Record
     ensures { λ r. ⌜ r ≡ chose w marks ⌝ }
 {
@@ -61,8 +60,8 @@ fn chosen(w: Record, marks: u16) -> Record
     next.position = 0;
     next.marks = marks;
     next.chosen = place;
-    next.verified = counts_for(w.verified, place, w.asked);
-    next.heard = counts_for(w.heard, place, w.asked);
+    next.attested = counts_for(w.attested, place, w.requested);
+    next.confirmed = counts_for(w.confirmed, place, w.requested);
     next
 }
 
@@ -82,61 +81,61 @@ fn begin(w: Record, marks: u16) -> Record
 }
 
 // The schemes that have metadata, with that of a message, where it is metadata for an own scheme.
-fn told_behind(w: Record, kind: u8, id: &[u8]) -> u16
+fn metadata_after(w: Record, class: u8, id: &[u8]) -> u16
     requires { ⌜ w .count ≤ 16 ⌝ }
-    ensures { λ r. ⌜ r ≡ cond (eqb kind 2 && ltb (place (ownOf w) (now (id .entry))) (w .count)) (withBit (w .told) (place (ownOf w) (now (id .entry)))) (w .told) ⌝ }
+    ensures { λ r. ⌜ r ≡ cond (eqb class 2 && ltb (place (ownOf w) (now (id .entry))) (w .count)) (withBit (w .metadata) (place (ownOf w) (now (id .entry)))) (w .metadata) ⌝ }
 {
-    if kind != METADATA {
-        return w.told;
+    if class != Class::METADATA {
+        return w.metadata;
     }
     let k = find(&w.list, w.count, id);
     if w.count <= k {
-        return w.told;
+        return w.metadata;
     }
-    with_bit(w.told, k as u32)
+    with_bit(w.metadata, k as u32)
 }
 
 // The place of the first token's AP_REQUEST, where a message is it.
-fn asked_behind(asked: usize, kind: u8, token: u8) -> usize
-    ensures { λ r. ⌜ r ≡ cond (eqb kind 3 && eqb token 0) 0 asked ⌝ }
+fn requested_after(requested: usize, class: u8, token: u8) -> usize
+    ensures { λ r. ⌜ r ≡ cond (eqb class 3 && eqb token 0) 0 requested ⌝ }
 {
-    if kind != EXCHANGE {
-        return asked;
+    if class != Class::EXCHANGE {
+        return requested;
     }
-    if token != 0 {
-        return asked;
+    if token != Turn::FIRST {
+        return requested;
     }
     0
 }
 
-// Whether the own one VERIFY is spent behind a message.
-fn verified_behind(verified: bool, kind: u8) -> bool
-    ensures { λ r. ⌜ r ≡ (eqb kind 4 || verified) ⌝ }
+// Whether the own one VERIFY is spent after a message.
+fn attested_after(attested: bool, class: u8) -> bool
+    ensures { λ r. ⌜ r ≡ (eqb class 4 || attested) ⌝ }
 {
-    if kind == VERIFY {
+    if class == Class::VERIFY {
         return true;
     }
-    verified
+    attested
 }
 
-// The writer's record behind a message of its own.
+// The writer's record after a message of its own.
 fn say(w: Record, m: &[u8]) -> Record
     requires { ⌜ (w .count ≤ 16) × (w .sequence ≤ 1023) × (w .used + length (now m) ≤ 65535) × (64 ≤ length (now m)) ⌝ }
     ensures { λ r. ⌜ r ≡ said w (now (m .entry)) ⌝ }
 {
-    let kind = kind_of(w.acceptor, le_u32(m, field::TYPE));
+    let class = class_of(w.acceptor, le_u32(m, field::TYPE));
     let token = writing_token(w.acceptor, w.stage);
-    let told = told_behind(w, kind, &m[field::SCHEME..SCHEME_END]);
-    let asked = asked_behind(w.asked, kind, token);
-    let verified = verified_behind(w.verified, kind);
-    let mut next = after_message(w, kind, m.len());
-    next.told = told;
-    next.asked = asked;
-    next.verified = verified;
+    let metadata = metadata_after(w, class, &m[field::SCHEME..SCHEME_END]);
+    let requested = requested_after(w.requested, class, token);
+    let attested = attested_after(w.attested, class);
+    let mut next = after_message(w, class, m.len());
+    next.metadata = metadata;
+    next.requested = requested;
+    next.attested = attested;
     next
 }
 
-// The writer's record behind its turn t.
+// The writer's record after its turn t.
 pub fn speak(w: Record, marks: u16, t: &[u8]) -> Record
     requires { ⌜ (w .count ≤ 16) × (64 * w .sequence ≤ w .used) × (w .used + length (now t) ≤ 65535) ⌝ }
     ensures { λ r. ⌜ r ≡ spoke marks w (messagesOf (now (t .entry))) ⌝ }

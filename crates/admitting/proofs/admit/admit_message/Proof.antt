@@ -7,26 +7,26 @@ use Rattle.admitting.proofs.admit.admit_message.Tie as tie
 le-u32-requires : tie.Need-le-u32-requires
 le-u32-requires c κs = search needs
 
-peer-kind-requires : tie.Need-peer-kind-requires
-peer-kind-requires c κs = search needs
+peer-class-requires : tie.Need-peer-class-requires
+peer-class-requires c κs = search needs
 
 reading-token-requires : tie.Need-reading-token-requires
 reading-token-requires c κs = search needs
 
-sub-heard-for : tie.Need-sub-heard-for
-sub-heard-for c = search needs
+sub-confirmed-for : tie.Need-sub-confirmed-for
+sub-confirmed-for c = search needs
 
-part-heard-for-start : tie.Need-part-heard-for-start
-part-heard-for-start c = search needs
+part-confirmed-for-start : tie.Need-part-confirmed-for-start
+part-confirmed-for-start c = search needs
 
-part-heard-for-end : tie.Need-part-heard-for-end
-part-heard-for-end c = search needs
+part-confirmed-for-end : tie.Need-part-confirmed-for-end
+part-confirmed-for-end c = search needs
 
-heard-for-requires : tie.Need-heard-for-requires
-heard-for-requires c κs = search needs
+confirmed-for-requires : tie.Need-confirmed-for-requires
+confirmed-for-requires c κs = search needs
 
-place-behind-requires : tie.Need-place-behind-requires
-place-behind-requires c κs = search needs
+place-after-requires : tie.Need-place-after-requires
+place-after-requires c κs = search needs
 
 returns : tie.Need-returns
 returns c = search admits
@@ -66,13 +66,13 @@ admit-message-spec =
     tie.close
     (tie.spec
     le-u32-requires
-    peer-kind-requires
+    peer-class-requires
     reading-token-requires
-    sub-heard-for
-    part-heard-for-start
-    part-heard-for-end
-    heard-for-requires
-    place-behind-requires
+    sub-confirmed-for
+    part-confirmed-for-start
+    part-confirmed-for-end
+    confirmed-for-requires
+    place-after-requires
     returns
     sub-scheme-fits
     part-scheme-fits-start

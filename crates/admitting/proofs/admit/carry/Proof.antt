@@ -10,17 +10,17 @@ find-own-requires c κs = search needs
 reading-token-requires : tie.Need-reading-token-requires
 reading-token-requires c κs = search needs
 
-named-behind-requires : tie.Need-named-behind-requires
-named-behind-requires c κs = search needs
+named-after-requires : tie.Need-named-after-requires
+named-after-requires c κs = search needs
 
-asked-behind-requires : tie.Need-asked-behind-requires
-asked-behind-requires c κs = search needs
+requested-after-requires : tie.Need-requested-after-requires
+requested-after-requires c κs = search needs
 
-chosen-behind-requires : tie.Need-chosen-behind-requires
-chosen-behind-requires c κs = search needs
+chosen-after-requires : tie.Need-chosen-after-requires
+chosen-after-requires c κs = search needs
 
-heard-behind-requires : tie.Need-heard-behind-requires
-heard-behind-requires c κs = search needs
+confirmed-after-requires : tie.Need-confirmed-after-requires
+confirmed-after-requires c κs = search needs
 
 returns : tie.Need-returns
 returns c = search carryings
@@ -31,8 +31,8 @@ carry-spec =
     (tie.spec
     find-own-requires
     reading-token-requires
-    named-behind-requires
-    asked-behind-requires
-    chosen-behind-requires
-    heard-behind-requires
+    named-after-requires
+    requested-after-requires
+    chosen-after-requires
+    confirmed-after-requires
     returns)

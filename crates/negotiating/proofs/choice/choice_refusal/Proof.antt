@@ -19,7 +19,7 @@ returns-3 : tie.Need-returns-3
 returns-3 c = search choice-refusals
 
 cast-within : tie.Need-cast-within
-cast-within c = let h : c .before .before .before .before .before .before .args .r .count ≤ 16 = choice-few (c .before .before .before .before .before .before .args .r) (c .before .before .before .before .before .before .args .marks) (c .before .before .before .before .before .before .args .fit) (c .before .before .before .before .before .before .args .kind) _ (c .before .before .before .before .before .outside .ensures) (c .before .before .before .before .if1 .left) in omega arith
+cast-within c = let h : c .before .before .before .before .before .before .args .r .count ≤ 16 = choice-few (c .before .before .before .before .before .before .args .r) (c .before .before .before .before .before .before .args .marks) (c .before .before .before .before .before .before .args .fit) (c .before .before .before .before .before .before .args .class) _ (c .before .before .before .before .before .outside .ensures) (c .before .before .before .before .if1 .left) in omega arith
 
 within-requires : tie.Need-within-requires
 within-requires c κs = search needs
@@ -42,8 +42,8 @@ cast-counts-for c = search needs
 counts-for-requires : tie.Need-counts-for-requires
 counts-for-requires c κs = search needs
 
-place-behind-requires : tie.Need-place-behind-requires
-place-behind-requires c κs = search needs
+place-after-requires : tie.Need-place-after-requires
+place-after-requires c κs = search needs
 
 returns-7 : tie.Need-returns-7
 returns-7 c = search choice-refusals
@@ -67,6 +67,6 @@ choice-refusal-spec =
     returns-6
     cast-counts-for
     counts-for-requires
-    place-behind-requires
+    place-after-requires
     returns-7
     returns-8)

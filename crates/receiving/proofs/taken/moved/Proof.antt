@@ -11,8 +11,8 @@ reading-token-requires c κs = search needs
 conversation-of-requires : tie.Need-conversation-of-requires
 conversation-of-requires c κs = search needs
 
-counts-behind-requires : tie.Need-counts-behind-requires
-counts-behind-requires c κs = search needs
+counts-after-requires : tie.Need-counts-after-requires
+counts-after-requires c κs = search needs
 
 add-next : tie.Need-add-next
 add-next c = omega (arith, token-small (c .before .before .before .before .args .r) _ (c .before .before .reading-token .ensures))
@@ -24,7 +24,7 @@ add-next-3 : tie.Need-add-next-3
 add-next-3 c = search needs
 
 returns : tie.Need-returns
-returns c = rw (c .before .before .before .before .reading-token .ensures, c .before .before .before .conversation-of .ensures, c .before .before .counts-behind .ensures)
+returns c = rw (c .before .before .before .before .reading-token .ensures, c .before .before .before .conversation-of .ensures, c .before .before .counts-after .ensures)
 
 pub moved-spec : {M : Type 1} → statement M
 moved-spec =
@@ -32,7 +32,7 @@ moved-spec =
     (tie.spec
     reading-token-requires
     conversation-of-requires
-    counts-behind-requires
+    counts-after-requires
     add-next
     add-next-2
     add-next-3

@@ -20,8 +20,8 @@ returns c =
 scheme-id-requires : tie.Need-scheme-id-requires
 scheme-id-requires c κs = named-inside _ _ _ _ _ _ (c .before .named-refusal .ensures) (c .if1 .left)
 
-asked-by-requires : tie.Need-asked-by-requires
-asked-by-requires c κs = search needs
+requested-by-requires : tie.Need-requested-by-requires
+requested-by-requires c κs = search needs
 
 append-payload-requires : tie.Need-append-payload-requires
 append-payload-requires c κs =
@@ -37,7 +37,7 @@ same-length c = search needs
 returns-2 : tie.Need-returns-2
 returns-2 c =
     let s = c .before .before .before .before .before .before .before .before .before .before .before in
-    exchange-written _ (sized _ _ (s .good .0)) _ _ _ (c .before .before .before .before .before .before .before .before .named-refusal .ensures) (c .before .before .before .before .before .before .before .if1 .left) _ (c .before .before .before .before .before .before .scheme-id .ensures) _ (c .before .before .before .before .before .asked-by .ensures) _ _ (c .before .before .before .append-payload .ensures) _ (c .answer2 .ensures)
+    exchange-written _ (sized _ _ (s .good .0)) _ _ _ (c .before .before .before .before .before .before .before .before .named-refusal .ensures) (c .before .before .before .before .before .before .before .if1 .left) _ (c .before .before .before .before .before .before .scheme-id .ensures) _ (c .before .before .before .before .before .requested-by .ensures) _ _ (c .before .before .before .append-payload .ensures) _ (c .answer2 .ensures)
 
 pub write-exchange-spec : {M : Type 1} → statement M
 write-exchange-spec =
@@ -47,7 +47,7 @@ write-exchange-spec =
     answer-requires
     returns
     scheme-id-requires
-    asked-by-requires
+    requested-by-requires
     append-payload-requires
     answer-requires-2
     same-length
