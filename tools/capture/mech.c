@@ -9,6 +9,8 @@
  *   CAPTURE_META   octets of metadata that each end sends for a scheme (0, none)
  *   CAPTURE_ETYPE  encryption type of the key: 17, 18 or 23 (17)
  *   CAPTURE_EARLY  the ends, as `i`, `a` or `ia`, that have the key before the mechanism is done (none)
+ *   CAPTURE_MARK   the mechanisms, as letters from A, that fail when this process gets the peer's metadata for them (none)
+ *   CAPTURE_FAIL   those whose first context in this process fails (none); a second one does not
  */
 #include <stdint.h>
 #include <stdio.h>
@@ -62,6 +64,13 @@ static int setting(const char *variable, int otherwise)
     return text == NULL ? otherwise : atoi(text);
 }
 
+/* Whether the letter of the scheme is among those of the variable. */
+static int named(const char *variable, int scheme)
+{
+    const char *letters = getenv(variable);
+    return letters != NULL && scheme >= 0 && strchr(letters, 'A' + scheme) != NULL;
+}
+
 static int scheme_of(const void *octets, size_t length)
 {
     for (int k = 0; k < SCHEMES; k++)
@@ -72,7 +81,8 @@ static int scheme_of(const void *octets, size_t length)
 
 static struct context *open_context(int scheme, int initiator)
 {
-    struct context *made = calloc(1, sizeof *made);
+    static int opened[SCHEMES];
+    struct context *made = named("CAPTURE_FAIL", scheme) && opened[scheme]++ == 0 ? NULL : calloc(1, sizeof *made);
     if (made != NULL) {
         made->scheme = scheme;
         made->initiator = initiator;
@@ -272,9 +282,9 @@ OM_uint32 gssspi_query_meta_data(OM_uint32 *minor, gss_const_OID mech, gss_cred_
 OM_uint32 gssspi_exchange_meta_data(OM_uint32 *minor, gss_const_OID mech, gss_cred_id_t cred, gss_ctx_id_t *context,
                                     const gss_name_t target, OM_uint32 flags, gss_const_buffer_t in)
 {
-    (void)mech; (void)cred; (void)context; (void)target; (void)flags; (void)in;
+    (void)cred; (void)context; (void)target; (void)flags; (void)in;
     *minor = 0;
-    return GSS_S_COMPLETE;
+    return named("CAPTURE_MARK", scheme_of(mech->elements, mech->length)) ? GSS_S_FAILURE : GSS_S_COMPLETE;
 }
 
 static int same(gss_const_OID left, gss_const_OID right)
