@@ -7,10 +7,11 @@ from messages import letter
 from ours import digits, written
 
 NEGOEX = '2B06010401823702021E'
-STATE_DONE, STATE_GOES_ON, STATE_REJECTED = 0, 1, 2
+KERBEROS = '2A864886F712010202'
+STATE_DONE, STATE_GOES_ON, STATE_REJECTED, STATE_ASKS_MIC = 0, 1, 2, 3
 
 # What an envelope says; `refused` is the line of the refusal, if there is one. The token's messages are those of its listing.
-Envelope = namedtuple('Envelope', 'state checksum token messages refused')
+Envelope = namedtuple('Envelope', 'mechanisms state mic token messages refused')
 # A message of a token: its place there, its type, its schemes' letters, the octets of its exchange or checksum, and the checksum's type.
 Message = namedtuple('Message', 'at kind schemes octets checksum_type')
 
@@ -24,13 +25,25 @@ def wrap(lines, keep):
     return written(text)
 
 
-def wrap_first(token, keep):
-    return wrap(['init', 'mechanism ' + NEGOEX, 'token ' + digits(token)], keep)
+def wrap_first(mechanisms, token, keep):
+    """A NegTokenInit; it has no token where there is none."""
+    return wrap(['init'] + ['mechanism ' + one for one in mechanisms] + token_lines(token), keep)
 
 
-def wrap_later(state, token, keep, names=False):
+def wrap_later(state, token, keep, names=False, mic=b''):
     """A NegTokenResp, which names NEGOEX if `names` is true."""
-    return wrap(['resp', f'state {state}'] + ['mechanism ' + NEGOEX] * names + ['token ' + digits(token)] * bool(token), keep)
+    named = ['mechanism ' + NEGOEX] if names else []
+    return wrap(['resp', f'state {state}'] + named + token_lines(token) + ([f'checksum {digits(mic)}'] if mic else []), keep)
+
+
+def token_lines(token):
+    return ['token ' + digits(token)] if token else []
+
+
+def mechanism_list(mechanisms):
+    """The octets that a mechListMIC is over: the list of mechanisms, in DER. Below 128 octets a length is one octet."""
+    listed = b''.join(bytes([0x06, len(one) // 2]) + bytes.fromhex(one) for one in mechanisms)
+    return bytes([0x30, len(listed)]) + listed
 
 
 def unwrap(octets, keep):
@@ -39,13 +52,14 @@ def unwrap(octets, keep):
     outer, inner = (text.split('\nmessage ', 1) + [''])[:2]
     refused = re.search(r'^refused .*', text, re.MULTILINE)
     state = re.search(r'^state (\d+)', outer, re.MULTILINE)
-    checksum = re.search(r'^checksum (\S+)', outer, re.MULTILINE)
+    mic = re.search(r'^checksum ([0-9A-F]+)', outer, re.MULTILINE)
     place = re.search(r'^token at=(\d+) length=(\d+)', outer, re.MULTILINE)
     if not refused and not outer.startswith('envelope '):
         raise NoAnswer(f'./negoex unwrap says nothing of an envelope; {keep} has what it says')
     at, length = map(int, place.groups()) if place else (0, 0)
     token = octets[at:at + length]
-    return Envelope(int(state[1]) if state else None, checksum[1] if checksum else '', token,
+    return Envelope(re.findall(r'^mechanism \d+ (\S+)', outer, re.MULTILINE), int(state[1]) if state else None,
+                    bytes.fromhex(mic[1]) if mic else b'', token,
                     [message(token, one) for one in inner.split('\nmessage ') if one], refused[0] if refused else '')
 
 

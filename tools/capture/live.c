@@ -12,6 +12,8 @@
  *   step OCTETS                     takes the peer's token: `goes-on OCTETS`, `done OCTETS` or `error -`, with its next one
  *   sign USAGE OCTETS               the checksum over OCTETS by the mechanism's key: `TYPE OCTETS`, or `no key`
  *   check USAGE TYPE VALUE OCTETS   the same of the peer's, with its key for that: `right`, `wrong` or `no key`
+ *   mic OCTETS                      the mechanism's MIC of OCTETS: `OCTETS`
+ *   check-mic MIC OCTETS            the same of the peer's: `right` or `wrong`
  *
  * A checksum is RFC 3961's, made by MIT's library: of the type that the key's encryption type asks for. The status is 2 where
  * nothing can be asked, and 0 otherwise.
@@ -170,6 +172,26 @@ static void with_key(krb5_context library, gss_ctx_id_t context, int signing)
     gss_release_buffer_set(&minor, &key);
 }
 
+static void mic(gss_ctx_id_t context)
+{
+    gss_buffer_desc message = octets_of(word_of(NULL)), made = { 0, NULL };
+    OM_uint32 minor;
+    if (gss_get_mic(&minor, context, GSS_C_QOP_DEFAULT, &message, &made) != GSS_S_COMPLETE)
+        fail("the mechanism makes no MIC", "");
+    print_octets(made.value, made.length);
+    gss_release_buffer(&minor, &made);
+    free(message.value);
+}
+
+static void check_mic(gss_ctx_id_t context)
+{
+    gss_buffer_desc given = octets_of(word_of(NULL)), message = octets_of(word_of(NULL));
+    OM_uint32 minor;
+    printf("%s", gss_verify_mic(&minor, context, &message, &given, NULL) == GSS_S_COMPLETE ? "right" : "wrong");
+    free(given.value);
+    free(message.value);
+}
+
 static int live_mechanism(char side, char letter)
 {
     gss_ctx_id_t context = GSS_C_NO_CONTEXT;
@@ -183,6 +205,10 @@ static int live_mechanism(char side, char letter)
             step(side, mechanism_of(letter), &context);
         else if (strcmp(call, "sign") == 0 || strcmp(call, "check") == 0)
             with_key(library, context, call[0] == 's');
+        else if (strcmp(call, "mic") == 0)
+            mic(context);
+        else if (strcmp(call, "check-mic") == 0)
+            check_mic(context);
         else
             fail("no such call: ", call);
         putchar('\n');

@@ -11,10 +11,10 @@ import sys
 from collections import namedtuple
 
 from asking import NoAnswer
-from envelopes import unwrap
+from envelopes import STATE_ASKS_MIC, unwrap
 from live_cases import CASES
-from messages import kind_word, listed, is_nego, scheme, split
-from our_end import OTHER, VERIFY, OurAcceptor, OurInitiator
+from messages import is_nego, kind_word, listed, scheme, split
+from our_end import VERIFY, OurAcceptor, OurInitiator
 from page import table, write_page
 from talking import MitEnd
 
@@ -28,7 +28,8 @@ Held = namedtuple('Held', 'turns ends')
 def environment(case, side):
     """What mech.c and MIT's library go by at an end."""
     made = {'CAPTURE_HOPS': str(case.hops), 'CAPTURE_ETYPE': str(case.etype), 'CAPTURE_META': str(case.metadata),
-            'CAPTURE_EARLY': case.early, 'CAPTURE_MARK': case.marks.get(side, ''), 'CAPTURE_FAIL': case.fails.get(side, '')}
+            'CAPTURE_EARLY': case.early, 'CAPTURE_MARK': case.marks.get(side, ''), 'CAPTURE_FAIL': case.fails.get(side, ''),
+            'CAPTURE_MIC': str(int(case.mics))}
     return made if case.optimistic else {**made, 'NEGOEX_NO_OPTIMISTIC_TOKEN': '1'}
 
 
@@ -67,17 +68,19 @@ def turns_of(case, ends, folder):
             return
         envelope = unwrap(octets, f'{folder}/turn-{turn:02d}-{side}')
         yield f'{side}: {turn_words(envelope)}'
-        if isinstance(end, MitEnd) and case.damages == 'mit':
+        if isinstance(end, MitEnd) and case.wrong == 'mit':
             octets = damaged(octets, envelope)
     raise NoAnswer(f'no end after {MOST_TURNS} turns; {folder} has them')
 
 
 def turn_words(envelope):
-    """An envelope's messages, those of a kind together, with the schemes that they name; its state where it has none."""
+    """An envelope's messages, those of a kind together, with the schemes that they name; its state where it has none, or asks for a MIC."""
     words = []
     for kind, messages in itertools.groupby(split(envelope.token), kind_word):
         words.append(f'{kind} ({", ".join(listed(one) if is_nego(one) else scheme(one) for one in messages)})')
-    return (', '.join(words) or f'state {envelope.state}') + (', mechListMIC' if envelope.checksum else '')
+    if not envelope.token or envelope.state == STATE_ASKS_MIC:
+        words.append('no token' if envelope.state is None else f'state {envelope.state}')
+    return ', '.join(words + ['mechListMIC'] * bool(envelope.mic))
 
 
 def taken(held):
@@ -98,26 +101,43 @@ def cells(held, ours):
     return ['; '.join(held.turns), taken(held) or 'none', '; '.join([mine.outcome] + mine.notes), mit.outcome, usage_words(mine)]
 
 
+def held_by(case, ours, work):
+    """The conversation with our end being `ours`; it has to come to the end that the case says."""
+    held = hold(case, ours, work)
+    if taken(held) != (case.scheme() if ours in case.good else ''):
+        raise NoAnswer(f'the live conversation {case.name}-{ours} came to another end; {work}/held has it')
+    return held
+
+
+def mit_words(case, work):
+    """The scheme that two ends of MIT's take, or their refusals."""
+    if case.is_ours():
+        return 'not asked'
+    held = hold(case, '', work)
+    return taken(held) or '; '.join(f'{end.side} {end.outcome}' for end in held.ends)
+
+
 def rows(case, work):
     """The rows of a conversation: one for each of our ends, or one for both where they say the same."""
-    said = {}
-    for ours in case.sides:
-        held = hold(case, ours, work)
-        if bool(taken(held)) != (ours in case.good):
-            raise NoAnswer(f'the live conversation {case.name}-{ours} came to another end; {work}/held has it')
-        said[ours] = cells(held, ours)
-    alone = hold(case, '', work) if not case.damages and case.usages == 'mit' else None
-    words = f'{case.words}; {", ".join(case.lists[0])} against {", ".join(case.lists[1])}'
-    mit = 'not asked' if alone is None else taken(alone) or '; '.join(f'{end.side} {end.outcome}' for end in alone.ends)
+    said = {ours: cells(held_by(case, ours, work), ours) for ours in case.sides}
+    words, mit = f'{case.words}; {", ".join(case.lists[0])} against {", ".join(case.lists[1])}', mit_words(case, work)
     if len(said) == 2 and said['i'] == said['a']:
         return [[words, 'either'] + said['i'] + [mit]]
     return [[words, 'ours' if ours == 'i' else "MIT's"] + said[ours] + [mit] for ours in said]
 
 
+def counted(lines):
+    """How many conversations these rows are, and how many of them came to a good end."""
+    held = [(2 if initiator == 'either' else 1, scheme_taken != 'none') for _, initiator, _, scheme_taken, *_ in lines]
+    good = sum(number for number, well in held if well)
+    return f'{sum(number for number, _ in held)} conversations; in {good} both ends are done, with the same scheme.'
+
+
 def measured(work):
     """The part `live` of the page, as lines."""
     shutil.rmtree(work + '/held', ignore_errors=True)
-    return {'live': table(HEADS, [row for case in CASES for row in rows(case, work)])}
+    lines = [row for case in CASES for row in rows(case, work)]
+    return {'live': table(HEADS, lines) + ['', counted(lines)]}
 
 
 def main():

@@ -1,14 +1,43 @@
 """The live conversations. Each is held with our initiator and MIT's acceptor, and with MIT's initiator and our acceptor."""
-from collections import namedtuple
+from dataclasses import dataclass, field
 
-# One conversation. `words` say what it is about, and `lists` are the initiator's and the acceptor's, as letters. `hops`, `etype` and `early`
-# are the mechanism's (CAPTURE_HOPS, _ETYPE and _EARLY of mech.c) at both ends, and `metadata` is how many octets of it each end sends for a
-# scheme. `marks` has the letters that an end marks: ours by the marks of its call, MIT's by a mechanism that fails on the peer's metadata.
-# `fails` has those whose first context fails at an end. `usages` are the key usages by which ours signs, `mit` or `draft`; `damages` says
-# whose checksums have a bit changed, `ours` or `mit`; by `empty` our acceptor sends a CHALLENGE even where its mechanism has no token left.
-# `sides` are those of our ends that hold it, and `good` those that come to a good end.
-Case = namedtuple('Case', 'name words lists hops etype early metadata optimistic marks fails usages damages empty sides good',
-                  defaults=(2, 17, '', 0, True, {}, {}, 'mit', '', False, 'ia', 'ia'))
+
+@dataclass(frozen=True)
+class Case:
+    """One conversation."""
+    name: str
+    words: str                       # what it is about
+    lists: tuple                     # the initiator's and the acceptor's, as letters
+    # The mechanism at both ends: CAPTURE_HOPS, CAPTURE_ETYPE, CAPTURE_EARLY and CAPTURE_MIC of mech.c.
+    hops: int = 2
+    etype: int = 17
+    early: str = ''
+    mics: bool = False
+    metadata: int = 0                # how many octets of it each end sends for a scheme
+    optimistic: bool = True          # the first token has an AP_REQUEST
+    # Letters by end: those that it marks (ours by the marks of its call, MIT's by a mechanism that fails on the peer's metadata), and those
+    # whose first context fails.
+    marks: dict = field(default_factory=dict)
+    fails: dict = field(default_factory=dict)
+    # What our end does by itself.
+    usages: str = 'mit'              # whose key usages it signs by: `mit` or `draft`
+    empty: bool = False              # as acceptor it sends a CHALLENGE in its reply even where its mechanism has no token left
+    second: bool = False             # as initiator it names another mechanism before NEGOEX in its NegTokenInit
+    asks: bool = False               # as acceptor it asks for a mechListMIC
+    wrong: str = ''                  # `ours`: a bit of its checksum is changed; `mic`: its MIC is that of other octets; `no mic`: it sends none;
+                                     # `mit`: a bit of MIT's checksum is changed before it gets it
+    sides: str = 'ia'                # those of our ends that hold it
+    good: str = 'ia'                 # those that come to a good end
+
+    def is_ours(self):
+        """Whether it is about something that only our end does, or that is done to an envelope."""
+        return bool(self.usages != 'mit' or self.empty or self.second or self.asks or self.wrong)
+
+    def scheme(self):
+        """The choice by the rule: the first of the acceptor's order that both list and neither marks."""
+        marked = ''.join(self.marks.values()) + self.fails.get('i', '')
+        return next((one for one in self.lists[1] if one in self.lists[0] and one not in marked), '')
+
 
 CASES = [
     Case('one', 'one scheme, two tokens of the mechanism', ('A', 'A')),
@@ -41,7 +70,18 @@ CASES = [
     Case('early-later', 'the same, and no AP_REQUEST in the first token', ('A', 'A'), hops=3, early='i', optimistic=False, good='a'),
     Case('one-token', 'one token of the mechanism', ('A', 'A'), hops=1, good=''),
     Case('one-token-empty', 'the same, and an empty CHALLENGE of our acceptor', ('A', 'A'), hops=1, empty=True, sides='a'),
-    Case('damaged-ours', "a bit of our VERIFY's checksum is changed", ('A', 'A'), damages='ours', good=''),
-    Case('damaged-mit', "a bit of MIT's VERIFY's checksum is changed on its way", ('A', 'A'), damages='mit', good=''),
+    Case('one-token-later', 'one token, and no AP_REQUEST in the first token', ('A', 'A'), hops=1, optimistic=False),
+    Case('mic-first', 'the mechanism has MICs', ('A', 'A'), mics=True),
+    Case('second', 'our NegTokenInit names Kerberos before NEGOEX', ('A', 'A'), second=True, sides='i'),
+    Case('second-mic', 'the same, and the mechanism has MICs', ('A', 'A'), mics=True, second=True, sides='i'),
+    Case('second-mic-3', 'the same, three tokens', ('A', 'A'), hops=3, mics=True, second=True, sides='i'),
+    Case('asks', 'our acceptor asks for a mechListMIC, and the mechanism has MICs', ('A', 'A'), mics=True, asks=True, sides='a'),
+    Case('asks-3', 'the same, three tokens', ('A', 'A'), hops=3, mics=True, asks=True, sides='a'),
+    Case('mic-none', 'our NegTokenInit names Kerberos first, the mechanism has MICs, and ours sends none', ('A', 'A'), mics=True, second=True,
+         wrong='no mic', sides='i', good=''),
+    Case('mic-wrong', 'Kerberos first, or our acceptor asks, and our MIC is that of other octets', ('A', 'A'), mics=True, second=True,
+         asks=True, wrong='mic', good=''),
+    Case('damaged-ours', "a bit of our VERIFY's checksum is changed", ('A', 'A'), wrong='ours', good=''),
+    Case('damaged-mit', "a bit of MIT's VERIFY's checksum is changed on its way", ('A', 'A'), wrong='mit', good=''),
     Case('draft-usages', "our end signs with the draft's key usage", ('A', 'A'), usages='draft', good=''),
 ]

@@ -9,7 +9,8 @@ import secrets
 from collections import namedtuple
 
 from asking import NoAnswer, asked, save
-from envelopes import STATE_DONE, STATE_GOES_ON, STATE_REJECTED, unwrap, wrap_first, wrap_later
+from envelopes import (KERBEROS, NEGOEX, STATE_ASKS_MIC, STATE_DONE, STATE_GOES_ON, STATE_REJECTED, mechanism_list, unwrap, wrap_first,
+                       wrap_later)
 from messages import SCHEMES, letter, listed
 from ours import digits, open_call, refusal, written
 from talking import Mechanism
@@ -38,12 +39,16 @@ class OurEnd:
         self.side, self.live, self.case, self.folder, self.environment = side, live, case, folder, environment
         self.letters = case.lists['ia'.index(side)]
         self.calls, self.transcript, self.turns = [], b'', 0
+        self.used = self.would_use = 0                  # how long the transcript is as the programs say, and would be by the last call
         self.mechanisms, self.mechanism = [], None      # all contexts, and the one that goes on
         self.heard = None                               # the peer's last VERIFY
         self.told = None                                # the state in the peer's last envelope
+        self.mechanism_list = b''                       # SPNEGO's, which a mechListMIC is over
+        self.wants_mic, self.mics = False, set()        # whether there have to be MICs, and the ends whose MICs are there
         self.types = set()                              # the checksums' types
         self.usages = {}                                # by end, the key usages whose checksums are right
         self.signed_for = None                          # the scheme of this end's last VERIFY
+        self.heard_mic = b''
         self.outcome, self.notes = 'goes on', []
 
     # The programs.
@@ -53,9 +58,10 @@ class OurEnd:
         keep = f'{self.folder}/ours-{len(self.calls):02d}'
         save(keep + '.script', ''.join(one + '\n' for one in self.calls + [call]).encode())
         _, text = asked(['./negoex', 'converse', keep + '.script'], keep)
-        answers = text.splitlines()[:-1]
+        *answers, used = text.splitlines() or ['']
         if len(answers) != len(self.calls) + 1 or answers[-1] == 'bad line':
             raise NoAnswer(f'./negoex converse does not answer each call; {keep} has what it says')
+        self.would_use = int(re.search(rf' {self.side}=(\d+)', used)[1])
         return answers[-1]
 
     def make(self, call):
@@ -64,6 +70,7 @@ class OurEnd:
         if answer.startswith('refused'):
             raise Refused(refusal(answer))
         self.calls.append(call)
+        self.used = self.would_use
         return answer
 
     def write(self, words):
@@ -78,10 +85,14 @@ class OurEnd:
         self.told = envelope.state
         if self.told == STATE_REJECTED:
             raise Rejected('told state 2')
-        if not envelope.token:
-            if envelope.refused:
-                raise Refused(f'envelope {refusal(envelope.refused)}')
-            return []
+        self.wants_mic = self.wants_mic or (self.told == STATE_ASKS_MIC and self.case.mics)
+        if envelope.refused and not envelope.token:
+            raise Refused(f'envelope {refusal(envelope.refused)}')
+        self.mechanism_list = self.mechanism_list or mechanism_list(envelope.mechanisms)
+        self.heard_mic = envelope.mic
+        return self.read_token(envelope) if envelope.token else []
+
+    def read_token(self, envelope):
         self.make(f'{self.side} read {digits(envelope.token)}')
         for one in envelope.messages:
             if one.kind == VERIFY:
@@ -98,17 +109,26 @@ class OurEnd:
         self.environment = {**self.environment, 'CAPTURE_FAIL': ''}
         self.mechanisms.append(self.mechanism)
 
+    def advance(self, token):
+        """The mechanism's next token, if it has one, once it has the peer's. A mechanism that fails ends this end."""
+        octets = self.mechanism.step(token)
+        if self.mechanism.state == 'error':
+            raise Refused('its mechanism fails')
+        return octets
+
     def usage(self):
         """The key usage by which this end signs."""
         return MIT_USAGES[OTHER[self.side] if self.case.usages == 'draft' else self.side]
 
     def verify_words(self):
         """The words of a VERIFY over the transcript; none where the mechanism has no key yet."""
+        if self.used != len(self.transcript):
+            raise NoAnswer(f'{self.folder}: the transcript has {len(self.transcript)} octets, and the programs say {self.used}')
         made = self.mechanism.sign(self.usage(), self.transcript)
         if made is None:
             return ''
         kind, value = made
-        if self.case.damages == 'ours':
+        if self.case.wrong == 'ours':
             value = bytes([value[0] ^ 1]) + value[1:]
         return f'verify {kind & 0xFFFFFFFF:08X} {digits(value)}'
 
@@ -140,10 +160,25 @@ class OurEnd:
             self.types.add(f'{self.heard.kind & 0xFFFFFFFF:08X}')
             self.usages[peer] = right
 
-    def is_done(self):
+    def is_complete(self):
         """Its mechanism is done, its VERIFY is written, and the peer's was right."""
         mine = self.mechanism
         return (mine is not None and mine.state == 'done' and self.signed_for == mine.letter and OTHER[self.side] in self.usages)
+
+    def mic(self):
+        """Its mechListMIC, where one is wanted and due. The peer's is checked first; a wrong one ends this end."""
+        if self.heard_mic and not (self.is_complete() and self.mechanism.is_mic(self.heard_mic, self.mechanism_list)):
+            raise Refused('refused: mechListMIC')
+        if self.heard_mic:
+            self.mics.add(OTHER[self.side])
+        if not self.wants_mic or not self.is_complete() or self.side in self.mics or self.case.wrong == 'no mic':
+            return b''
+        self.mics.add(self.side)
+        return self.mechanism.mic(self.mechanism_list + (b'!' if self.case.wrong == 'mic' else b''))
+
+    def is_done(self):
+        """Nothing is left to be read or written but what SPNEGO's states say."""
+        return self.is_complete() and (not self.wants_mic or self.mics == {'i', 'a'})
 
     # Turns.
 
@@ -162,11 +197,16 @@ class OurEnd:
         self.turns += 1
         try:
             token = self.answer(self.read(octets, keep + 'unwrap') if octets else [])
+            mic = self.mic()
         except Refused as reason:
             self.outcome = f'done, then {reason}' if self.outcome == 'done' else str(reason)
             return b'' if isinstance(reason, Rejected) else wrap_later(STATE_REJECTED, b'', keep + 'wrap')
         self.outcome = 'done' if self.is_done() else 'goes on'
-        return self.enclosed(token, keep + 'wrap')
+        return self.enclosed(token, mic, keep + 'wrap')
+
+    def state(self):
+        """What its envelope says of it."""
+        return STATE_DONE if self.outcome == 'done' else STATE_GOES_ON
 
     def goes_on(self):
         """Whether it takes another envelope: done, it still learns that its peer is not."""
@@ -181,12 +221,14 @@ class OurEnd:
 
 
 class OurInitiator(OurEnd):
+    has_chosen = False
 
     def answer(self, messages):
         """The octets of its next token."""
         if not self.calls:
-            return self.first_token()
-        choosing = f'choose {self.marks()} ' if self.turns == 2 else ''
+            return b'' if self.case.second and self.turns == 1 else self.first_token()
+        choosing = '' if self.has_chosen else f'choose {self.marks()} '
+        self.has_chosen = True
         challenges = [one for one in messages if one.kind == CHALLENGE]
         scheme = self.choice(choosing) if choosing else self.mechanism.letter
         token = self.mechanism_token(scheme, challenges, choosing)
@@ -197,12 +239,11 @@ class OurInitiator(OurEnd):
         return octets
 
     def first_token(self):
-        conversation = '-'.join(secrets.token_hex(size).upper() for size in (4, 2, 2, 2, 6))
-        self.make(open_call('i', self.letters).replace(' 65535 ', f' 65535 {conversation} '))
+        self.make(open_call('i', self.letters, secrets.token_bytes(16)))
         octets = self.write(f'offer {secrets.token_hex(32)}') + self.metadata(self.letters)
         if self.case.optimistic:
             self.open_mechanism(self.letters[0])
-            octets += self.write(f'exchange {digits(self.mechanism.step(b""))}') + self.sign()
+            octets += self.write(f'exchange {digits(self.advance(b""))}') + self.sign()
         return octets
 
     def choice(self, choosing):
@@ -215,19 +256,22 @@ class OurInitiator(OurEnd):
     def mechanism_token(self, scheme, challenges, choosing):
         """The mechanism's next token, if it has one. A context that the reply does not go on with is given up."""
         if challenges and self.mechanism is not None and self.mechanism.letter == scheme:
-            return self.mechanism.step(challenges[0].octets)
+            return self.advance(challenges[0].octets)
         if choosing:
             self.open_mechanism(scheme)
-            return self.mechanism.step(b'')
+            return self.advance(b'')
         return b''
 
-    def enclosed(self, token, keep):
+    def enclosed(self, token, mic, keep):
         if self.turns == 1:
-            return wrap_first(token, keep)
-        return wrap_later(STATE_GOES_ON, token, keep) if token else b''
+            mechanisms = [KERBEROS, NEGOEX] if self.case.second else [NEGOEX]
+            self.mechanism_list = mechanism_list(mechanisms)
+            return wrap_first(mechanisms, token, keep)
+        return wrap_later(self.state(), token, keep, mic=mic) if token or mic else b''
 
     def is_done(self):
-        return super().is_done() and self.told == STATE_DONE
+        """As its peer says, unless MICs have said it to both."""
+        return super().is_done() and (self.wants_mic or self.told == STATE_DONE)
 
 
 class OurAcceptor(OurEnd):
@@ -242,7 +286,7 @@ class OurAcceptor(OurEnd):
         scheme = messages[0].schemes[0]
         if self.mechanism is None or self.mechanism.letter != scheme or not self.mechanism.answered:
             self.open_mechanism(scheme)
-        token = self.mechanism.step(requests[0].octets) if requests else b''
+        token = self.advance(requests[0].octets) if requests else b''
         self.check()
         self.sign_again(messages)
         return self.exchange(token) + self.sign()
@@ -250,6 +294,7 @@ class OurAcceptor(OurEnd):
     def read(self, octets, keep):
         if not self.calls:
             self.make(open_call('a', self.letters))
+            self.wants_mic = self.case.asks
         return super().read(octets, keep)
 
     def reply(self, requests):
@@ -277,6 +322,8 @@ class OurAcceptor(OurEnd):
         self.mechanism.answered = True
         return self.write(f'exchange {digits(token)}') if token or empty else b''
 
-    def enclosed(self, token, keep):
-        done = self.outcome == 'done'
-        return wrap_later(STATE_DONE if done else STATE_GOES_ON, token, keep, self.turns == 1) if token or done else b''
+    def enclosed(self, token, mic, keep):
+        if self.turns == 1 and self.wants_mic:
+            return wrap_later(STATE_ASKS_MIC, token, keep, names=True)
+        due = token or mic or (self.outcome == 'done' and self.told != STATE_DONE)
+        return wrap_later(self.state(), token, keep, self.turns == 1, mic) if due else b''

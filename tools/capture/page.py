@@ -27,7 +27,8 @@ def with_parts(text, parts):
 def write_page(page, measured):
     """Writes the parts that `measured` answers, as lines by their names, in one step, when all have answered."""
     try:
-        text, changed = with_parts(octets_of(page).decode(), measured())
+        parts = measured()
+        text, changed = with_parts(octets_of(page).decode(), parts)
     except NoAnswer as reason:
         sys.exit(f'capture: {reason}; {page} is as it was')
     save(page + '.new', text.encode())

@@ -11,7 +11,7 @@ from messages import kind, kind_word, letter, listed, number, scheme, split
 MIT_BASE = 0x20000000
 MIT_WORDS = {6: 'signature', 7: 'type', 8: 'size', 9: 'conversation', 17: 'no NEGO', 19: 'no common scheme', 21: 'checksum scheme',
              22: 'checksum', 23: 'critical extension', 24: 'version', 25: 'sequence'}
-ROUTINE_WORDS = {'1': 'bad mechanism', '9': 'defective token', '13': 'failure'}
+ROUTINE_WORDS = {'1': 'bad mechanism', '6': 'MIC', '9': 'defective token', '13': 'failure'}
 SAMBA_WORDS = {'Buffer Size Error': 'size', 'Bad Switch': 'type', 'Allocation Error': 'no memory'}
 NDRDUMP_TYPE = ['negoex', 'negoex_MESSAGE_ARRAY', 'struct']
 # Packets of link type 147 are said to be NEGOEX tokens.

@@ -15,10 +15,13 @@ class Talk:
     """A program that answers each line of its standard input. Both sides are kept in the file `keep`."""
 
     def __init__(self, command, keep, environment):
+        if not os.path.exists(command[0]):
+            raise NoAnswer(f'there is no program {command[0]}')
         self.keep = open(keep, 'w', encoding='utf-8')
         self.program = subprocess.Popen(command, stdin=subprocess.PIPE, stdout=subprocess.PIPE, stderr=self.keep, text=True,
                                         env={**os.environ, **environment})
         self.timer = threading.Timer(LONGEST, self.program.kill)
+        self.timer.daemon = True
         self.timer.start()
 
     def ask(self, line, answers=1):
@@ -91,6 +94,13 @@ class Mechanism:
         """The draft's key usages by which this checksum over these octets is right; None where the mechanism has no key yet."""
         said = {usage: self.talk.ask(f'check {usage} {kind} {digits(value)} {digits(octets)}')[0] for usage in (23, 25)}
         return None if 'no key' in said.values() else [usage for usage, one in said.items() if one == 'right']
+
+    def mic(self, octets):
+        return octets_in(self.talk.ask('mic ' + digits(octets))[0])
+
+    def is_mic(self, mic, octets):
+        """Whether this is the peer's MIC of these octets."""
+        return self.talk.ask(f'check-mic {digits(mic)} {digits(octets)}')[0] == 'right'
 
     def close(self):
         self.talk.close()
