@@ -21,6 +21,9 @@ class Case:
     fails: dict = field(default_factory=dict)
     # What our end does by itself.
     usages: str = 'mit'              # whose key usages it signs by: `mit` or `draft`
+    extension: bool = False          # its NEGO has an extension, which is not critical
+    waits: bool = False              # it waits with its VERIFY until its mechanism is done
+    alerts: bool = False             # it answers a VERIFY that it can't check yet with an ALERT
     empty: bool = False              # as acceptor it sends a CHALLENGE in its reply even where its mechanism has no token left
     second: bool = False             # as initiator it names another mechanism before NEGOEX in its NegTokenInit
     asks: bool = False               # as acceptor it asks for a mechListMIC
@@ -31,7 +34,8 @@ class Case:
 
     def is_ours(self):
         """Whether it is about something that only our end does, or that is done to an envelope."""
-        return bool(self.usages != 'mit' or self.empty or self.second or self.asks or self.wrong)
+        return bool(self.usages != 'mit' or self.extension or self.waits or self.alerts or self.empty or self.second or self.asks
+                    or self.wrong)
 
     def scheme(self):
         """The choice by the rule: the first of the acceptor's order that both list and neither marks."""
@@ -68,6 +72,15 @@ CASES = [
     Case('early-a', 'the acceptor alone has its key early, four tokens', ('A', 'A'), hops=4, early='a', good='i'),
     Case('early-i-3', 'the initiator alone has its key early, three tokens', ('A', 'A'), hops=3, early='i', good='a'),
     Case('early-later', 'the same, and no AP_REQUEST in the first token', ('A', 'A'), hops=3, early='i', optimistic=False, good='a'),
+    Case('waits-a', 'the acceptor alone has its key early, four tokens; ours waits until the mechanism is done', ('A', 'A'), hops=4, early='a',
+         waits=True, sides='a'),
+    Case('waits-i', 'the initiator alone has its key early, three tokens; ours waits', ('A', 'A'), hops=3, early='i', waits=True, sides='i'),
+    Case('waits-later', 'the same, and no AP_REQUEST in the first token', ('A', 'A'), hops=3, early='i', optimistic=False, waits=True,
+         sides='i'),
+    Case('alerts-i', "the acceptor alone has its key early, four tokens; ours sends an ALERT", ('A', 'A'), hops=4, early='a', alerts=True,
+         sides='i', good=''),
+    Case('alerts-a', 'the initiator alone has its key early, three tokens, no AP_REQUEST in the first token; ours sends an ALERT', ('A', 'A'),
+         hops=3, early='i', optimistic=False, alerts=True, sides='a', good=''),
     Case('one-token', 'one token of the mechanism', ('A', 'A'), hops=1, good=''),
     Case('one-token-empty', 'the same, and an empty CHALLENGE of our acceptor', ('A', 'A'), hops=1, empty=True, sides='a'),
     Case('one-token-later', 'one token, and no AP_REQUEST in the first token', ('A', 'A'), hops=1, optimistic=False),
@@ -81,6 +94,7 @@ CASES = [
          wrong='no mic', sides='i', good=''),
     Case('mic-wrong', 'Kerberos first, or our acceptor asks, and our MIC is that of other octets', ('A', 'A'), mics=True, second=True,
          asks=True, wrong='mic', good=''),
+    Case('extension', 'our NEGO has an extension of type 5', ('A', 'A'), extension=True, good=''),
     Case('damaged-ours', "a bit of our VERIFY's checksum is changed", ('A', 'A'), wrong='ours', good=''),
     Case('damaged-mit', "a bit of MIT's VERIFY's checksum is changed on its way", ('A', 'A'), wrong='mit', good=''),
     Case('draft-usages', "our end signs with the draft's key usage", ('A', 'A'), usages='draft', good=''),

@@ -19,6 +19,9 @@ CHALLENGE, AP_REQUEST, VERIFY, ALERT = 4, 5, 6, 7
 OTHER = {'i': 'a', 'a': 'i'}
 # MIT's key usages, by the end that signs; the draft has them the other way round.
 MIT_USAGES = {'i': 25, 'a': 23}
+EXTENSION = ' 00000005:AB'
+# An ALERT, as MIT sends it, that says that there is no key yet: a pulse (docs/RULES.md).
+NO_KEY = 'alert 00000000 00000001:0800000001000000'
 
 # A VERIFY of the peer: its scheme, its checksum's type and value, and all that came before it.
 Heard = namedtuple('Heard', 'scheme kind value before')
@@ -134,7 +137,8 @@ class OurEnd:
 
     def sign(self, choosing=''):
         """Writes this end's VERIFY, where it has none for the scheme yet, and has the key."""
-        words = '' if self.signed_for == self.mechanism.letter else self.verify_words()
+        waits = self.signed_for == self.mechanism.letter or (self.case.waits and self.mechanism.state != 'done')
+        words = '' if waits else self.verify_words()
         if not words:
             return b''
         octets = self.write(choosing + words)
@@ -147,6 +151,11 @@ class OurEnd:
         """What the programs say to a second VERIFY, where the peer's ALERT asks for one. None is sent."""
         if ALERT in [one.kind for one in messages] and self.signed_for == self.mechanism.letter:
             self.notes.append('a second VERIFY is ' + refusal(self.play(f'{self.side} {self.verify_words()}')))
+
+    def alert(self):
+        """Writes an ALERT, where the case has it and the peer's VERIFY can't be checked yet."""
+        unchecked = self.heard is not None and self.heard.scheme == self.mechanism.letter and OTHER[self.side] not in self.usages
+        return self.write(NO_KEY) if self.case.alerts and unchecked else b''
 
     def check(self):
         """Checks the peer's VERIFY for the scheme, once the mechanism has the key for it. A wrong one ends this end."""
@@ -186,6 +195,9 @@ class OurEnd:
         """This end's marks: bit k is for place k of its list."""
         marked = self.case.marks.get(self.side, '')
         return f'{sum(1 << k for k, one in enumerate(self.letters) if one in marked):04X}'
+
+    def extension(self):
+        return EXTENSION if self.case.extension else ''
 
     def metadata(self, schemes):
         octets = self.case.metadata
@@ -236,11 +248,11 @@ class OurInitiator(OurEnd):
         self.sign_again(messages)
         octets = self.write(f'{choosing}exchange {digits(token)}') if token else b''
         octets += self.sign('' if octets else choosing)
-        return octets
+        return octets + self.alert()
 
     def first_token(self):
         self.make(open_call('i', self.letters, secrets.token_bytes(16)))
-        octets = self.write(f'offer {secrets.token_hex(32)}') + self.metadata(self.letters)
+        octets = self.write(f'offer {secrets.token_hex(32)}{self.extension()}') + self.metadata(self.letters)
         if self.case.optimistic:
             self.open_mechanism(self.letters[0])
             octets += self.write(f'exchange {digits(self.advance(b""))}') + self.sign()
@@ -289,7 +301,7 @@ class OurAcceptor(OurEnd):
         token = self.advance(requests[0].octets) if requests else b''
         self.check()
         self.sign_again(messages)
-        return self.exchange(token) + self.sign()
+        return self.exchange(token) + self.sign() + self.alert()
 
     def read(self, octets, keep):
         if not self.calls:
@@ -298,7 +310,7 @@ class OurAcceptor(OurEnd):
         return super().read(octets, keep)
 
     def reply(self, requests):
-        answer = self.make(f'a reply {self.marks()} {secrets.token_hex(32)}')
+        answer = self.make(f'a reply {self.marks()} {secrets.token_hex(32)}{self.extension()}')
         octets, scheme = written(answer), letter(re.search(r' choice=(\S+)', answer)[1])
         self.transcript += octets
         octets += self.metadata(listed(octets).split(', '))
