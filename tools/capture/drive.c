@@ -10,16 +10,14 @@
  * does. Lists are letters: A to F for the mechanisms 1 to 6. `converse` writes turn NN of end i or a as FOLDER/NN-E.spnego, and
  * the NEGOEX token in it, if there is one, as FOLDER/NN-E.negoex.
  *
- * Each call prints a line: the end, the call's number, the routine error, whether more is to come, the minor status and the
- * library's text for it. The status is 0 where no call was refused (for `converse`: where both ends are done), 1 where one was,
- * and 2 where nothing could be asked.
+ * Each turn prints its line (ends.h). The status is 0 where none was refused (for `converse`: where both ends are done), 1 where
+ * one was, and 2 where nothing could be asked.
  */
 #include <stdio.h>
 #include <stdlib.h>
 #include <string.h>
-#include <gssapi/gssapi.h>
-#include <gssapi/gssapi_ext.h>
 #include <krb5/krb5.h>
+#include "ends.h"
 
 #define LIMIT 200000
 
@@ -28,13 +26,6 @@ enum { OCTET_STRING = 0x04, OBJECT_IDENTIFIER = 0x06, SEQUENCE = 0x30, FRAME = 0
 
 static unsigned char negoex_elements[] = { 0x2B, 0x06, 0x01, 0x04, 0x01, 0x82, 0x37, 0x02, 0x02, 0x1E };
 static unsigned char spnego_elements[] = { 0x2B, 0x06, 0x01, 0x05, 0x05, 0x02 };
-static gss_OID_desc spnego = { sizeof spnego_elements, spnego_elements };
-
-static void fail(const char *what, const char *which)
-{
-    fprintf(stderr, "drive: %s%s\n", what, which);
-    exit(2);
-}
 
 static void save(const char *path, const void *octets, size_t length)
 {
@@ -174,51 +165,6 @@ static int is_negoex(struct span token)
     return token.length >= 40 && memcmp(token.at, "NEGOEXTS", 8) == 0;
 }
 
-/* The mechanisms that the letters of `list` name. */
-static gss_OID_set mechanisms(const char *list)
-{
-    unsigned char arc[] = { 0x2B, 0x06, 0x01, 0x04, 0x01, 0x81, 0xFD, 0x59, 0x01, 0 };
-    gss_OID_desc mech = { sizeof arc, arc };
-    gss_OID_set set;
-    OM_uint32 minor;
-    if (gss_create_empty_oid_set(&minor, &set) != GSS_S_COMPLETE)
-        fail("no set of mechanisms was made", "");
-    for (; *list != '\0'; list++) {
-        if (*list < 'A' || *list > 'F')
-            fail("a list has letters from A to F, and not: ", list);
-        arc[sizeof arc - 1] = (unsigned char)(*list - 'A' + 1);
-        if (gss_add_oid_set_member(&minor, &mech, &set) != GSS_S_COMPLETE)
-            fail("no set of mechanisms was made", "");
-    }
-    return set;
-}
-
-static gss_cred_id_t credential(const char *list, int usage)
-{
-    gss_OID_set_desc wanted = { 1, &spnego };
-    gss_OID_set own = mechanisms(list);
-    gss_cred_id_t made;
-    OM_uint32 minor;
-    if (gss_acquire_cred(&minor, GSS_C_NO_NAME, GSS_C_INDEFINITE, &wanted, usage, &made, NULL, NULL) != GSS_S_COMPLETE)
-        fail("MIT's library gives no credential: is GSS_MECH_CONFIG set?", "");
-    if (gss_set_neg_mechs(&minor, made, own) != GSS_S_COMPLETE)
-        fail("MIT's library doesn't take the list ", list);
-    gss_release_oid_set(&minor, &own);
-    return made;
-}
-
-static void report(char end, int call, OM_uint32 major, OM_uint32 minor)
-{
-    OM_uint32 ignored, more = 0;
-    gss_buffer_desc text = { 0, NULL };
-    const char *state = GSS_ERROR(major) ? "error" : major & GSS_S_CONTINUE_NEEDED ? "goes-on" : "done";
-    if (minor != 0)
-        gss_display_status(&ignored, minor, GSS_C_MECH_CODE, &spnego, &more, &text);
-    printf("%c %d routine=%u %s minor=%u %.*s\n", end, call, (unsigned)GSS_ROUTINE_ERROR(major) >> 16, state, (unsigned)minor,
-           (int)text.length, text.value == NULL ? "" : (char *)text.value);
-    gss_release_buffer(&ignored, &text);
-}
-
 /* Writes the NEGOEX token in a SPNEGO token, if there is one, and answers it. */
 static struct span save_inner(const char *path, gss_buffer_t token)
 {
@@ -238,50 +184,20 @@ static void keep(const char *folder, int turn, char end, gss_buffer_t token)
     save_inner(path, token);
 }
 
-static gss_name_t target_name(void)
-{
-    gss_buffer_desc service = { 12, "host@example" };
-    gss_name_t target;
-    OM_uint32 minor;
-    if (gss_import_name(&minor, &service, GSS_C_NT_HOSTBASED_SERVICE, &target) != GSS_S_COMPLETE)
-        fail("MIT's library takes no name", "");
-    return target;
-}
-
-static OM_uint32 initiate(gss_cred_id_t own, gss_ctx_id_t *context, gss_name_t target, gss_buffer_t in, gss_buffer_t out, int turn)
-{
-    OM_uint32 minor, major;
-    major = gss_init_sec_context(&minor, own, context, target, &spnego, GSS_C_MUTUAL_FLAG | GSS_C_INTEG_FLAG, 0,
-                                 GSS_C_NO_CHANNEL_BINDINGS, in, NULL, out, NULL, NULL);
-    report('i', turn, major, minor);
-    return major;
-}
-
-static OM_uint32 accept_token(gss_cred_id_t own, gss_ctx_id_t *context, gss_buffer_t in, gss_buffer_t out, int turn)
-{
-    OM_uint32 minor, major;
-    major = gss_accept_sec_context(&minor, context, own, in, GSS_C_NO_CHANNEL_BINDINGS, NULL, NULL, out, NULL, NULL, NULL);
-    report('a', turn, major, minor);
-    return major;
-}
-
 static int converse(const char *folder, const char *own, const char *peer)
 {
-    gss_cred_id_t initiator = credential(own, GSS_C_INITIATE), acceptor = credential(peer, GSS_C_ACCEPT);
-    gss_ctx_id_t contexts[2] = { GSS_C_NO_CONTEXT, GSS_C_NO_CONTEXT };
+    struct end ends[2] = { open_end('i', own), open_end('a', peer) };
     gss_buffer_desc tokens[2] = { { 0, NULL }, { 0, NULL } };
     OM_uint32 minor, majors[2] = { GSS_S_CONTINUE_NEEDED, GSS_S_CONTINUE_NEEDED };
-    gss_name_t target = target_name();
     for (int turn = 0; turn < 100; turn++) {
         int end = turn % 2;
         gss_buffer_t in = &tokens[1 - end], out = &tokens[end];
         gss_release_buffer(&minor, out);
         if (majors[end] != GSS_S_CONTINUE_NEEDED || (turn > 0 && in->length == 0))
             break;
-        majors[end] = end == 0 ? initiate(initiator, &contexts[0], target, in, out, turn)
-                               : accept_token(acceptor, &contexts[1], in, out, turn);
+        majors[end] = take_turn(&ends[end], in, out);
         if (out->length > 0)
-            keep(folder, turn, end == 0 ? 'i' : 'a', out);
+            keep(folder, turn, ends[end].side, out);
     }
     return majors[0] == GSS_S_COMPLETE && majors[1] == GSS_S_COMPLETE ? 0 : 1;
 }
@@ -289,10 +205,9 @@ static int converse(const char *folder, const char *own, const char *peer)
 static int offer(const char *path, const char *own, const char *next)
 {
     static unsigned char token[LIMIT];
-    gss_cred_id_t acceptor = credential(own, GSS_C_ACCEPT);
-    gss_ctx_id_t context = GSS_C_NO_CONTEXT;
+    struct end acceptor = open_end('a', own);
     gss_buffer_desc in = wrap_first(token, load(path, token, sizeof token)), out = { 0, NULL };
-    OM_uint32 major = accept_token(acceptor, &context, &in, &out, 0);
+    OM_uint32 major = take_turn(&acceptor, &in, &out);
     save_inner(next, &out);
     return GSS_ERROR(major) ? 1 : 0;
 }
@@ -363,13 +278,11 @@ static int answer(const char *path, const char *own, const char *first_path, con
 {
     static unsigned char token[LIMIT];
     size_t length = load(path, token, sizeof token);
-    gss_cred_id_t initiator = credential(own, GSS_C_INITIATE);
-    gss_ctx_id_t context = GSS_C_NO_CONTEXT;
+    struct end initiator = open_end('i', own);
     gss_buffer_desc sent = { 0, NULL }, in, out = { 0, NULL };
-    gss_name_t target = target_name();
     struct span first;
     OM_uint32 major;
-    if (initiate(initiator, &context, target, GSS_C_NO_BUFFER, &sent, 0) != GSS_S_CONTINUE_NEEDED)
+    if (take_turn(&initiator, GSS_C_NO_BUFFER, &sent) != GSS_S_CONTINUE_NEEDED)
         fail("MIT's initiator makes no first token", "");
     first = save_inner(first_path, &sent);
     if (first.length == 0)
@@ -377,7 +290,7 @@ static int answer(const char *path, const char *own, const char *first_path, con
     turn_round(token, length, first);
     save(reply_path, token, length);
     in = wrap_reply(token, length);
-    major = initiate(initiator, &context, target, &in, &out, 2);
+    major = take_turn(&initiator, &in, &out);
     save_inner(next, &out);
     return GSS_ERROR(major) ? 1 : 0;
 }

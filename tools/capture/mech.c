@@ -9,6 +9,9 @@
  *   CAPTURE_META   octets of metadata that each end sends for a scheme (0, none)
  *   CAPTURE_ETYPE  encryption type of the key: 17, 18 or 23 (17)
  *   CAPTURE_EARLY  the ends, as `i`, `a` or `ia`, that have the key before the mechanism is done (none)
+ *   CAPTURE_MARK   the mechanisms, as letters from A, that fail when this process gets the peer's metadata for them (none)
+ *   CAPTURE_FAIL   those whose first context in this process fails (none); a second one does not
+ *   CAPTURE_MIC    1 where the mechanism says at the acceptor too that it has MICs (0)
  */
 #include <stdint.h>
 #include <stdio.h>
@@ -62,6 +65,13 @@ static int setting(const char *variable, int otherwise)
     return text == NULL ? otherwise : atoi(text);
 }
 
+/* Whether the letter of the scheme is among those of the variable. */
+static int named(const char *variable, int scheme)
+{
+    const char *letters = getenv(variable);
+    return letters != NULL && scheme >= 0 && strchr(letters, 'A' + scheme) != NULL;
+}
+
 static int scheme_of(const void *octets, size_t length)
 {
     for (int k = 0; k < SCHEMES; k++)
@@ -72,7 +82,8 @@ static int scheme_of(const void *octets, size_t length)
 
 static struct context *open_context(int scheme, int initiator)
 {
-    struct context *made = calloc(1, sizeof *made);
+    static int opened[SCHEMES];
+    struct context *made = named("CAPTURE_FAIL", scheme) && opened[scheme]++ == 0 ? NULL : calloc(1, sizeof *made);
     if (made != NULL) {
         made->scheme = scheme;
         made->initiator = initiator;
@@ -174,7 +185,7 @@ OM_uint32 gss_accept_sec_context(OM_uint32 *minor, gss_ctx_id_t *context, gss_cr
     if (mech != NULL)
         *mech = &mechs[mine->scheme];
     if (given != NULL)
-        *given = 0;
+        *given = setting("CAPTURE_MIC", 0) ? GSS_C_INTEG_FLAG : 0;
     if (left != NULL)
         *left = GSS_C_INDEFINITE;
     if (delegated != NULL)
@@ -241,6 +252,34 @@ OM_uint32 gss_display_status(OM_uint32 *minor, OM_uint32 value, int type, gss_OI
     return text->value == NULL ? GSS_S_FAILURE : GSS_S_COMPLETE;
 }
 
+/* The MIC of a message by an end: the letters MIC, the end and the message. */
+static int is_mic(int initiator, const unsigned char *octets, size_t length, gss_buffer_t message)
+{
+    return length == 4 + message->length && memcmp(octets, initiator ? "MICi" : "MICa", 4) == 0
+        && memcmp(octets + 4, message->value, message->length) == 0;
+}
+
+OM_uint32 gss_get_mic(OM_uint32 *minor, gss_ctx_id_t context, gss_qop_t quality, gss_buffer_t message, gss_buffer_t mic)
+{
+    (void)quality;
+    *minor = 0;
+    mic->length = 4 + message->length;
+    mic->value = malloc(mic->length);
+    if (mic->value == NULL)
+        return GSS_S_FAILURE;
+    memcpy(mic->value, ((struct context *)context)->initiator ? "MICi" : "MICa", 4);
+    memcpy((char *)mic->value + 4, message->value, message->length);
+    return GSS_S_COMPLETE;
+}
+
+OM_uint32 gss_verify_mic(OM_uint32 *minor, gss_ctx_id_t context, gss_buffer_t message, gss_buffer_t mic, gss_qop_t *quality)
+{
+    *minor = 0;
+    if (quality != NULL)
+        *quality = GSS_C_QOP_DEFAULT;
+    return is_mic(!((struct context *)context)->initiator, mic->value, mic->length, message) ? GSS_S_COMPLETE : GSS_S_BAD_SIG;
+}
+
 OM_uint32 gssspi_query_mechanism_info(OM_uint32 *minor, gss_const_OID mech, unsigned char scheme[16])
 {
     int k = scheme_of(mech->elements, mech->length);
@@ -272,9 +311,9 @@ OM_uint32 gssspi_query_meta_data(OM_uint32 *minor, gss_const_OID mech, gss_cred_
 OM_uint32 gssspi_exchange_meta_data(OM_uint32 *minor, gss_const_OID mech, gss_cred_id_t cred, gss_ctx_id_t *context,
                                     const gss_name_t target, OM_uint32 flags, gss_const_buffer_t in)
 {
-    (void)mech; (void)cred; (void)context; (void)target; (void)flags; (void)in;
+    (void)cred; (void)context; (void)target; (void)flags; (void)in;
     *minor = 0;
-    return GSS_S_COMPLETE;
+    return named("CAPTURE_MARK", scheme_of(mech->elements, mech->length)) ? GSS_S_FAILURE : GSS_S_COMPLETE;
 }
 
 static int same(gss_const_OID left, gss_const_OID right)

@@ -11,7 +11,7 @@ from messages import kind, kind_word, letter, listed, number, scheme, split
 MIT_BASE = 0x20000000
 MIT_WORDS = {6: 'signature', 7: 'type', 8: 'size', 9: 'conversation', 17: 'no NEGO', 19: 'no common scheme', 21: 'checksum scheme',
              22: 'checksum', 23: 'critical extension', 24: 'version', 25: 'sequence'}
-ROUTINE_WORDS = {'9': 'defective token'}
+ROUTINE_WORDS = {'1': 'bad mechanism', '6': 'MIC', '9': 'defective token', '13': 'failure'}
 SAMBA_WORDS = {'Buffer Size Error': 'size', 'Bad Switch': 'type', 'Allocation Error': 'no memory'}
 NDRDUMP_TYPE = ['negoex', 'negoex_MESSAGE_ARRAY', 'struct']
 # Packets of link type 147 are said to be NEGOEX tokens.
@@ -33,11 +33,17 @@ def mit(drive, words, keep, environment):
     """The state of the end that was asked (or its refusal), and the messages that it sent."""
     sent = keep + '-next'
     _, line = driven(drive, words + [sent], keep, environment)
+    refused = mit_refusal(line)
+    return (refused, []) if refused else (line[3], split(octets_of(sent)) if os.path.exists(sent) else [])
+
+
+def mit_refusal(line):
+    """The refusal in the words of a turn's line (ends.h), in our words; empty where there is none."""
+    if line[3] != 'error':
+        return ''
     fields = dict(word.split('=') for word in line if re.fullmatch(r'\w+=\d+', word))
-    if line[3] == 'error':
-        routine = ROUTINE_WORDS.get(fields['routine'], f'routine error {fields["routine"]}')
-        return 'refused: ' + MIT_WORDS.get(int(fields['minor']) - MIT_BASE, routine), []
-    return line[3], split(octets_of(sent)) if os.path.exists(sent) else []
+    routine = ROUTINE_WORDS.get(fields['routine'], f'routine error {fields["routine"]}')
+    return 'refused: ' + MIT_WORDS.get(int(fields['minor']) - MIT_BASE, routine)
 
 
 def sends(messages):
