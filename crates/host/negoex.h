@@ -116,7 +116,7 @@ int64_t negoex_table(const uint8_t *token, size_t token_size, uint8_t *buffer, s
 #define NEGOEX_ENTRY_EXTENSION_VALUE_VECTOR 28
 #define NEGOEX_ENTRY_ALERT_TYPE 29             /* the fields of an alert */
 #define NEGOEX_ENTRY_ALERT_VALUE_VECTOR 30
-#define NEGOEX_ENTRY_REST 31                   /* octets and no field: of negoex_fault alone */
+#define NEGOEX_ENTRY_REST 31                   /* octets and no field: of negoex_fault alone; its value is 0 */
 
 /* The number of entries of a token: no more than the token has octets. */
 int64_t negoex_entry_count(const uint8_t *token, size_t token_size);
