@@ -154,7 +154,22 @@ module _ (q : ℕ) (i a : List (List ℕ)) where
     go zero = unfold turnsFrom in refl
     go (suc n) = unfold turnsFrom in rw (le-ltb 0 _ f, le-ltb 0 _ g)
 
--- 4. the loop: what is left of both files, and the number of the next message
+-- 4. what the next turn's answer says
+
+pub data Says (q : ℕ) (i a : List ℕ) (n : Next) : Type 0 where
+  initiators : 0 < length (runFrom q (messagesOf i)) → n .acceptors ≡ false → n .initiator ≡ length (join (runFrom q (messagesOf i))) → n .acceptor ≡ 0 → n .messages ≡ length (runFrom q (messagesOf i)) → Says q i a n
+  acceptors : length (runFrom q (messagesOf i)) ≤ 0 → n .acceptors ≡ true → n .initiator ≡ 0 → n .acceptor ≡ length (join (runFrom q (messagesOf a))) → n .messages ≡ length (runFrom q (messagesOf a)) → Says q i a n
+
+pub says : (q : ℕ) (i a : List ℕ) (n : Next) → n ≡ nextIn q i a → Says q i a n
+unfolding nextIn ranIn
+says q i a n n-is = elim (which (ltb 0 (length (runFrom q (messagesOf i))))) [
+  | inl e ↦ let z : n ≡ nextBy false (ranIn q i) = rw e at n-is in
+      initiators (ltb-true _ _ e) (ap (λ (x : Next). x .acceptors) z) (ap (λ (x : Next). x .initiator) z) (ap (λ (x : Next). x .acceptor) z) (ap (λ (x : Next). x .messages) z)
+  | inr e ↦ let z : n ≡ nextBy true (ranIn q a) = rw e at n-is in
+      acceptors (ltb-false _ _ e) (ap (λ (x : Next). x .acceptors) z) (ap (λ (x : Next). x .initiator) z) (ap (λ (x : Next). x .acceptor) z) (ap (λ (x : Next). x .messages) z)
+]
+
+-- 5. the loop: what is left of both files, and the number of the next message
 
 pub record RowOn (i a i-left a-left : List ℕ) (number : ℕ) : Type 0 where
   pub short-i : length i-left ≤ 65535
@@ -169,7 +184,6 @@ module _ (i a i-left a-left : List ℕ) (number : ℕ) (on : RowOn i a i-left a-
   pub row-short : (length i-left ≤ 65535) × (length a-left ≤ 65535)
   row-short = (on .short-i, on .short-a)
 
-  -- what the next turn's answer says
   module _ (n : Next) (n-is : n ≡ nextIn number i-left a-left) where
     abbrev ri : List (List ℕ)
     ri = runFrom number (messagesOf i-left)
@@ -177,37 +191,30 @@ module _ (i a i-left a-left : List ℕ) (number : ℕ) (on : RowOn i a i-left a-
     abbrev ra : List (List ℕ)
     ra = runFrom number (messagesOf a-left)
 
-    pub data Says : Type 0 where
-      initiators : 0 < length ri → n .acceptors ≡ false → n .initiator ≡ length (join ri) → n .acceptor ≡ 0 → n .messages ≡ length ri → Says
-      acceptors : length ri ≤ 0 → n .acceptors ≡ true → n .initiator ≡ 0 → n .acceptor ≡ length (join ra) → n .messages ≡ length ra → Says
+    abbrev Said : Type 0
+    Said = Says number i-left a-left n
 
-    pub says : Says
-    unfolding nextIn ranIn
-    says = elim (which (ltb 0 (length ri))) [
-      | inl e ↦ let z : n ≡ nextBy false (ranIn number i-left) = rw e at n-is in
-          initiators (ltb-true _ _ e) (ap (λ (x : Next). x .acceptors) z) (ap (λ (x : Next). x .initiator) z) (ap (λ (x : Next). x .acceptor) z) (ap (λ (x : Next). x .messages) z)
-      | inr e ↦ let z : n ≡ nextBy true (ranIn number a-left) = rw e at n-is in
-          acceptors (ltb-false _ _ e) (ap (λ (x : Next). x .acceptors) z) (ap (λ (x : Next). x .initiator) z) (ap (λ (x : Next). x .acceptor) z) (ap (λ (x : Next). x .messages) z)
-    ]
+    said : Said
+    said = says number i-left a-left n n-is
 
     pub row-ends : n .messages ≡ 0 → (all : ℕ) → eqb number all ≡ eqb (together (turnsOf (messagesOf i) (messagesOf a))) all
-    row-ends z all = ap (λ (k : ℕ). eqb k all) (go says) where
+    row-ends z all = ap (λ (k : ℕ). eqb k all) (go said) where
       none : turnsLeft number (messagesOf i-left) (messagesOf a-left) ≡ [] → number ≡ together (turnsOf (messagesOf i) (messagesOf a))
       none e = unfold together in (let y : together (turnsLeft number (messagesOf i-left) (messagesOf a-left)) ≡ 0 = ap together e in omega (arith, on .come))
 
-      go : Says → number ≡ together (turnsOf (messagesOf i) (messagesOf a))
+      go : Said → number ≡ together (turnsOf (messagesOf i) (messagesOf a))
       go (initiators s r o p m) = absurd (omega arith)
       go (acceptors s r o p m) = none (turns-none number (messagesOf i-left) (messagesOf a-left) s (omega arith))
 
     pub row-within-i : n .initiator ≤ length i-left
-    row-within-i = go says where
-      go : Says → n .initiator ≤ length i-left
+    row-within-i = go said where
+      go : Said → n .initiator ≤ length i-left
       go (initiators s r o p m) = omega (arith, run-within number i-left)
       go (acceptors s r o p m) = omega arith
 
     pub row-within-a : n .acceptor ≤ length a-left
-    row-within-a = go says where
-      go : Says → n .acceptor ≤ length a-left
+    row-within-a = go said where
+      go : Said → n .acceptor ≤ length a-left
       go (initiators s r o p m) = omega arith
       go (acceptors s r o p m) = omega (arith, run-within number a-left)
 
@@ -230,8 +237,8 @@ module _ (i a i-left a-left : List ℕ) (number : ℕ) (on : RowOn i a i-left a-
     module _ (some : n .messages ≡ 0 → ⊥) where
       -- each message has octets
       octets-there : n .messages ≤ n .initiator + n .acceptor
-      octets-there = go says where
-        go : Says → n .messages ≤ n .initiator + n .acceptor
+      octets-there = go said where
+        go : Said → n .messages ≤ n .initiator + n .acceptor
         go (initiators s r o p m) = omega (arith, run-octets number i-left)
         go (acceptors s r o p m) = omega (arith, run-octets number a-left)
 
@@ -246,7 +253,7 @@ module _ (i a i-left a-left : List ℕ) (number : ℕ) (on : RowOn i a i-left a-
         short-i = omega (arith, i-length, on .short-i);
         short-a = omega (arith, a-length, on .short-a);
         few = omega (arith, i-length, a-length, on .few, octets-there, row-within-i, row-within-a);
-        come = on .come ∙ go says;
+        come = on .come ∙ go said;
       } where
         all-i : n .initiator ≡ 0 → messagesOf i-next ≡ messagesOf i-left
         all-i z = ap messagesOf (tail-all i-left (n .initiator)) ∙ ap (λ (k : ℕ). messagesOf (drop k i-left)) z
@@ -266,7 +273,7 @@ module _ (i a i-left a-left : List ℕ) (number : ℕ) (on : RowOn i a i-left a-
             ∙ ap (λ (l : List (List ℕ)). number + n .messages + together (turnsLeft (number + n .messages) l y)) (sym f)
             ∙ ap (λ (l : List (List ℕ)). number + n .messages + together (turnsLeft (number + n .messages) (messagesOf i-next) l)) (sym g)
 
-        go : Says → number + together (turnsLeft number (messagesOf i-left) (messagesOf a-left)) ≡ number + n .messages + together (turnsLeft (number + n .messages) (messagesOf i-next) (messagesOf a-next))
+        go : Said → number + together (turnsLeft number (messagesOf i-left) (messagesOf a-left)) ≡ number + n .messages + together (turnsLeft (number + n .messages) (messagesOf i-next) (messagesOf a-next))
         go (initiators s r o p m) =
             ap (λ (ts : List Turn). number + together ts) (turns-initiator number (messagesOf i-left) (messagesOf a-left) s)
             ∙ counted false ri (turnsLeft (number + length ri) (drop (length ri) (messagesOf i-left)) (messagesOf a-left))

@@ -1,18 +1,16 @@
 -- All turns, and the whole replay, in the words of the code.
 -- Assumes nothing.
-use Prim.Native.Nat.{ℕ, suc, _+_, _-_, _/_, _%_, _<_, _≤_}
+use Prim.Native.Nat.{ℕ, suc, _+_, _-_, _/_, _<_, _≤_}
 use mathlib.Core.Path.{_≡_, refl, sym, ap, subst, _∙_}
 use mathlib.Core.Bool.{Bool, true, false, cond, not, _&&_, _||_}
 use mathlib.Core.Logic.{_⊎_, inl, inr}
 use mathlib.Core.List.{List, [], _∷_}
 use native.Mathlib.Omega.{arith}
-use lib.ListN.{length, drop, replicate}
+use lib.ListN.{length, replicate}
 use lib.Dec.{eqb, leb}
-use borrow.Author.Tests.{eqb-true, leb-true}
+use borrow.Author.Tests.{leb-true}
 use Rattle.octets.proofs.Bools.{which, no-true, and-l, and-r}
-use Rattle.schemes.specs.Lists.{distinct, listOk, oneTo16}
-use Rattle.message.specs.Show.{idsOf}
-use Rattle.message.proofs.Ids.{length-ids}
+use Rattle.schemes.specs.Lists.{listOk}
 use Rattle.conversation.specs.Outcomes.{zeroId}
 use Rattle.conversation.specs.Writing.{opening}
 use Rattle.schemes.specs.Sets.{below}
@@ -22,7 +20,7 @@ use Rattle.replaying.specs.declared.Marks.{Marks}
 use Rattle.replaying.specs.declared.Found.{Found}
 use Rattle.replaying.specs.declared.Fault.{Fault}
 use Rattle.replaying.specs.declared.Replay.{Replay}
-use Rattle.replaying.proofs.Befores.{fault-none}
+use Rattle.replaying.proofs.Befores.{few-in, fault-none}
 use Rattle.replaying.specs.Playing.{fileIf, caseWith, endingAs, Summary, summary, counted, sidesIn, playedAs, leftOf, marked, restOf, begunWith, Begun, Fine, turnIn, Further, Ended, Goes}
 
 -- 1. the loop
@@ -136,14 +134,6 @@ ended-first x s p h = elim (which (x .missing)) [
   | inr m ↦ elim (which (eqb (x .refusal) 0)) [ inl z ↦ no-true (rw (m, z) at h) | inr z ↦ rw (m, z) ]
 ]
 
-few-in : (list : List ℕ) → listOk list ≡ true → length list / 16 ≤ 16
-unfolding listOk
-few-in list h =
-    let o : oneTo16 (idsOf list) ≡ true = and-r (eqb (length list % 16) 0) (oneTo16 (idsOf list)) h in
-    let f : leb 1 (length (idsOf list)) && leb (length (idsOf list)) 16 ≡ true = and-l (leb 1 (length (idsOf list)) && leb (length (idsOf list)) 16) (distinct (idsOf list)) o in
-    let n : length (idsOf list) ≤ 16 = leb-true _ _ (and-r (leb 1 (length (idsOf list))) (leb (length (idsOf list)) 16) f) in
-    omega (arith, length-ids (length list / 16) list)
-
 opened-counts : (x : Bool) (list v : List ℕ) → listOk list ≡ true → (opening x list v .next .count ≤ 16) × ((opening x list v .next .used ≡ 0) × (opening x list v .next .sequence ≡ 0))
 unfolding opening
 opened-counts x list v h = rw h (few-in list h, (refl, refl))
@@ -221,10 +211,7 @@ module _ (il al : List ℕ) (m : Marks) (f : Found) (i a : List ℕ) (x : Fault)
               in-a = omega arith;
               numbers = omega arith;
               few = omega arith;
-              few-i = oi .0;
-              few-a = oa .0;
-              used = oi .1 .0 ∙ sym (oa .1 .0);
-              sequence = oi .1 .1 ∙ sym (oa .1 .1);
+              level = record { few-w = oi .0; few-r = oa .0; used = oi .1 .0 ∙ sym (oa .1 .0); sequence = oi .1 .1 ∙ sym (oa .1 .1) };
             },
             (refl, fault-none x (sym q-is ∙ none) .0),
           )

@@ -32,19 +32,21 @@ use Rattle.replaying.specs.Playing.{fileIf, caseWith, whoseAs, endingAs,
 
 -- 1. lists and marks
 
+pub few-in : (list : List ℕ) → listOk list ≡ true → length list / 16 ≤ 16
+unfolding listOk
+few-in list h =
+    let o : oneTo16 (idsOf list) ≡ true = and-r (eqb (length list % 16) 0) (oneTo16 (idsOf list)) h in
+    let f : leb 1 (length (idsOf list)) && leb (length (idsOf list)) 16 ≡ true = and-l (leb 1 (length (idsOf list)) && leb (length (idsOf list)) 16) (distinct (idsOf list)) o in
+    let n : length (idsOf list) ≤ 16 = leb-true _ _ (and-r (leb 1 (length (idsOf list))) (leb (length (idsOf list)) 16) f) in
+    omega (arith, length-ids (length list / 16) list)
+
 module _ (list : List ℕ) (marks : ℕ) (b : Bool) (b-is : b ≡ listOk list) where
   pub given-list : b ≡ false → false ≡ listOk list && below (length list / 16) marks
   given-list e = rw (sym b-is ∙ e)
 
   module _ (e : b ≡ true) where
     pub given-small : length list / 16 < 4294967296
-    unfolding listOk
-    given-small =
-        let h : listOk list ≡ true = sym b-is ∙ e in
-        let o : oneTo16 (idsOf list) ≡ true = and-r (eqb (length list % 16) 0) (oneTo16 (idsOf list)) h in
-        let f : leb 1 (length (idsOf list)) && leb (length (idsOf list)) 16 ≡ true = and-l (leb 1 (length (idsOf list)) && leb (length (idsOf list)) 16) (distinct (idsOf list)) o in
-        let n : length (idsOf list) ≤ 16 = leb-true _ _ (and-r (leb 1 (length (idsOf list))) (leb (length (idsOf list)) 16) f) in
-        omega (arith, length-ids (length list / 16) list)
+    given-small = omega (arith, few-in list (sym b-is ∙ e))
 
     pub given-marks : (x : Bool) → x ≡ below (length list / 16) marks → x ≡ listOk list && below (length list / 16) marks
     given-marks x x-is = rw (sym b-is ∙ e) x-is

@@ -1,46 +1,28 @@
--- The next turn of what is left of two files: what its answer says, and the first message's conversation.
+-- The first message's conversation, by the next turn of two files; the replay before its first turn.
 -- Assumes nothing.
-use Prim.Native.Nat.{ℕ, _+_, _*_, _-_, _<_, _≤_}
-use mathlib.Core.Path.{_≡_, refl, sym, ap, subst, _∙_}
+use Prim.Native.Nat.{ℕ, _+_, _-_, _<_, _≤_}
+use mathlib.Core.Path.{_≡_, sym, ap, _∙_}
 use mathlib.Core.Bool.{Bool, true, false, cond, not}
-use mathlib.Core.Logic.{inl, inr}
-use mathlib.Core.List.{List, [], _∷_, _++_}
+use mathlib.Core.List.{List, [], _++_}
 use native.Mathlib.Omega.{arith}
-use lib.ListN.{length, take, drop, length-take, length-drop, take-append-drop}
+use lib.ListN.{length, take, drop, length-drop, take-append-drop}
 use lib.Seq.{take-append-le, drop-append-le}
-use lib.Dec.{eqb, ltb}
-use borrow.Author.Tests.{eq-eqb, ne-eqb, ltb-true, ltb-false}
+use borrow.Author.Tests.{eq-eqb, ne-eqb}
 use Rattle.octets.specs.Octets.{octets}
-use Rattle.octets.proofs.Bools.{which, no-true}
+use Rattle.octets.proofs.Bools.{no-true}
 use Rattle.token.specs.Split.{join}
 use Rattle.conversation.specs.declared.Answer.{Answer}
 use Rattle.conversation.specs.Outcomes.{zeroId}
 use Rattle.conversation.specs.Writing.{opening}
-use Rattle.sides.specs.Merging.{Turn, token, messagesOf, runFrom, turnsOf}
+use Rattle.sides.specs.Merging.{messagesOf, runFrom, turnsOf}
 use Rattle.sides.specs.Replay.{conversationIn}
 use Rattle.merging.specs.declared.Next.{Next}
-use Rattle.merging.specs.Merged.{ranIn, nextBy, nextIn, turnsLeft}
-use Rattle.merging.proofs.Rows.{run-octets, run-front, run-within, turns-initiator, turns-acceptor, turns-none}
+use Rattle.merging.specs.Merged.{nextIn}
+use Rattle.merging.proofs.Rows.{Says, initiators, acceptors, says, run-octets, run-front, run-within, turns-initiator, turns-acceptor, turns-none}
 use Rattle.replaying.specs.declared.Fault.{Fault}
-use Rattle.replaying.specs.declared.Replay.{Replay}
 use Rattle.replaying.specs.Playing.{begunWith, whoseIn}
 
--- 1. what the answer says
-
-pub data Says (q : ℕ) (i a : List ℕ) (n : Next) : Type 0 where
-  initiators : 0 < length (runFrom q (messagesOf i)) → n .acceptors ≡ false → n .initiator ≡ length (join (runFrom q (messagesOf i))) → n .messages ≡ length (runFrom q (messagesOf i)) → Says q i a n
-  acceptors : length (runFrom q (messagesOf i)) ≤ 0 → n .acceptors ≡ true → n .acceptor ≡ length (join (runFrom q (messagesOf a))) → n .messages ≡ length (runFrom q (messagesOf a)) → Says q i a n
-
-pub says : (q : ℕ) (i a : List ℕ) (n : Next) → n ≡ nextIn q i a → Says q i a n
-unfolding nextIn ranIn
-says q i a n n-is = elim (which (ltb 0 (length (runFrom q (messagesOf i))))) [
-  | inl e ↦ let z : n ≡ nextBy false (ranIn q i) = rw e at n-is in
-      initiators (ltb-true _ _ e) (ap (λ (x : Next). x .acceptors) z) (ap (λ (x : Next). x .initiator) z) (ap (λ (x : Next). x .messages) z)
-  | inr e ↦ let z : n ≡ nextBy true (ranIn q a) = rw e at n-is in
-      acceptors (ltb-false _ _ e) (ap (λ (x : Next). x .acceptors) z) (ap (λ (x : Next). x .acceptor) z) (ap (λ (x : Next). x .messages) z)
-]
-
--- 2. the conversation
+-- 1. the conversation
 
 front-octets : (s x : List ℕ) → take (length x) s ≡ x → 40 ≤ length x → octets 16 s 24 ≡ octets 16 x 24
 front-octets s x e h =
@@ -53,8 +35,8 @@ module _ (i a : List ℕ) (n : Next) (n-is : n ≡ nextIn 0 i a) where
   pub talk-none : n .messages ≡ 0 → zeroId ≡ conversationIn (turnsOf (messagesOf i) (messagesOf a))
   talk-none z = go (says 0 i a n n-is) where
     go : Says 0 i a n → zeroId ≡ conversationIn (turnsOf (messagesOf i) (messagesOf a))
-    go (initiators s r o m) = absurd (omega arith)
-    go (acceptors s r o m) = sym (ap conversationIn (turns-none 0 (messagesOf i) (messagesOf a) s (omega arith)))
+    go (initiators s r o p m) = absurd (omega arith)
+    go (acceptors s r o p m) = sym (ap conversationIn (turns-none 0 (messagesOf i) (messagesOf a) s (omega arith)))
 
   module _ (some : n .messages ≡ 0 → ⊥) where
     abbrev ri : List (List ℕ)
@@ -66,14 +48,14 @@ module _ (i a : List ℕ) (n : Next) (n-is : n ≡ nextIn 0 i a) where
     theirs : n .acceptors ≡ true → (length ri ≤ 0) × (0 < length ra)
     theirs e = go (says 0 i a n n-is) where
       go : Says 0 i a n → (length ri ≤ 0) × (0 < length ra)
-      go (initiators s r o m) = no-true (sym r ∙ e)
-      go (acceptors s r o m) = (s, omega arith)
+      go (initiators s r o p m) = no-true (sym r ∙ e)
+      go (acceptors s r o p m) = (s, omega arith)
 
     own : n .acceptors ≡ false → 0 < length ri
     own e = go (says 0 i a n n-is) where
       go : Says 0 i a n → 0 < length ri
-      go (initiators s r o m) = s
-      go (acceptors s r o m) = no-true (sym e ∙ r)
+      go (initiators s r o p m) = s
+      go (acceptors s r o p m) = no-true (sym e ∙ r)
 
     pub talk-long-a : n .acceptors ≡ true → 24 + 16 ≤ length a
     talk-long-a e = omega (arith, theirs e, run-octets 0 a, run-within 0 a)
@@ -93,7 +75,7 @@ module _ (i a : List ℕ) (n : Next) (n-is : n ≡ nextIn 0 i a) where
 
 pub ruleset talks = (talk-none, talk-long-a, talk-a, talk-long-i, talk-i)
 
--- 3. the replay before its first turn, and whose a refusal is
+-- 2. the replay before its first turn, and whose a refusal is
 
 pub begin-is : (il al v : List ℕ) (f : Fault) (more : Bool) (i a : Answer) → i ≡ opening false il v → a ≡ opening true al zeroId
     → record { initiator = i .next; acceptor = a .next; iplace = 0; aplace = 0; number = 0; turns = 0; last = false; more = more; fault = f } ≡ begunWith il al v f more
@@ -102,14 +84,9 @@ begin-is il al v f more i a i-is a-is =
     ∙ ap (λ (x : Answer). record { initiator = opening false il v .next; acceptor = x .next; iplace = 0; aplace = 0; number = 0; turns = 0; last = false; more = more; fault = f }) a-is
 
 pub whose-writer : (x : Bool) (number : ℕ) → number ≡ 28 → (r : ℕ) → r ≡ cond x 1 0 → r ≡ whoseIn x number
-whose-writer true number e r r-is = rw (eq-eqb _ _ e) r-is
-whose-writer false number e r r-is = rw (eq-eqb _ _ e) r-is
-
-pub whose-reader : (x : Bool) (number : ℕ) → (number ≡ 28 → ⊥) → (y : Bool) → y ≡ not x → (r : ℕ) → r ≡ cond y 1 0 → r ≡ whoseIn x number
-whose-reader true number e y y-is r r-is = rw (ne-eqb _ _ e) (r-is ∙ ap (λ (z : Bool). cond z 1 0) y-is)
-whose-reader false number e y y-is r r-is = rw (ne-eqb _ _ e) (r-is ∙ ap (λ (z : Bool). cond z 1 0) y-is)
+whose-writer x number e r r-is = rw (eq-eqb _ _ e) r-is
 
 pub whose-other : (x : Bool) (number : ℕ) → (number ≡ 28 → ⊥) → (r : ℕ) → r ≡ cond (not x) 1 0 → r ≡ whoseIn x number
-whose-other x number e r r-is = whose-reader x number e (not x) refl r r-is
+whose-other x number e r r-is = rw (ne-eqb _ _ e) r-is
 
 pub ruleset begins = (begin-is, whose-writer, whose-other)

@@ -1,12 +1,11 @@
 -- One turn of either side, in the words of the code.
 -- Assumes nothing.
-use Prim.Native.Nat.{ℕ, _+_, _*_, _<_, _≤_}
-use mathlib.Core.Path.{_≡_, refl, sym, ap, subst, _∙_}
-use mathlib.Core.Bool.{Bool, true, false, cond, not}
-use mathlib.Core.List.{List, [], _∷_, _++_}
+use Prim.Native.Nat.{ℕ, _+_, _*_, _≤_}
+use mathlib.Core.Path.{_≡_, sym, ap, subst, _∙_}
+use mathlib.Core.Bool.{Bool, true, false, not}
+use mathlib.Core.List.{List, []}
 use native.Mathlib.Omega.{arith}
 use lib.ListN.{length}
-use lib.Dec.{eqb}
 use borrow.Author.Tests.{eq-eqb, ne-eqb, leb-true}
 use Rattle.vector.specs.declared.TokenPlace.{TokenPlace}
 use Rattle.conversation.specs.declared.Record.{Record}
@@ -14,41 +13,39 @@ use Rattle.conversation.specs.declared.Answer.{Answer}
 use Rattle.conversation.specs.State.{limitRows}
 use Rattle.conversation.specs.Outcomes.{Outcome}
 use Rattle.conversation.specs.Reading.{tokenRows}
-use Rattle.conversation.specs.Runs.{isAccepted}
 use Rattle.conversation.proofs.Rows.{front-true}
 use Rattle.sides.specs.Merging.{messagesOf}
 use Rattle.sides.specs.Turning.{owed, heardTurn, spoke}
-use Rattle.sides.proofs.Heard.{Heard, heard-turn}
-use Rattle.replaying.specs.declared.Fault.{Fault}
+use Rattle.sides.proofs.Heard.{heard-turn}
 use Rattle.replaying.specs.declared.Replay.{Replay}
-use Rattle.replaying.specs.Playing.{Stood, stood, roleOf, wentOn, endedWith, whoseIn, heardBy, afterTurn, Ready}
+use Rattle.replaying.specs.Playing.{stood, roleOf, wentOn, endedWith, whoseIn, heardBy, afterTurn, Level, Ready}
 
 pub end-is : (s : Replay) (x : Bool) (number : ℕ) (place : TokenPlace) (w : ℕ) → w ≡ whoseIn x number
     → endedWith s (record { missing = false; refusal = number; place = place; whose = w }) ≡ endedWith s (record { missing = false; refusal = number; place = place; whose = whoseIn x number })
 end-is s x number place w w-is = ap (λ (k : ℕ). endedWith s (record { missing = false; refusal = number; place = place; whose = k })) w-is
 
--- what a turn asks
-module _ (s : Replay) (k n : ℕ) (ready : Ready s k n) where
-  pub ready-i : s .initiator .count ≤ 16
-  ready-i = ready .few-i
+-- by the role
+pub role-true : (x : Bool) (s : Replay) → x ≡ true → s .acceptor ≡ roleOf x s
+role-true x s e = rw e
 
-  pub ready-a : s .acceptor .count ≤ 16
-  ready-a = ready .few-a
+pub role-false : (x : Bool) (s : Replay) → x ≡ false → s .initiator ≡ roleOf x s
+role-false x s e = rw e
 
-  pub ready-long : 64 ≤ k
-  ready-long = ready .long
+pub went-true : (x : Bool) (s : Replay) (w r : Record) (k n : ℕ) → x ≡ true → wentOn true s w r k n ≡ wentOn x s w r k n
+went-true x s w r k n e = rw e
 
-  pub ready-room-i : s .iplace + k < 18446744073709551616
-  ready-room-i = ready .room-i
+pub went-false : (x : Bool) (s : Replay) (w r : Record) (k n : ℕ) → x ≡ false → wentOn false s w r k n ≡ wentOn x s w r k n
+went-false x s w r k n e = rw e
 
-  pub ready-room-a : s .aplace + k < 18446744073709551616
-  ready-room-a = ready .room-a
+pub level-swap : (w r : Record) → Level w r → Level r w
+level-swap w r l = record { few-w = l .few-r; few-r = l .few-w; used = sym (l .used); sequence = sym (l .sequence) }
 
-  pub ready-number : s .number + n < 4294967296
-  ready-number = ready .numbers
+pub level-by : (x : Bool) (s : Replay) → Level (s .initiator) (s .acceptor) → Level (roleOf x s) (roleOf (not x) s)
+level-by false s l = l
+level-by true s l = level-swap _ _ l
 
-  pub ready-turns : s .turns + 1 < 4294967296
-  ready-turns = ready .turns
+pub ready-few : (s : Replay) (k n : ℕ) → Ready s k n → (x : Bool) (w : Record) → w ≡ roleOf x s → w .count ≤ 16
+ready-few s k n ready x w w-is = subst (λ (r : Record). r .count ≤ 16) (sym w-is) (level-by x s (ready .level) .few-w)
 
 -- the numbers that a reader's limits give
 record Counts (r : Record) (t : List ℕ) : Type 0 where
@@ -61,54 +58,32 @@ counts ok r d t z =
     let (l1, (l2, (l3, (l4, (l5, (l6, (l7, (l8, (l9, (l10, (l11, rest))))))))))) = front-true (limitRows r) (tokenRows r (length t)) (h .rows) in
     record { numbers = leb-true _ _ l11; room = h .short }
 
--- the initiator's
-module _ (s : Replay) (marks : ℕ) (d t : List ℕ) (n : ℕ) (ready : Ready s (length t) n) (good : Bool) (good-is : good ≡ owed marks (s .initiator) t) (a : Answer) (d′ : List ℕ)
-    (is : _≡_ {A = Outcome} (record { answer = a; transcript = d′ }) (heardTurn good (s .acceptor) d t)) where
-  by-answer-i : afterTurn false marks s d t n ≡ heardBy false marks s t n (record { answer = a; transcript = d′ })
+module _ (s : Replay) (x : Bool) (marks : ℕ) (d t : List ℕ) (n : ℕ) (ready : Ready s (length t) n) (w : Record) (w-is : w ≡ roleOf x s) (v : Record) (v-is : v ≡ roleOf (not x) s)
+    (good : Bool) (good-is : good ≡ owed marks w t) (a : Answer) (d′ : List ℕ) (is : _≡_ {A = Outcome} (record { answer = a; transcript = d′ }) (heardTurn good v d t)) where
+  by-answer : afterTurn x marks s d t n ≡ heardBy x marks s t n (record { answer = a; transcript = d′ })
   unfolding afterTurn
-  by-answer-i = ap (heardBy false marks s t n) (ap (λ (b : Bool). heardTurn b (s .acceptor) d t) (sym good-is) ∙ sym is)
+  by-answer =
+      ap (heardBy x marks s t n) (ap (λ (b : Bool). heardTurn b (roleOf (not x) s) d t) (sym (good-is ∙ ap (λ (r : Record). owed marks r t) w-is)) ∙ ap (λ (r : Record). heardTurn good r d t) (sym v-is) ∙ sym is)
 
-  pub refused-i : (a .refusal ≡ 0 → ⊥) → (r : Replay) → r ≡ endedWith s (record { missing = false; refusal = a .refusal; place = a .place; whose = whoseIn false (a .refusal) }) → stood r d′ ≡ afterTurn false marks s d t n
-  refused-i h r r-is = sym (by-answer-i ∙ rw (ne-eqb _ _ h) (ap (λ (x : Replay). stood x d′) (sym r-is)))
+  pub side-refused : (a .refusal ≡ 0 → ⊥) → (r : Replay) → r ≡ endedWith s (record { missing = false; refusal = a .refusal; place = a .place; whose = whoseIn x (a .refusal) }) → stood r d′ ≡ afterTurn x marks s d t n
+  side-refused h r r-is = sym (by-answer ∙ rw (ne-eqb _ _ h) (ap (λ (y : Replay). stood y d′) (sym r-is)))
 
   module _ (z : a .refusal ≡ 0) where
-    counts-i : Counts (s .acceptor) t
-    counts-i = counts good (s .acceptor) d t (sym (ap (λ (o : Outcome). o .answer .refusal) is) ∙ z)
+    heard-counts : Counts v t
+    heard-counts = counts good v d t (sym (ap (λ (o : Outcome). o .answer .refusal) is) ∙ z)
 
-    pub numbers-i : 64 * s .initiator .sequence ≤ s .initiator .used
-    numbers-i = omega (arith, counts-i .numbers, ready .used, ready .sequence)
+    level : Level w v
+    level = subst (λ (r : Record). Level r v) (sym w-is) (subst (Level (roleOf x s)) (sym v-is) (level-by x s (ready .level)))
 
-    pub room-i : s .initiator .used + length t ≤ 65535
-    room-i = omega (arith, counts-i .room, ready .used)
+    pub side-numbers : 64 * w .sequence ≤ w .used
+    side-numbers = omega (arith, heard-counts .numbers, level .used, level .sequence)
 
-    pub accepted-i : (w : Record) → w ≡ spoke marks (s .initiator) (messagesOf t) → stood (wentOn false s w (a .next) (length t) n) d′ ≡ afterTurn false marks s d t n
-    accepted-i w w-is = sym (by-answer-i ∙ rw (eq-eqb _ _ z) (ap (λ (x : Record). stood (wentOn false s x (a .next) (length t) n) d′) (sym w-is)))
+    pub side-room : w .used + length t ≤ 65535
+    side-room = omega (arith, heard-counts .room, level .used)
 
--- the acceptor's
-module _ (s : Replay) (marks : ℕ) (d t : List ℕ) (n : ℕ) (ready : Ready s (length t) n) (good : Bool) (good-is : good ≡ owed marks (s .acceptor) t) (a : Answer) (d′ : List ℕ)
-    (is : _≡_ {A = Outcome} (record { answer = a; transcript = d′ }) (heardTurn good (s .initiator) d t)) where
-  by-answer-a : afterTurn true marks s d t n ≡ heardBy true marks s t n (record { answer = a; transcript = d′ })
-  unfolding afterTurn
-  by-answer-a = ap (heardBy true marks s t n) (ap (λ (b : Bool). heardTurn b (s .initiator) d t) (sym good-is) ∙ sym is)
+    pub side-accepted : (u : Record) → u ≡ spoke marks w (messagesOf t) → (r : Replay) → r ≡ wentOn x s u (a .next) (length t) n → stood r d′ ≡ afterTurn x marks s d t n
+    side-accepted u u-is r r-is =
+        ap (λ (y : Replay). stood y d′) r-is
+        ∙ sym (by-answer ∙ rw (eq-eqb _ _ z) (ap (λ (y : Record). stood (wentOn x s y (a .next) (length t) n) d′) (sym (u-is ∙ ap (λ (y : Record). spoke marks y (messagesOf t)) w-is))))
 
-  pub refused-a : (a .refusal ≡ 0 → ⊥) → (r : Replay) → r ≡ endedWith s (record { missing = false; refusal = a .refusal; place = a .place; whose = whoseIn true (a .refusal) }) → stood r d′ ≡ afterTurn true marks s d t n
-  refused-a h r r-is = sym (by-answer-a ∙ rw (ne-eqb _ _ h) (ap (λ (x : Replay). stood x d′) (sym r-is)))
-
-  module _ (z : a .refusal ≡ 0) where
-    counts-a : Counts (s .initiator) t
-    counts-a = counts good (s .initiator) d t (sym (ap (λ (o : Outcome). o .answer .refusal) is) ∙ z)
-
-    pub numbers-a : 64 * s .acceptor .sequence ≤ s .acceptor .used
-    numbers-a = omega (arith, counts-a .numbers, ready .used, ready .sequence)
-
-    pub room-a : s .acceptor .used + length t ≤ 65535
-    room-a = omega (arith, counts-a .room, ready .used)
-
-    pub accepted-a : (w : Record) → w ≡ spoke marks (s .acceptor) (messagesOf t) → stood (wentOn true s w (a .next) (length t) n) d′ ≡ afterTurn true marks s d t n
-    accepted-a w w-is = sym (by-answer-a ∙ rw (eq-eqb _ _ z) (ap (λ (x : Record). stood (wentOn true s x (a .next) (length t) n) d′) (sym w-is)))
-
-pub ruleset readies = (ready-i, ready-a, ready-long, ready-room-i, ready-room-a, ready-number, ready-turns)
-
-pub ruleset plays-i = (refused-i, numbers-i, room-i, accepted-i)
-
-pub ruleset plays-a = (refused-a, numbers-a, room-a, accepted-a)
+pub ruleset roles = (role-true, role-false, went-true, went-false)

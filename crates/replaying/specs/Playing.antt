@@ -11,10 +11,11 @@
 --   marked m           a case of marks alone
 --   restOf             what is left to be played of a replay at work
 --   begunWith          a replay before its first turn
---   Fine i a s         a replay at work is inside the files i and a, and its records are level: both have read and written the same
+--   Level w r          two records are level: both have read and written the same
+--   Fine i a s         a replay at work is inside the files i and a, and its records are level
 --   Begun              a replay at work has not begun: what is left of it is the whole
 --   Stood, stood       a replay at work, with its transcript
---   roleOf x s         the record of a role
+--   roleOf x s         the record of a role; placeOf: its place in its file; fileBy: that file
 --   wentOn, endedWith  a replay at work after an accepted turn, and after a refused one; whoseIn: whose the refusal is
 --   heardBy            either, by the reader's outcome; afterTurn: by the turn
 --   Ready s k n        what a turn of k octets and n messages asks of a replay at work
@@ -102,6 +103,12 @@ begunWith il al v f more = record {
   fault = f;
 }
 
+pub record Level (w r : Record) : Type 0 where
+  pub few-w : w .count ≤ 16
+  pub few-r : r .count ≤ 16
+  pub used : w .used ≡ r .used
+  pub sequence : w .sequence ≡ r .sequence
+
 pub record Fine (i a : List ℕ) (s : Replay) : Type 0 where
   pub short-i : length i ≤ 65535
   pub short-a : length a ≤ 65535
@@ -109,10 +116,7 @@ pub record Fine (i a : List ℕ) (s : Replay) : Type 0 where
   pub in-a : s .aplace ≤ length a
   pub numbers : s .number ≤ s .iplace + s .aplace
   pub few : s .turns ≤ s .number
-  pub few-i : s .initiator .count ≤ 16
-  pub few-a : s .acceptor .count ≤ 16
-  pub used : s .initiator .used ≡ s .acceptor .used
-  pub sequence : s .initiator .sequence ≡ s .acceptor .sequence
+  pub level : Level (s .initiator) (s .acceptor)
 
 -- before the first turn all is left, and it goes on where nothing ended it before play
 pub record Begun (c : Case) (m : Marks) (i a : List ℕ) (s : Replay) : Type 0 where
@@ -127,39 +131,33 @@ pub record Stood : Type 0 where
 abbrev pub stood : Replay → List ℕ → Stood
 stood s d = record { replay = s; transcript = d }
 
+-- by the role: false the initiator's, true the acceptor's
 abbrev pub roleOf : Bool → Replay → Record
-roleOf false s = s .initiator
-roleOf true s = s .acceptor
+roleOf x s = cond x (s .acceptor) (s .initiator)
+
+abbrev pub placeOf : Bool → Replay → ℕ
+placeOf x s = cond x (s .aplace) (s .iplace)
+
+abbrev pub fileBy : Bool → List ℕ → List ℕ → List ℕ
+fileBy x i a = cond x a i
 
 -- after an accepted turn of n messages and k octets
 abbrev pub wentOn : Bool → Replay → Record → Record → ℕ → ℕ → Replay
-wentOn false s w r k n = record {
-  initiator = w;
-  acceptor = r;
-  iplace = s .iplace + k;
-  aplace = s .aplace;
+wentOn x s w r k n = record {
+  initiator = cond x r w;
+  acceptor = cond x w r;
+  iplace = cond x (s .iplace) (s .iplace + k);
+  aplace = cond x (s .aplace + k) (s .aplace);
   number = s .number + n;
   turns = s .turns + 1;
-  last = false;
-  more = s .more;
-  fault = s .fault;
-}
-wentOn true s w r k n = record {
-  initiator = r;
-  acceptor = w;
-  iplace = s .iplace;
-  aplace = s .aplace + k;
-  number = s .number + n;
-  turns = s .turns + 1;
-  last = true;
+  last = x;
   more = s .more;
   fault = s .fault;
 }
 
 -- "the writer's for 28, .. else the reader's"
 abbrev pub whoseIn : Bool → ℕ → ℕ
-whoseIn false number = cond (eqb number 28) 0 1
-whoseIn true number = cond (eqb number 28) 1 0
+whoseIn x number = cond (cond (eqb number 28) x (not x)) 1 0
 
 abbrev pub endedWith : Replay → Fault → Replay
 endedWith s f = record {
@@ -185,10 +183,7 @@ afterTurn x m s d t n = heardBy x m s t n (heardTurn (owed m (roleOf x s) t) (ro
 
 -- what a turn of k octets and n messages asks of a replay at work
 pub record Ready (s : Replay) (k n : ℕ) : Type 0 where
-  pub few-i : s .initiator .count ≤ 16
-  pub few-a : s .acceptor .count ≤ 16
-  pub used : s .initiator .used ≡ s .acceptor .used
-  pub sequence : s .initiator .sequence ≡ s .acceptor .sequence
+  pub level : Level (s .initiator) (s .acceptor)
   pub long : 64 ≤ k
   pub room-i : s .iplace + k < 18446744073709551616
   pub room-a : s .aplace + k < 18446744073709551616
@@ -197,8 +192,7 @@ pub record Ready (s : Replay) (k n : ℕ) : Type 0 where
 
 -- the octets of the last turn, between the places before it and after it
 abbrev pub octetsIn : Bool → List ℕ → List ℕ → Replay → Replay → List ℕ
-octetsIn false i a s s′ = take (s′ .iplace - s .iplace) (drop (s .iplace) i)
-octetsIn true i a s s′ = take (s′ .aplace - s .aplace) (drop (s .aplace) a)
+octetsIn x i a s s′ = take (placeOf x s′ - placeOf x s) (drop (placeOf x s) (fileBy x i a))
 
 abbrev pub turnIn : List ℕ → List ℕ → Replay → Replay → Turn
 turnIn i a s s′ = record { acceptor = s′ .last; messages = messagesOf (octetsIn (s′ .last) i a s s′) }

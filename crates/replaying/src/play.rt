@@ -5,7 +5,7 @@ ghost use Prim.Native.Nat.{_+_, _*_, _-_, _<_, _≤_};
 ghost use lib.ListN.{length, take, drop};
 ghost use Rattle.sides.specs.Merging.{messagesOf, turnsOf};
 ghost use Rattle.sides.specs.Replay.{finished, conversationIn, replayOf};
-ghost use Rattle.replaying.specs.Playing.{caseWith, endingAs, summary, playedAs, begunWith, Begun, counted, restOf, Fine, stood, endedWith, whoseIn, afterTurn, Ready, Goes};
+ghost use Rattle.replaying.specs.Playing.{caseWith, endingAs, summary, playedAs, begunWith, Begun, counted, restOf, Fine, stood, roleOf, wentOn, endedWith, whoseIn, afterTurn, Ready, Goes};
 use super::Fault;
 use super::Found;
 use super::Marks;
@@ -13,6 +13,7 @@ use super::Replay;
 use super::before::fault_before;
 use super::before::is_fault;
 use conversation::Answer;
+use conversation::Record;
 use merging::next_turn;
 use message::field;
 use negotiating::opening::open;
@@ -121,56 +122,63 @@ fn end_with(s: Replay, acceptor: bool, a: Answer) -> Replay
     next
 }
 
-// A turn of the initiator's.
-fn play_initiator(s: Replay, marks: u16, t: &[u8], messages: u32, d: &mut [u8]) -> Replay
-    requires { ⌜ Ready s (length (now t)) messages ⌝ }
-    ensures { λ r. ⌜ stood r (now (d .exit)) ≡ afterTurn false marks s (now (d .entry)) (now (t .entry)) messages ⌝ }
+// The record of a role.
+fn role_of(s: Replay, acceptor: bool) -> Record
+    ensures { λ r. ⌜ r ≡ roleOf acceptor s ⌝ }
 {
-    let writer = s.initiator;
-    let reader = s.acceptor;
-    let a = hear(owes(writer, marks, t), reader, d, t);
-    if a.refusal != 0 {
-        return end_with(s, false, a);
+    if acceptor {
+        return s.acceptor;
     }
-    let initiator = speak(writer, marks, t);
-    let acceptor = a.next;
-    let place = s.iplace + t.len();
+    s.initiator
+}
+
+// A replay after an accepted turn of a role, with the records that its writer and its reader have come to.
+fn go_on(
+    s: Replay,
+    acceptor: bool,
+    writer: Record,
+    reader: Record,
+    octets: usize,
+    messages: u32,
+) -> Replay
+    requires { ⌜ Ready s octets messages ⌝ }
+    ensures { λ r. ⌜ r ≡ wentOn acceptor s writer reader octets messages ⌝ }
+{
     let number = s.number + messages;
     let turns = s.turns + 1;
     let mut next = s;
-    next.initiator = initiator;
-    next.acceptor = acceptor;
-    next.iplace = place;
     next.number = number;
     next.turns = turns;
+    if acceptor {
+        let place = s.aplace + octets;
+        next.initiator = reader;
+        next.acceptor = writer;
+        next.aplace = place;
+        next.last = true;
+        return next;
+    }
+    let place = s.iplace + octets;
+    next.initiator = writer;
+    next.acceptor = reader;
+    next.iplace = place;
     next.last = false;
     next
 }
 
-// A turn of the acceptor's.
-fn play_acceptor(s: Replay, marks: u16, t: &[u8], messages: u32, d: &mut [u8]) -> Replay
+// A turn of a role.
+fn play_side(s: Replay, acceptor: bool, marks: u16, t: &[u8], messages: u32, d: &mut [u8]) -> Replay
     requires { ⌜ Ready s (length (now t)) messages ⌝ }
-    ensures { λ r. ⌜ stood r (now (d .exit)) ≡ afterTurn true marks s (now (d .entry)) (now (t .entry)) messages ⌝ }
+    ensures { λ r. ⌜ stood r (now (d .exit)) ≡ afterTurn acceptor marks s (now (d .entry)) (now (t .entry)) messages ⌝ }
 {
-    let writer = s.acceptor;
-    let reader = s.initiator;
+    let writer = role_of(s, acceptor);
+    let reader = role_of(s, !acceptor);
     let a = hear(owes(writer, marks, t), reader, d, t);
     if a.refusal != 0 {
-        return end_with(s, true, a);
+        return end_with(s, acceptor, a);
     }
-    let acceptor = speak(writer, marks, t);
-    let initiator = a.next;
-    let place = s.aplace + t.len();
-    let number = s.number + messages;
-    let turns = s.turns + 1;
-    let mut next = s;
-    next.initiator = initiator;
-    next.acceptor = acceptor;
-    next.aplace = place;
-    next.number = number;
-    next.turns = turns;
-    next.last = true;
-    next
+    let heard = a.next;
+    let spoken = speak(writer, marks, t);
+    go_on(s, acceptor, spoken, heard, t.len(), messages)
 }
 
 // A replay that no turn is left of.
@@ -195,10 +203,17 @@ pub fn play_turn(s: Replay, marks: Marks, ifile: &[u8], afile: &[u8], d: &mut [u
     }
     if n.acceptors {
         let end = aplace + n.acceptor;
-        return play_acceptor(s, marks.acceptor, &afile[aplace..end], n.messages, d);
+        return play_side(s, true, marks.acceptor, &afile[aplace..end], n.messages, d);
     }
     let end = iplace + n.initiator;
-    play_initiator(s, marks.initiator, &ifile[iplace..end], n.messages, d)
+    play_side(
+        s,
+        false,
+        marks.initiator,
+        &ifile[iplace..end],
+        n.messages,
+        d,
+    )
 }
 
 // All turns that are left.

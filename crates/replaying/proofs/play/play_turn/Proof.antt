@@ -1,7 +1,7 @@
 -- Assumes nothing.
 use borrow.Author.Needs.{needs}
-use mathlib.Core.List.{[]}
-use Rattle.replaying.proofs.Goes.{turnings, turn-none, turn-goes-a, turn-goes-i, turn-ready-a, turn-ready-i, turn-within-a, turn-within-i, turn-end-a, turn-end-i}
+use mathlib.Core.Bool.{true, false}
+use Rattle.replaying.proofs.Goes.{turn-none, turn-within, turn-end, turn-ready, turn-goes}
 use Rattle.replaying.proofs.play.play_turn.Statement.{statement}
 use Rattle.replaying.proofs.play.play_turn.Tie as tie
 
@@ -30,49 +30,49 @@ done-requires : tie.Need-done-requires
 done-requires c κs = search needs
 
 returns : tie.Need-returns
-returns c = turn-none _ _ _ _ _ (c .before .before .before .before .before .before .before .before .before .pre .0) (c .before .before .before .before .before .before .before .before .before .pre .1) (c .before .before .before .before .before .before .before .before .before .pre .2) _ (c .before .before .before .next-turn .ensures) (search needs) _ (c .done .ensures)
+returns c = turn-none _ _ _ (c .before .before .before .before .before .before .before .before .before .pre .0) _ (c .before .before .before .next-turn .ensures) _ _ (c .before .before .before .before .before .before .before .before .before .pre .1) (c .before .before .before .before .before .before .before .before .before .pre .2) (search needs) _ (c .done .ensures)
 
 add-end : tie.Need-add-end
-add-end c = let h = turn-end-a (c .before .before .before .before .before .before .before .before .before .before .args .marks) _ _ _ [] (c .before .before .before .before .before .before .before .before .before .before .pre .0) (c .before .before .before .before .before .before .before .before .before .before .pre .1) (c .before .before .before .before .before .before .before .before .before .before .pre .2) _ (c .before .before .before .before .next-turn .ensures) (search needs) (search needs) in search (needs, h)
+add-end c = let h = turn-end _ _ _ (c .before .before .before .before .before .before .before .before .before .before .pre .0) _ (c .before .before .before .before .next-turn .ensures) (search needs) true (search needs) in search (needs, h)
 
-sub-play-acceptor : tie.Need-sub-play-acceptor
-sub-play-acceptor c = search needs
+sub-play-side : tie.Need-sub-play-side
+sub-play-side c = search needs
 
-part-play-acceptor-start : tie.Need-part-play-acceptor-start
-part-play-acceptor-start c = search needs
+part-play-side-start : tie.Need-part-play-side-start
+part-play-side-start c = search needs
 
-part-play-acceptor-end : tie.Need-part-play-acceptor-end
-part-play-acceptor-end c = turn-within-a (c .before .before .before .before .before .before .before .before .before .before .args .marks) _ _ _ [] (c .before .before .before .before .before .before .before .before .before .before .pre .0) (c .before .before .before .before .before .before .before .before .before .before .pre .1) (c .before .before .before .before .before .before .before .before .before .before .pre .2) _ (c .before .before .before .before .next-turn .ensures) (search needs) (search needs)
+part-play-side-end : tie.Need-part-play-side-end
+part-play-side-end c = turn-within _ _ _ (c .before .before .before .before .before .before .before .before .before .before .pre .0) _ (c .before .before .before .before .next-turn .ensures) (search needs) true (search needs)
 
-play-acceptor-requires : tie.Need-play-acceptor-requires
-play-acceptor-requires c κs = turn-ready-a (c .before .before .before .before .before .before .before .before .before .before .before .before .args .marks) _ _ _ [] (c .before .before .before .before .before .before .before .before .before .before .before .before .pre .0) (c .before .before .before .before .before .before .before .before .before .before .before .before .pre .1) (c .before .before .before .before .before .before .before .before .before .before .before .before .pre .2) _ (c .before .before .before .before .before .before .next-turn .ensures) (search needs) (search needs)
+play-side-requires : tie.Need-play-side-requires
+play-side-requires c κs = turn-ready _ _ _ (c .before .before .before .before .before .before .before .before .before .before .before .before .pre .0) _ (c .before .before .before .before .before .before .next-turn .ensures) (search needs) true (search needs)
 
 same-length : tie.Need-same-length
 same-length c = search needs
 
 returns-2 : tie.Need-returns-2
-returns-2 c = turn-goes-a _ _ _ _ _ (c .before .before .before .before .before .before .before .before .before .before .before .before .before .before .before .pre .0) (c .before .before .before .before .before .before .before .before .before .before .before .before .before .before .before .pre .1) (c .before .before .before .before .before .before .before .before .before .before .before .before .before .before .before .pre .2) _ (c .before .before .before .before .before .before .before .before .before .next-turn .ensures) (search needs) (search needs) _ _ (c .before .before .play-acceptor .ensures)
+returns-2 c = turn-goes _ _ _ (c .before .before .before .before .before .before .before .before .before .before .before .before .before .before .before .pre .0) _ (c .before .before .before .before .before .before .before .before .before .next-turn .ensures) (search needs) true (search needs) _ _ (c .before .before .before .before .before .before .before .before .before .before .before .before .before .before .before .pre .1) _ _ (c .before .before .play-side .ensures)
 
 add-end-2 : tie.Need-add-end-2
-add-end-2 c = let h = turn-end-i (c .before .before .before .before .before .before .before .before .before .before .args .marks) _ _ _ [] (c .before .before .before .before .before .before .before .before .before .before .pre .0) (c .before .before .before .before .before .before .before .before .before .before .pre .1) (c .before .before .before .before .before .before .before .before .before .before .pre .2) _ (c .before .before .before .before .next-turn .ensures) (search needs) (search needs) in search (needs, h)
+add-end-2 c = let h = turn-end _ _ _ (c .before .before .before .before .before .before .before .before .before .before .pre .0) _ (c .before .before .before .before .next-turn .ensures) (search needs) false (search needs) in search (needs, h)
 
-sub-play-initiator : tie.Need-sub-play-initiator
-sub-play-initiator c = search needs
+sub-play-side-2 : tie.Need-sub-play-side-2
+sub-play-side-2 c = search needs
 
-part-play-initiator-start : tie.Need-part-play-initiator-start
-part-play-initiator-start c = search needs
+part-play-side-start-2 : tie.Need-part-play-side-start-2
+part-play-side-start-2 c = search needs
 
-part-play-initiator-end : tie.Need-part-play-initiator-end
-part-play-initiator-end c = turn-within-i (c .before .before .before .before .before .before .before .before .before .before .args .marks) _ _ _ [] (c .before .before .before .before .before .before .before .before .before .before .pre .0) (c .before .before .before .before .before .before .before .before .before .before .pre .1) (c .before .before .before .before .before .before .before .before .before .before .pre .2) _ (c .before .before .before .before .next-turn .ensures) (search needs) (search needs)
+part-play-side-end-2 : tie.Need-part-play-side-end-2
+part-play-side-end-2 c = turn-within _ _ _ (c .before .before .before .before .before .before .before .before .before .before .pre .0) _ (c .before .before .before .before .next-turn .ensures) (search needs) false (search needs)
 
-play-initiator-requires : tie.Need-play-initiator-requires
-play-initiator-requires c κs = turn-ready-i (c .before .before .before .before .before .before .before .before .before .before .before .before .args .marks) _ _ _ [] (c .before .before .before .before .before .before .before .before .before .before .before .before .pre .0) (c .before .before .before .before .before .before .before .before .before .before .before .before .pre .1) (c .before .before .before .before .before .before .before .before .before .before .before .before .pre .2) _ (c .before .before .before .before .before .before .next-turn .ensures) (search needs) (search needs)
+play-side-requires-2 : tie.Need-play-side-requires-2
+play-side-requires-2 c κs = turn-ready _ _ _ (c .before .before .before .before .before .before .before .before .before .before .before .before .pre .0) _ (c .before .before .before .before .before .before .next-turn .ensures) (search needs) false (search needs)
 
 same-length-2 : tie.Need-same-length-2
 same-length-2 c = search needs
 
 returns-3 : tie.Need-returns-3
-returns-3 c = turn-goes-i _ _ _ _ _ (c .before .before .before .before .before .before .before .before .before .before .before .before .before .before .before .pre .0) (c .before .before .before .before .before .before .before .before .before .before .before .before .before .before .before .pre .1) (c .before .before .before .before .before .before .before .before .before .before .before .before .before .before .before .pre .2) _ (c .before .before .before .before .before .before .before .before .before .next-turn .ensures) (search needs) (search needs) _ _ (c .before .before .play-initiator .ensures)
+returns-3 c = turn-goes _ _ _ (c .before .before .before .before .before .before .before .before .before .before .before .before .before .before .before .pre .0) _ (c .before .before .before .before .before .before .before .before .before .next-turn .ensures) (search needs) false (search needs) _ _ (c .before .before .before .before .before .before .before .before .before .before .before .before .before .before .before .pre .1) _ _ (c .before .before .play-side2 .ensures)
 
 pub play-turn-spec : {M : Type 1} → statement M
 play-turn-spec =
@@ -88,16 +88,16 @@ play-turn-spec =
     done-requires
     returns
     add-end
-    sub-play-acceptor
-    part-play-acceptor-start
-    part-play-acceptor-end
-    play-acceptor-requires
+    sub-play-side
+    part-play-side-start
+    part-play-side-end
+    play-side-requires
     same-length
     returns-2
     add-end-2
-    sub-play-initiator
-    part-play-initiator-start
-    part-play-initiator-end
-    play-initiator-requires
+    sub-play-side-2
+    part-play-side-start-2
+    part-play-side-end-2
+    play-side-requires-2
     same-length-2
     returns-3)
