@@ -41,7 +41,7 @@ impl Pool {
     }
 
     fn draw(&self, r: &mut Random) -> Vec<u8> {
-        let from = if r.one_in(100) { &self.all } else { &self.short };
+        let from = if r.one_in(30) { &self.all } else { &self.short };
         r.pick(from).clone()
     }
 }
