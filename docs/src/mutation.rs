@@ -46,14 +46,14 @@ impl Pool {
     }
 }
 
-/// Sets the 16, 32 or 64 bits at a place, as far as there are octets.
+/// Sets one, two or four octets at a place, as far as there are octets.
 fn set(octets: &mut [u8], at: usize, value: u64, size: usize) {
     for (octet, new) in octets.iter_mut().skip(at).zip(value.to_le_bytes()).take(size) {
         *octet = new;
     }
 }
 
-/// Damage that asks for no form: bits, octets, numbers, stretches lost, repeated, inserted, moved, and the rest of another input.
+/// Damage that asks for no form: bits and octets changed, stretches cut off, lost, repeated or inserted, and the rest of another input.
 fn damage_octets(r: &mut Random, octets: &mut Vec<u8>, other: &[u8]) {
     let at = r.place(octets.len());
     let end = (at + 1 + r.below(24)).min(octets.len());
@@ -452,6 +452,16 @@ fn made_call(r: &mut Random, lines: &[String]) -> String {
     }
 }
 
+/// Some lines many times: a conversation of a thousand messages, up to the end of the room.
+fn repeat_lines(r: &mut Random, lines: &mut Vec<String>) {
+    let k = r.below(lines.len());
+    let own = lines[k..(k + 1 + r.below(4)).min(lines.len())].to_vec();
+    let turns = ["i exchange -", "a read", "a exchange -", "i read"].map(str::to_string).to_vec();
+    let (at, block) = if r.one_in(2) { (k, own) } else { (lines.len(), turns) };
+    let times = r.below(300);
+    lines.splice(at..at, (0..times).flat_map(|_| block.clone()));
+}
+
 /// A damaged script: lines left out, repeated, exchanged, taken from another script, or changed. `play` says what a script is answered with: what an end wrote is a token to damage.
 pub fn script(r: &mut Random, pool: &Pool, tokens: &Pool, play: impl Fn(&[u8]) -> String) -> Vec<u8> {
     let lines = |octets: Vec<u8>| -> Vec<String> { String::from_utf8_lossy(&octets).lines().map(str::to_string).filter(|l| !l.is_empty() && !l.starts_with('#')).collect() };
@@ -481,6 +491,9 @@ pub fn script(r: &mut Random, pool: &Pool, tokens: &Pool, play: impl Fn(&[u8]) -
         if own.is_empty() {
             own.push(String::new());
         }
+    }
+    if r.one_in(100) {
+        repeat_lines(r, &mut own);
     }
     finish(r, own.join("\n").into_bytes())
 }
