@@ -254,15 +254,15 @@ impl Run<'_> {
     /// The figures, as a paragraph and a table.
     fn report(&self, start: Instant) -> String {
         let answers: usize = self.counts.0.values().sum();
+        let lines = if self.kind == "scripts" { format!(" to {} lines", grouped(answers)) } else { String::new() };
         let mut text = format!(
-            "{} {}, all different, made from {} bundled ones, {} octets in all: {} differences. In {:.0} seconds, {} answers:\n\n| answer | number |\n|---|---|\n",
+            "{} {}, all different, made from {} bundled ones, {} octets: {} differences, in {:.0} seconds. The answers{lines}:\n\n| answer | number |\n|---|---|\n",
             grouped(self.made),
             self.kind,
             self.bundled,
             grouped(self.octets),
             self.differences,
-            start.elapsed().as_secs_f64(),
-            grouped(answers)
+            start.elapsed().as_secs_f64()
         );
         self.counts.0.iter().for_each(|(name, n)| text += &format!("| {} | {} |\n", name.trim(), grouped(*n)));
         text
