@@ -36,10 +36,16 @@ extern "C" {
 const UNTOUCHED: u8 = 0xA5;
 
 /// A call's answer, and the buffer that was lent to it.
-#[derive(Debug, PartialEq, Eq)]
+#[derive(PartialEq, Eq)]
 pub struct Lent {
     answer: i64,
     buffer: Vec<u8>,
+}
+
+impl std::fmt::Debug for Lent {
+    fn fmt(&self, to: &mut std::fmt::Formatter) -> std::fmt::Result {
+        write!(to, "{} \"{}\"", self.answer, self.buffer.escape_ascii())
+    }
 }
 
 impl Lent {
