@@ -479,7 +479,7 @@ static gboolean compare(packet_info *pinfo, proto_item *top, const seen_t *seen,
     guint messages = count_inside(seen->items[TYPES], theirs), schemes = count_inside(seen->items[SCHEMES], theirs);
     gboolean malformed = seen->items[MALFORMED]->len > 0;
     if (found->refused && !malformed)
-        expert_add_info_format(pinfo, top, &ei_differs, "The built-in dissector shows this refused token without complaint: %u messages, %u schemes", messages, schemes);
+        expert_add_info_format(pinfo, top, &ei_differs, "The built-in dissector shows this refused token without complaint");
     else if (!found->refused && (malformed || messages != found->messages || schemes != found->schemes))
         expert_add_info_format(pinfo, top, &ei_differs, "The built-in dissector shows %u messages and %u schemes%s, and the token has %u and %u", messages, schemes,
                                malformed ? " of a malformed packet" : "", found->messages, found->schemes);
