@@ -5,14 +5,12 @@ use mathlib.Core.Path.{_≡_, refl, sym, ap, subst, _∙_}
 use mathlib.Core.List.{List, List·Memᴰ, List·Memᴰ·head, List·Memᴰ·tail}
 use native.Mathlib.Omega.{arith}
 use lib.ListN.{length}
-use borrow.Author.Tests.{le-leb}
 use Rattle.vector.specs.declared.Vector.{Vector}
 use Rattle.vector.specs.Vector.{extent}
-use Rattle.message.specs.Layout.{Shape, nego, exchange, verify, alert, headOf, shapeOf, headerOf, schemeVector, extensionVector, alertVector, contentOf, contentIn, vectorsOf}
-use Rattle.message.proofs.Shapes.{header-least}
+use Rattle.message.specs.Layout.{Shape, nego, exchange, verify, alert, headOf, shapeOf, headerOf, schemeVector, extensionVector, alertVector, contentOf, vectorsOf}
 use Rattle.coverage.specs.Coverage.{headerIn, vectorsIn, vectorIn}
 use Rattle.table.specs.Table.{Held}
-use Rattle.table.proofs.Entries.{entry-within}
+use Rattle.table.proofs.Entries.{all-vectors, entry-within, held-long}
 use Rattle.entries.specs.Entries.{idsVector, arrayVector}
 use Rattle.entries.specs.Lookup.{Holds}
 
@@ -20,26 +18,19 @@ module _ (p : ℕ) (m : List ℕ) (held : Held p m) where
   pub held-room : p + length m < 2 ^ 32
   held-room = omega (arith, held .ends)
 
-  held-long : 40 ≤ length m
-  held-long = let a = held .header in omega (arith, header-least (shapeOf (headOf m .kind)))
-
   pub held-zero : Held 0 m
   held-zero = record { ends = omega (arith, held .ends); header = held .header; lies = held .lies }
 
   pub held-type : 8 + 4 ≤ length m
-  held-type = omega (arith, held-long)
+  held-type = omega (arith, held-long p m held)
 
   pub few-vectors : length (vectorsIn m) < 2 ^ 32
   few-vectors = omega (arith, entry-within p m held, held .ends)
 
-  all-vectors : vectorsIn m ≡ vectorsOf (contentIn m)
-  unfolding vectorsIn
-  all-vectors = rw (le-leb _ _ (held .header)) refl
-
   pub ids-inside : (shape : Shape) → shapeOf (headOf m .kind) ≡ shape → (k : ℕ) → k < idsVector shape m .count → idsVector shape m .offset .0 + 16 * idsVector shape m .count ≤ length m
   unfolding vectorsOf contentOf
   ids-inside nego e k h =
-      let member : List·Memᴰ (schemeVector m) (vectorsIn m) = subst (λ (l : List Vector). List·Memᴰ (schemeVector m) l) (sym (all-vectors ∙ ap (λ (x : Shape). vectorsOf (contentOf x m)) e)) (List·Memᴰ·head refl) in
+      let member : List·Memᴰ (schemeVector m) (vectorsIn m) = subst (λ (l : List Vector). List·Memᴰ (schemeVector m) l) (sym (all-vectors m (held .header) ∙ ap (λ (x : Shape). vectorsOf (contentOf x m)) e)) (List·Memᴰ·head refl) in
       let lies = held .lies (schemeVector m) member (λ z. omega arith) in
       omega (arith, lies .before)
   ids-inside exchange e k h = absurd (omega arith)
@@ -49,13 +40,13 @@ module _ (p : ℕ) (m : List ℕ) (held : Held p m) where
   pub array-inside : (shape : Shape) → shapeOf (headOf m .kind) ≡ shape → (k : ℕ) → k < arrayVector shape m .count → arrayVector shape m .offset .0 + 12 * arrayVector shape m .count ≤ length m
   unfolding vectorsOf contentOf
   array-inside nego e k h =
-      let member : List·Memᴰ (extensionVector m) (vectorsIn m) = subst (λ (l : List Vector). List·Memᴰ (extensionVector m) l) (sym (all-vectors ∙ ap (λ (x : Shape). vectorsOf (contentOf x m)) e)) (List·Memᴰ·tail (List·Memᴰ·head refl)) in
+      let member : List·Memᴰ (extensionVector m) (vectorsIn m) = subst (λ (l : List Vector). List·Memᴰ (extensionVector m) l) (sym (all-vectors m (held .header) ∙ ap (λ (x : Shape). vectorsOf (contentOf x m)) e)) (List·Memᴰ·tail (List·Memᴰ·head refl)) in
       let lies = held .lies (extensionVector m) member (λ z. omega arith) in
       omega (arith, lies .before)
   array-inside exchange e k h = absurd (omega arith)
   array-inside verify e k h = absurd (omega arith)
   array-inside alert e k h =
-      let member : List·Memᴰ (alertVector m) (vectorsIn m) = subst (λ (l : List Vector). List·Memᴰ (alertVector m) l) (sym (all-vectors ∙ ap (λ (x : Shape). vectorsOf (contentOf x m)) e)) (List·Memᴰ·head refl) in
+      let member : List·Memᴰ (alertVector m) (vectorsIn m) = subst (λ (l : List Vector). List·Memᴰ (alertVector m) l) (sym (all-vectors m (held .header) ∙ ap (λ (x : Shape). vectorsOf (contentOf x m)) e)) (List·Memᴰ·head refl) in
       let lies = held .lies (alertVector m) member (λ z. omega arith) in
       omega (arith, lies .before)
 

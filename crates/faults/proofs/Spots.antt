@@ -178,7 +178,7 @@ critical-most (e ∷ es) k = elim (which (not (negative (signed32 (e .type))))) 
   | inr t ↦ rw t (omega arith)
 ]
 
-elements-length : (n : ℕ) (a : List ℕ) (at : ℕ) → length (elementsAt n a at) ≡ n
+pub elements-length : (n : ℕ) (a : List ℕ) (at : ℕ) → length (elementsAt n a at) ≡ n
 unfolding elementsAt
 elements-length zero a at = refl
 elements-length (suc n) a at = ap suc (elements-length n a (at + 12))

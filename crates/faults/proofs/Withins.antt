@@ -27,7 +27,7 @@ use Rattle.coverage.specs.Coverage.{vectorsIn}
 use Rattle.faults.specs.declared.Spot.{Spot}
 use Rattle.faults.specs.Faults.{spot, firstBroken, vectorSpot, brokenSpot, firstCritical, criticalSpot, spotOf}
 use Rattle.faults.specs.Claims.{Within, FaultWithin}
-use Rattle.faults.proofs.Spots.{at-3, at-4, at-5, at-6, at-7, at-8, at-10, at-11, at-12, at-13}
+use Rattle.faults.proofs.Spots.{elements-length, at-3, at-4, at-5, at-6, at-7, at-8, at-10, at-11, at-12, at-13}
 use Rattle.faults.proofs.First.{broken-few, broken-is, second-keeps, critical-is, checksum-header-is, checksum-scheme-is}
 
 -- element j of an array that stands in the message ends in it
@@ -38,11 +38,6 @@ values-length : (n : ℕ) (a : List ℕ) (at : ℕ) → length (valuesOf (elemen
 unfolding elementsAt
 values-length zero a at = refl
 values-length (suc n) a at = ap suc (values-length n a (at + 12))
-
-elements-length : (n : ℕ) (a : List ℕ) (at : ℕ) → length (elementsAt n a at) ≡ n
-unfolding elementsAt
-elements-length zero a at = refl
-elements-length (suc n) a at = ap suc (elements-length n a (at + 12))
 
 -- ---- where a vector's offset and size stand
 vector-within : (shape : Shape) (m : List ℕ) (k : ℕ) → headerOf shape ≤ length m → k < length (vectorsOf (contentOf shape m)) → Within (vectorSpot shape m k) (length m)

@@ -40,7 +40,7 @@ module _ (t : Table) (id : Id) (b : Bool) (b-is : b ≡ mem id (idsAt (t .count)
 pub ruleset entries = (enter-known, enter-full, enter-new)
 
 -- ---- `enter_all`
-or-no : (a b : Bool) → (a || b) ≡ false → b ≡ false
+pub or-no : (a b : Bool) → (a || b) ≡ false → b ≡ false
 or-no false b e = e
 or-no true b e = absurd (let z : _≡_ {A = ℕ} 0 1 = cc in omega arith)
 

@@ -1,6 +1,6 @@
 -- How much a message adds to a table.
 -- Assumes nothing.
-use Prim.Native.Nat.{ℕ, zero, suc, _+_, _*_, _≤_, _<_}
+use Prim.Native.Nat.{ℕ, zero, suc, _+_, _*_, _≤_}
 use mathlib.Core.Path.{_≡_, refl, ap, _∙_}
 use mathlib.Core.Bool.{Bool, true, false, not, _||_}
 use mathlib.Core.Logic.{inl, inr}
@@ -19,10 +19,8 @@ use Rattle.coverage.proofs.Marks.{one-le}
 use Rattle.offers.specs.declared.Table.{Table}
 use Rattle.offers.specs.Offers.{allIn}
 use Rattle.offers.specs.Table.{namesIn, pickTable, enteredIn, enteredAllIn, tickedFrom, offeredIn}
-
-or-no : (a b : Bool) → (a || b) ≡ false → b ≡ false
-or-no false b e = e
-or-no true b e = absurd (let z : _≡_ {A = ℕ} 0 1 = cc in omega arith)
+use Rattle.offers.proofs.Entering.{or-no}
+use Rattle.offers.proofs.Views.{more, from-before}
 
 -- a number that is set, at its place and elsewhere
 pub set-most : (l : List ℕ) (k x j b : ℕ) → getD l j 0 ≤ b → x ≤ b → getD (set l k x) j 0 ≤ b
@@ -58,22 +56,14 @@ all-most t (s ∷ ss) =
     record { few = λ h. b .few (a .few h); counts = λ j. omega (arith, a .counts j, b .counts j); others = b .others ∙ a .others }
 
 module _ (ids : List ℕ) (ss : List Id) where
-  abbrev more : List ℕ → ℕ → ℕ
-  more c k = getD c k 0 + one (mem (octets 16 ids (k * 16)) ss)
-
-  before : (n k : ℕ) (c : List ℕ) (j : ℕ) → j < k → getD (tickedFrom ids ss n k c) j 0 ≡ getD c j 0
-  unfolding tickedFrom
-  before zero k c j h = refl
-  before (suc n) k c j h = before n (k + 1) (set c k (more c k)) j (omega arith) ∙ getD-set-other c k j (more c k) 0 (λ e. omega arith)
-
   ticked-most : (n k : ℕ) (c : List ℕ) (j : ℕ) → getD (tickedFrom ids ss n k c) j 0 ≤ getD c j 0 + 1
   unfolding tickedFrom
   ticked-most zero k c j = omega arith
   ticked-most (suc n) k c j = elim (which (eqb j k)) [
     | inl e ↦ let f = eqb-true j k e in
-        let x : more c k ≤ getD c j 0 + 1 = omega (arith, one-le (mem (octets 16 ids (k * 16)) ss) (one (mem (octets 16 ids (k * 16)) ss)) refl, ap (λ (i : ℕ). getD c i 0) f) in
-        rw (before n (k + 1) (set c k (more c k)) j (omega arith)) (set-most c k (more c k) j (getD c j 0 + 1) (omega arith) x)
-    | inr e ↦ omega (arith, ticked-most n (k + 1) (set c k (more c k)) j, getD-set-other c k j (more c k) 0 (eqb-false j k e))
+        let x : more ids ss c k ≤ getD c j 0 + 1 = omega (arith, one-le (mem (octets 16 ids (k * 16)) ss) (one (mem (octets 16 ids (k * 16)) ss)) refl, ap (λ (i : ℕ). getD c i 0) f) in
+        rw (from-before ids ss n (k + 1) (set c k (more ids ss c k)) j (omega arith)) (set-most c k (more ids ss c k) j (getD c j 0 + 1) (omega arith) x)
+    | inr e ↦ omega (arith, ticked-most n (k + 1) (set c k (more ids ss c k)) j, getD-set-other c k j (more ids ss c k) 0 (eqb-false j k e))
   ]
 
 module _ (t : Table) (ss : List Id) where

@@ -24,6 +24,7 @@ use Rattle.offers.specs.declared.Table.{Table}
 use Rattle.offers.specs.Offers.{Offers, entered, enteredAll, allIn, ticked, withOffer}
 use Rattle.coverage.specs.Coverage.{one}
 use Rattle.offers.specs.Table.{namesIn, pickTable, enteredIn, enteredAllIn, tickedFrom, offeredIn, Kept, AllIds, TableOffers}
+use Rattle.offers.proofs.Entering.{or-no}
 
 -- ids stand in the octets before them alone
 ids-front : (j : ℕ) (a b : List ℕ) → length a ≡ j * 16 → idsAt j (a ++ b) ≡ idsAt j a
@@ -53,10 +54,6 @@ module _ (d s : List ℕ) (j : ℕ) (room : 16 * j + 16 ≤ length d) (id : leng
 
   pub ids-more : idsAt (j + 1) (put d (16 * j) s) ≡ idsAt j d ++ (s ∷ [])
   ids-more = rw (add-one, ids-snoc, ids-before, id-behind)
-
-or-no : (a b : Bool) → (a || b) ≡ false → b ≡ false
-or-no false b e = e
-or-no true b e = absurd (let z : _≡_ {A = ℕ} 0 1 = cc in omega arith)
 
 module _ (t : Table) (s : Id) (k : Kept t) (id : length s ≡ 16) where
   next : Table
@@ -172,7 +169,7 @@ ticked-at (s ∷ l) (n ∷ ns) m zero h = refl
 ticked-at (s ∷ l) (n ∷ ns) m (suc j) h = ticked-at l ns m j (omega arith)
 
 module _ (ids : List ℕ) (ss : List Id) where
-  abbrev more : List ℕ → ℕ → ℕ
+  abbrev pub more : List ℕ → ℕ → ℕ
   more c k = getD c k 0 + one (mem (octets 16 ids (k * 16)) ss)
 
   length-from : (n k : ℕ) (c : List ℕ) → length (tickedFrom ids ss n k c) ≡ length c
@@ -180,7 +177,7 @@ module _ (ids : List ℕ) (ss : List Id) where
   length-from zero k c = refl
   length-from (suc n) k c = length-from n (k + 1) (set c k (more c k)) ∙ length-set c k (more c k)
 
-  from-before : (n k : ℕ) (c : List ℕ) (j : ℕ) → j < k → getD (tickedFrom ids ss n k c) j 0 ≡ getD c j 0
+  pub from-before : (n k : ℕ) (c : List ℕ) (j : ℕ) → j < k → getD (tickedFrom ids ss n k c) j 0 ≡ getD c j 0
   unfolding tickedFrom
   from-before zero k c j h = refl
   from-before (suc n) k c j h = from-before n (k + 1) (set c k (more c k)) j (omega arith) ∙ getD-set-other c k j (more c k) 0 (λ e. omega arith)

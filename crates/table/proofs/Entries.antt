@@ -30,7 +30,7 @@ use Rattle.table.specs.Table.{placedAt, fieldsIn, spansIn, entryOf, entr
 use Rattle.table.proofs.Numbers.{numbers-append, length-numbers, length-spans, both-written}
 
 -- ---- a message of an accepted token
-all-vectors : (m : List ℕ) → headerIn m ≤ length m → vectorsIn m ≡ vectorsOf (contentIn m)
+pub all-vectors : (m : List ℕ) → headerIn m ≤ length m → vectorsIn m ≡ vectorsOf (contentIn m)
 unfolding vectorsIn
 all-vectors m h = rw (le-leb _ _ h) refl
 
