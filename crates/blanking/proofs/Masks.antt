@@ -193,9 +193,6 @@ pub ruleset masks = (mask-start, mask-length, mask-end, mask-fits, mask-within, 
 
 -- ---- `cover`
 module _ (s : List ℕ) (r : Answer) (r-is : told r ≡ outcomeOf (tokenOf s)) (d : List ℕ) where
-  pub cover-accepts : (n : ℕ) → r ≡ answer.Messages n → Accepts s
-  cover-accepts n here = answer-accepts s r r-is n here
-
   pub cover-other : (n : ℕ) → r ≡ answer.Messages n → (length d ≡ length s → ⊥) → _≡_ {A = Blanking} (record { outcome = told (answer.Messages n); octets = d }) (maskingOf s d)
   cover-other n here h =
       let e : d ≡ maskedBy (tokenOf s) s d = sym (ap (λ (q : Reading). maskedBy q s d) (answer-accepts s r r-is n here) ∙ simp (ne-eqb (length d) (length s) h)) in
@@ -211,4 +208,4 @@ module _ (s : List ℕ) (r : Answer) (r-is : told r ≡ outcomeOf (tokenOf s)) (
       let e : d ≡ maskedBy (tokenOf s) s d = sym (ap (λ (q : Reading). maskedBy q s d) (answer-refuses s r r-is n place here)) in
       ap (λ (o : Outcome). record { outcome = o; octets = d }) (sym (ap told here) ∙ r-is) ∙ ap (λ (l : List ℕ). record { outcome = outcomeOf (tokenOf s); octets = l }) e
 
-pub ruleset covering = (cover-accepts, cover-other, cover-done, cover-refused)
+pub ruleset covering = (answer-accepts, cover-other, cover-done, cover-refused)

@@ -306,9 +306,6 @@ pub ruleset ways = (way-start, way-end, way-fits, way-small, way-less, way-room,
 
 -- ---- `blank`
 module _ (s : List ℕ) (r : Answer) (r-is : told r ≡ outcomeOf (tokenOf s)) where
-  pub blank-accepts : (n : ℕ) → r ≡ answer.Messages n → Accepts s
-  blank-accepts n here = answer-accepts s r r-is n here
-
   pub blank-done : (n : ℕ) → r ≡ answer.Messages n → (x : List ℕ) → x ≡ blanked s → _≡_ {A = Blanking} (record { outcome = told (answer.Messages n); octets = x }) (blankingOf s)
   blank-done n here x x-is = rw (x-is, sym (ap told here) ∙ r-is)
 
@@ -317,4 +314,4 @@ module _ (s : List ℕ) (r : Answer) (r-is : told r ≡ outcomeOf (tokenOf s)) w
       let e : s ≡ blanked s = sym (ap (λ (q : Reading). blankedBy q s) (answer-refuses s r r-is n place here)) in
       ap (λ (o : Outcome). record { outcome = o; octets = s }) (sym (ap told here) ∙ r-is) ∙ ap (λ (l : List ℕ). record { outcome = outcomeOf (tokenOf s); octets = l }) e
 
-pub ruleset answers = (blank-accepts, blank-done, blank-refused)
+pub ruleset answers = (answer-accepts, blank-done, blank-refused)

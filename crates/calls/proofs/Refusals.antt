@@ -16,7 +16,7 @@ use Rattle.conversation.specs.State.{limitRows}
 use Rattle.conversation.specs.Turns.{placeAfter, mayWrite}
 use Rattle.conversation.specs.Outcomes.{Outcome, refused, decide, row, fits}
 use Rattle.conversation.specs.Writing.{stageRows}
-use Rattle.conversation.proofs.Rows.{front-true}
+use Rattle.conversation.proofs.Rows.{front-true, back-true}
 use Rattle.conversation.proofs.Decides.{first-none, first-stop, first-on, decide-passed, decide-refused, decide-behind}
 use Rattle.calls.specs.Calls.{roomFor, callRefusal, stageRefusal, writeRefusal, Inside}
 
@@ -110,10 +110,6 @@ module _ (r : Record) (kind : ℕ) (rows : List Row) (size len n : ℕ) (n-is : 
   unfolding callRefusal writeRefusal
   write-on z x e = e ∙ first-on (stageRows r kind) (behind r rows size len) (stage-given r kind n n-is z)
 
-behind-true : (xs ys : List Row) → AllTrue (xs ++ ys) → AllTrue ys
-behind-true [] ys h = h
-behind-true (x ∷ xs) ys h = behind-true xs ys (h .1)
-
 -- what has passed where it is not refused
 module _ (r : Record) (kind : ℕ) (rows : List Row) (size len n : ℕ) (n-is : n ≡ writeRefusal r kind rows size len) (z : n ≡ 0) (sure : without 0 (behind r rows size len) ≡ true) where
   passed : AllTrue (stageRows r kind ++ behind r rows size len)
@@ -124,14 +120,14 @@ module _ (r : Record) (kind : ℕ) (rows : List Row) (size len n : ℕ) (n-is : 
   passed-inside = limits-inside r (row 18 (mayWrite r kind) ∷ behind r rows size len) passed
 
   pub passed-own : AllTrue rows
-  passed-own = front-true rows (row 16 (roomFor (r .used) size len) ∷ []) (behind-true (stageRows r kind) (behind r rows size len) passed)
+  passed-own = front-true rows (row 16 (roomFor (r .used) size len) ∷ []) (back-true (stageRows r kind) (behind r rows size len) passed)
 
   pub passed-room : r .used + size ≤ min len 65535
-  passed-room = leb-true _ _ (behind-true (stageRows r kind ++ rows) (row 16 (roomFor (r .used) size len) ∷ []) passed .0)
+  passed-room = leb-true _ _ (back-true (stageRows r kind ++ rows) (row 16 (roomFor (r .used) size len) ∷ []) passed .0)
 
 -- the tests before 16 decide whether a message is measured: where they pass, its length may stand for a number
 pub measured : (r : Record) (d : List ℕ) (kind : ℕ) (rows : List Row) (size length-of : ℕ) → (Inside r → AllTrue rows → length-of ≡ size) → (action : Outcome)
     → decide (stageRows r kind ++ (rows ++ (fits r d size ∷ []))) r d action ≡ decide (stageRows r kind ++ (rows ++ (fits r d length-of ∷ []))) r d action
 measured r d kind rows size length-of e action =
     decide-behind (stageRows r kind ++ rows) (fits r d size ∷ []) (fits r d length-of ∷ []) r d action
-    (λ g. rw (e (limits-inside r (row 18 (mayWrite r kind) ∷ rows) g) (behind-true (stageRows r kind) rows g)))
+    (λ g. rw (e (limits-inside r (row 18 (mayWrite r kind) ∷ rows) g) (back-true (stageRows r kind) rows g)))

@@ -1,7 +1,7 @@
 -- The layouts by the kind's number, in the words of the code.
 -- Assumes nothing.
 use Prim.Native.Nat.{ℕ, _+_, _*_, _-_, _<_, _≤_}
-use mathlib.Core.Path.{_≡_, refl, sym, ap, subst, _∙_}
+use mathlib.Core.Path.{_≡_, refl, ap, _∙_}
 use mathlib.Core.Logic.{_⊎_, inl, inr}
 use mathlib.Core.List.{List}
 use native.Mathlib.Omega.{arith}
@@ -10,13 +10,14 @@ use lib.Dec.{leb, eqb}
 use borrow.Author.Tests.{eq-eqb, ne-eqb, leb-true, leb-false}
 use Rattle.octets.proofs.Bools.{which}
 use Rattle.vector.specs.declared.Vector.{Vector}
-use Rattle.message.specs.Layout.{Shape, nego, exchange, verify, alert, shapeOf, headerOf, schemeVector, extensionVector, alertVector}
+use Rattle.message.specs.Layout.{Shape, nego, exchange, verify, alert, shapeOf, schemeVector, extensionVector, alertVector}
 use Rattle.message.proofs.Shapes.{shape-nego, shape-exchange, shape-verify, shape-alert}
 use Rattle.coverage.specs.Coverage.{noVector}
 use Rattle.entries.specs.declared.Entry.{Entry}
 use Rattle.entries.specs.Entries.{fieldsOf, headerEntry, vectorWhat, vectorNumber, idsVector, arrayVector, typeWhat, valueWhat}
 use Rattle.entries.specs.Lookup.{flat, tableEntry, Row, Holds}
 use Rattle.entries.proofs.Fields.{row-in, row-entry}
+use Rattle.entries.proofs.Bounds.{holds-header}
 
 module _ (kind : ℕ) where
   between : 1 < kind → kind ≤ 6 → (shapeOf kind ≡ exchange) ⊎ (shapeOf kind ≡ verify)
@@ -110,20 +111,17 @@ module _ (kind : ℕ) where
 
   -- ---- the words of `header_entry`
   module _ (p : ℕ) (m : List ℕ) (on : Holds p m kind) (k : ℕ) (few : k < length (fieldsOf (shapeOf kind))) where
-    header-room : headerOf (shapeOf kind) ≤ length m
-    header-room = subst (λ (x : ℕ). headerOf (shapeOf x) ≤ length m) (sym (on .is)) (on .held .header)
-
     pub row-nego : kind ≤ 1 → Row (flat (fieldsOf nego)) m k
-    row-nego h = row-in nego m k (rw (shape-nego kind h) at header-room) (rw (shape-nego kind h) at few)
+    row-nego h = row-in nego m k (rw (shape-nego kind h) at (holds-header p m kind on)) (rw (shape-nego kind h) at few)
 
     pub row-exchange : 1 < kind → kind ≤ 5 → Row (flat (fieldsOf exchange)) m k
-    row-exchange h g = row-in exchange m k (rw (shape-exchange kind h g) at header-room) (rw (shape-exchange kind h g) at few)
+    row-exchange h g = row-in exchange m k (rw (shape-exchange kind h g) at (holds-header p m kind on)) (rw (shape-exchange kind h g) at few)
 
     pub row-verify : 1 < kind → 5 < kind → kind ≡ 6 → Row (flat (fieldsOf verify)) m k
-    row-verify h g e = row-in verify m k (rw (shape-verify kind h g e) at header-room) (rw (shape-verify kind h g e) at few)
+    row-verify h g e = row-in verify m k (rw (shape-verify kind h g e) at (holds-header p m kind on)) (rw (shape-verify kind h g e) at few)
 
     pub row-alert : 1 < kind → 5 < kind → (kind ≡ 6 → ⊥) → Row (flat (fieldsOf alert)) m k
-    row-alert h g e = row-in alert m k (rw (shape-alert kind h g e) at header-room) (rw (shape-alert kind h g e) at few)
+    row-alert h g e = row-in alert m k (rw (shape-alert kind h g e) at (holds-header p m kind on)) (rw (shape-alert kind h g e) at few)
 
     module _ (i : ℕ) (x : Entry) where
       pub header-nego : kind ≤ 1 → x ≡ tableEntry p i m (flat (fieldsOf nego)) k → x ≡ headerEntry p i m (shapeOf kind) k

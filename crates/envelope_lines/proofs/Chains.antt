@@ -1,6 +1,6 @@
 -- Each line as the calls that write it, one behind the other, in the words of the code: t is the text before, u the text after.
 -- Assumes nothing.
-use Prim.Native.Nat.{ℕ, suc, _+_, _-_, _≤_, _<_}
+use Prim.Native.Nat.{ℕ, _+_, _-_, _≤_, _<_}
 use mathlib.Core.Path.{_≡_, refl, sym, ap, _∙_}
 use mathlib.Core.Bool.{Bool, true, false}
 use mathlib.Core.List.{List, [], _∷_, _++_}
@@ -14,7 +14,7 @@ use lib.Dec.{leb}
 use borrow.Author.Tests.{leb-true}
 use Rattle.octets.proofs.Same.{same-sizes}
 use Rattle.octets.proofs.Bools.{which}
-use Rattle.text.specs.Text.{quoted, decimal, decimal64, hexOf, Text, written}
+use Rattle.text.specs.Text.{quoted, decimal, decimal64, digitsOf, Text, written}
 use Rattle.text.proofs.Pieces.{then}
 use Rattle.der.specs.Got.{Got, ok, no, check}
 use Rattle.der.specs.Grammar.{fieldOctets}
@@ -30,20 +30,8 @@ use Rattle.envelope.specs.declared.Read.{Read}
 use Rattle.envelope.specs.declared.Read.the-variants as reads
 use Rattle.envelope_parts.specs.Parts.{octetsIn, mechanismOf, isNegoex}
 use Rattle.envelope_parts.proofs.Mechanisms.{each-mechanism}
-use Rattle.envelope_lines.specs.Lines.{digitsOf, octetsText, mechanismLine, mechanismLines, octetsLine, namedLines, stateLine, tokenPlace, tokenLine, lastLines, headLine, refusedText, textOf, envelopeText, octetsOf, tokenIn, begun, wroteLine}
+use Rattle.envelope_lines.specs.Lines.{octetsText, mechanismLine, mechanismLines, octetsLine, namedLines, stateLine, tokenPlace, tokenLine, lastLines, headLine, refusedText, textOf, envelopeText, octetsOf, tokenIn, begun, wroteLine}
 use Rattle.envelope_lines.specs.Answers.{TokenAt, InitAt, toldInit, RespAt, toldResp}
-
--- the digits of the octets that are left
-module _ (v : List ℕ) (i : ℕ) (x t : Text) (inv : x ≡ written (digitsOf (drop i v)) t) where
-  pub digits-more : i < length v → (u : Text) → u ≡ written (hexOf (getD v i 0) ∷ []) t → x ≡ written (digitsOf (drop (i + 1) v)) u
-  unfolding digitsOf written
-  digits-more h u e = inv ∙ rw (add-one, drop-cons v i 0) (sym (ap (written (digitsOf (drop (suc i) v))) e))
-
-  pub digits-end : length v ≤ i → t ≡ x
-  unfolding digitsOf written
-  digits-end h = sym (inv ∙ rw (drop-of-length-le v h))
-
-pub ruleset digits = (digits-more, digits-end)
 
 -- a field OCTETS
 module _ (t u : Text) (v : List ℕ) where

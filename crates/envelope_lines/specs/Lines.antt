@@ -1,7 +1,7 @@
 -- The text of an envelope, as pieces in order: what `unwrap` shows, and what `wrap` answers. Quotations are README.md's, "What an envelope looks like".
 --
 -- Glossary
---   digitsOf v        octets as digits; octetsText v: a field OCTETS
+--   octetsText v      a field OCTETS
 --   mechanismLine k v the line of the mechanism v, whose place is k; mark: what stands behind it; mechanismLines: those of several, from a place on
 --   octetsLine w o    the line of a field behind the word w, where it is there
 --   namedLines m      the line of a Resp's mechanism; stateLine: of its state
@@ -20,7 +20,7 @@ use mathlib.Core.List.{List, [], _∷_, _++_}
 use mathlib.Core.Option.{Option, none, some}
 use lib.ListN.{length, take, getD}
 use Rattle.octets.specs.Octets.{sameOctets}
-use Rattle.text.specs.Text.{quoted, decimal, decimal64, hexOf}
+use Rattle.text.specs.Text.{quoted, decimal, decimal64, digitsOf}
 use Rattle.der.specs.Got.{Got, ok, no}
 use Rattle.der.specs.Grammar.{fieldOctets}
 use Rattle.envelope.specs.Envelope.{Envelope, Init, Resp}
@@ -28,10 +28,6 @@ use Rattle.envelope.specs.Reading.{envelopeOf}
 use Rattle.envelope_parts.specs.Parts.{isNegoex}
 
 -- "OCTETS in upper-case hexadecimal, `-` for none"
-unfoldable pub digitsOf : List ℕ → List (List ℕ)
-digitsOf [] = []
-digitsOf (x ∷ v) = hexOf x ∷ digitsOf v
-
 unfoldable pub octetsText : List ℕ → List (List ℕ)
 octetsText [] = quoted "-" ∷ []
 octetsText (x ∷ v) = digitsOf (x ∷ v)

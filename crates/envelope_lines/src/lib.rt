@@ -6,7 +6,7 @@ ghost use Rattle.text.specs.Text.{text, written, quoted};
 ghost use Rattle.der.specs.Holder.{part};
 ghost use Rattle.envelope.specs.Answers.{shown, mechanismsIn};
 ghost use Rattle.envelope_lines.specs.Answers.{TokenAt, InitAt, toldInit, RespAt, toldResp};
-ghost use Rattle.envelope_lines.specs.Lines.{digitsOf, octetsText, mechanismLine, mechanismLines, octetsLine, namedLines, stateLine, tokenLine, lastLines, headLine, refusedText, textOf, envelopeText, tokenIn, begun as Lines·begun, wroteLine};
+ghost use Rattle.envelope_lines.specs.Lines.{octetsText, mechanismLine, mechanismLines, octetsLine, namedLines, stateLine, tokenLine, lastLines, headLine, refusedText, textOf, envelopeText, tokenIn, begun as Lines·begun, wroteLine};
 use der::same;
 use envelope::Field;
 use envelope::Init;
@@ -18,21 +18,8 @@ use envelope_parts::mechanism;
 use envelope_parts::octets;
 use text::append;
 use text::field;
-use text::hex;
+use text::hex_all;
 use text::wide_field;
-
-// Octets as digits.
-fn digits(d: &mut [u8], at: usize, v: &[u8]) -> usize
-    ensures { λ r. ⌜ text (now (d .exit)) r ≡ written (digitsOf (now (v .entry))) (text (now (d .entry)) at) ⌝ }
-{
-    let mut next = at;
-    let mut i = 0;
-    while i < v.len() {
-        next = hex(d, next, v[i]);
-        i += 1;
-    }
-    next
-}
 
 // A field OCTETS.
 fn octets_text(d: &mut [u8], at: usize, v: &[u8]) -> usize
@@ -41,7 +28,7 @@ fn octets_text(d: &mut [u8], at: usize, v: &[u8]) -> usize
     if v.len() == 0 {
         return append(d, at, b"-");
     }
-    digits(d, at, v)
+    hex_all(d, at, v)
 }
 
 // A mechanism's line.

@@ -47,9 +47,6 @@ pub record Going-on (x : State) (rest : List ℕ) (place : ℕ) (t : State) : Ty
 pub begin : (s : List ℕ) (t : State) → Accepts s → Going-on (steps (texts (allLines (messagesOf (tokenOf s)))) t) s 0 t
 begin s t a = let (w, places) = whole s a in record { left = w; come = ap (λ (ps : List Placed). steps (texts (allLines ps)) t) (sym places) }
 
-pub walk-short : (s : List ℕ) → Accepts s → length s ≤ 65535
-walk-short s a = accepted-short s a
-
 lines-first : (place : ℕ) (m : List ℕ) (ms : List (List ℕ)) → allLines (placedFrom place (m ∷ ms)) ≡ messageLines place m ++ allLines (placedFrom (place + length m) ms)
 unfolding allLines
 lines-first place m ms = refl
@@ -98,4 +95,4 @@ module _ (x : State) (rest : List ℕ) (place : ℕ) (t : State) (on : Going-on 
               ∙ ap (steps (texts (allLines (placedFrom (place + length (firstOf rest)) (here .left .ms))))) (ap (λ (l : List ℕ). steps (texts (messageLines place l)) t) (sym m-is) ∙ sym u-is);
         }))
 
-pub ruleset turns = (begin, walk-short, at-end, walk-fit, walk-fits, walk-less, walk-small, walk-place, walk-on)
+pub ruleset turns = (begin, accepted-short, at-end, walk-fit, walk-fits, walk-less, walk-small, walk-place, walk-on)

@@ -8,7 +8,7 @@ use Rattle.vector.specs.declared.TokenPlace.{TokenPlace}
 use Rattle.token.specs.declared.Answer.{Answer}
 use Rattle.token.specs.declared.Answer.the-variants as answer
 use Rattle.token.specs.Token.{Reading, tokenOf, outcomeOf, told}
-use Rattle.token.specs.Walk.{messagesOf, Accepts}
+use Rattle.token.specs.Walk.{messagesOf}
 use Rattle.token.proofs.Walks.{answer-accepts, answer-number, answer-refuses}
 use Rattle.put.specs.Put.{joined}
 use Rattle.lines.specs.Lines.{endLine, refusedLine}
@@ -22,13 +22,10 @@ use Rattle.listing.specs.Listing.{allLines, readingLines, linesOf}
 
 module _ (s : List ℕ) (r : Answer) (r-is : told r ≡ outcomeOf (tokenOf s)) where
   module _ (n : ℕ) (here : r ≡ answer.Messages n) where
-    pub window-accepts : Accepts s
-    window-accepts = answer-accepts s r r-is n here
-
     lines-are : linesOf s ≡ texts (allLines (messagesOf (tokenOf s))) ++ (joined (endLine n (length s)) ∷ [])
     unfolding linesOf readingLines texts
     lines-are =
-        ap (λ (x : Reading). texts (readingLines x (length s))) window-accepts
+        ap (λ (x : Reading). texts (readingLines x (length s))) (answer-accepts s r r-is n here)
         ∙ texts-append (allLines (messagesOf (tokenOf s))) (endLine (length (messagesOf (tokenOf s))) (length s) ∷ [])
         ∙ ap (λ (k : ℕ). texts (allLines (messagesOf (tokenOf s))) ++ (joined (endLine k (length s)) ∷ [])) (answer-number s r r-is n here)
 
@@ -48,4 +45,4 @@ module _ (s : List ℕ) (r : Answer) (r-is : told r ≡ outcomeOf (tokenOf s)) w
         line-is : linesOf s ≡ joined (refusedLine n (place .0)) ∷ []
         line-is = unfold linesOf readingLines texts in ap (λ (y : Reading). texts (readingLines y (length s))) (answer-refuses s r r-is n place here)
 
-pub ruleset windows = (window-accepts, window-messages, window-refused, start-going)
+pub ruleset windows = (answer-accepts, window-messages, window-refused, start-going)

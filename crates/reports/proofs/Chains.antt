@@ -1,19 +1,17 @@
 -- Each line as the calls that write it, one after the other, in the words of the code: t is the text before, u the text after.
 -- Assumes nothing.
-use Prim.Native.Nat.{ℕ, suc, _+_, _≤_, _<_}
-use mathlib.Core.Path.{_≡_, sym, ap, _∙_}
+use Prim.Native.Nat.{ℕ, _+_}
+use mathlib.Core.Path.{_≡_}
 use mathlib.Core.Bool.{Bool, true, false}
 use mathlib.Core.List.{List, [], _∷_, _++_}
-use native.Mathlib.Numerals.{add-one}
-use lib.ListN.{length, drop, getD, drop-of-length-le}
-use lib.Seq.{drop-cons}
+use lib.ListN.{length}
 use lib.Dec.{eqb}
 use borrow.Author.Tests.{eq-eqb, ne-eqb}
-use Rattle.text.specs.Text.{quoted, hexOf, idText, Text, written}
+use Rattle.text.specs.Text.{quoted, idText, Text, written}
 use Rattle.text.proofs.Pieces.{then}
 use Rattle.conversation.specs.declared.Answer.{Answer}
 use Rattle.script.specs.declared.Command.{Command}
-use Rattle.reports.specs.Reports.{digitsOf, wroteText, choiceText, namesChoice, numbersLine, reportOf}
+use Rattle.reports.specs.Reports.{wroteText, choiceText, namesChoice, numbersLine, reportOf}
 
 module _ (t a b u : Text) (p x : List ℕ) (first : a ≡ written (p ∷ x ∷ []) t) where
   pub two-fields : (q y z : List ℕ) → b ≡ written (q ∷ y ∷ []) a → u ≡ written (z ∷ []) b → u ≡ written (p ∷ x ∷ q ∷ y ∷ z ∷ []) t
@@ -25,18 +23,6 @@ module _ (t a b u : Text) (p x : List ℕ) (first : a ≡ written (p ∷ x ∷ [
 pub choice-then : (t a b e u : Text) (w i q y z : List ℕ) → a ≡ written (w ∷ []) t → b ≡ written (idText i) a → e ≡ written (q ∷ y ∷ []) b → u ≡ written (z ∷ []) e
     → u ≡ written (w ∷ (idText i ++ (q ∷ y ∷ z ∷ []))) t
 choice-then t a b e u w i q y z f g h k = then t a u _ _ f (then a b u _ _ g (then b e u _ _ h k))
-
--- the digits of the octets that are left
-module _ (v : List ℕ) (i : ℕ) (x t : Text) (inv : x ≡ written (digitsOf (drop i v)) t) where
-  pub digits-more : i < length v → (u : Text) → u ≡ written (hexOf (getD v i 0) ∷ []) t → x ≡ written (digitsOf (drop (i + 1) v)) u
-  unfolding digitsOf written
-  digits-more h u e = inv ∙ rw (add-one, drop-cons v i 0) (sym (ap (written (digitsOf (drop (suc i) v))) e))
-
-  pub digits-end : length v ≤ i → t ≡ x
-  unfolding digitsOf written
-  digits-end h = sym (inv ∙ rw (drop-of-length-le v h))
-
-pub ruleset digits = (digits-more, digits-end)
 
 module _ (c : Command) (a : Answer) (message : List ℕ) (t u : Text) where
   pub report-refused : (a .refusal ≡ 0 → ⊥) → u ≡ written (numbersLine (quoted "refused ") (a .refusal) (quoted " at=") (a .place .0)) t → u ≡ written (reportOf c a message) t

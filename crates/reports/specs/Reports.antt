@@ -2,7 +2,7 @@
 -- conversation looks like".
 --
 -- Glossary
---   digitsOf v         octets as digits; wroteText v: a written message
+--   wroteText v        a written message: its octets in upper-case digits
 --   choiceText i n     a choice, after a written message: its id, and how many were left
 --   namesChoice v      the verb v is that of a call that answers one
 --   numbersLine        a line of two numbers, each after its words
@@ -13,15 +13,10 @@ use mathlib.Core.Bool.{Bool, cond, _||_}
 use mathlib.Core.List.{List, [], _∷_, _++_}
 use lib.ListN.{length}
 use lib.Dec.{eqb}
-use Rattle.text.specs.Text.{quoted, decimal, decimal64, hexOf, idText}
+use Rattle.text.specs.Text.{quoted, decimal, decimal64, digitsOf, idText}
 use Rattle.conversation.specs.declared.Answer.{Answer}
 use Rattle.script.specs.declared.Command.{Command}
 use Rattle.script.specs.Grammar.{REPLY, READ, OPEN, CHOOSE-EXCHANGE, CHOOSE-VERIFY, CHOOSE-ALERT}
-
--- "upper-case digits"
-unfoldable pub digitsOf : List ℕ → List (List ℕ)
-digitsOf [] = []
-digitsOf (x ∷ v) = hexOf x ∷ digitsOf v
 
 -- "wrote LENGTH OCTETS"
 unfoldable pub wroteText : List ℕ → List (List ℕ)

@@ -1,12 +1,12 @@
 // What a script's calls answer, as lines of text from the front of a lent slice on.
 ghost use mathlib.Core.Path.{_≡_};
 ghost use Rattle.text.specs.Text.{text, written};
-ghost use Rattle.reports.specs.Reports.{digitsOf, wroteText, choiceText, namesChoice, numbersLine, usedLine, reportOf};
+ghost use Rattle.reports.specs.Reports.{wroteText, choiceText, namesChoice, numbersLine, usedLine, reportOf};
 use conversation::Answer;
 use script::Command;
 use text::append;
 use text::field;
-use text::hex;
+use text::hex_all;
 use text::id;
 use text::wide_field;
 
@@ -29,26 +29,13 @@ fn choice(d: &mut [u8], at: usize, chosen: [u8; 16], left: u32) -> usize
     append(d, e, b"\n")
 }
 
-// Octets as digits.
-fn digits(d: &mut [u8], at: usize, v: &[u8]) -> usize
-    ensures { λ r. ⌜ text (now (d .exit)) r ≡ written (digitsOf (now (v .entry))) (text (now (d .entry)) at) ⌝ }
-{
-    let mut next = at;
-    let mut i = 0;
-    while i < v.len() {
-        next = hex(d, next, v[i]);
-        i += 1;
-    }
-    next
-}
-
 // The length and the octets of a written message; its line is still open.
 fn wrote(d: &mut [u8], message: &[u8]) -> usize
     ensures { λ r. ⌜ text (now (d .exit)) r ≡ written (wroteText (now (message .entry))) (text (now (d .entry)) 0) ⌝ }
 {
     let a = wide_field(d, 0, b"wrote ", message.len());
     let b = append(d, a, b" ");
-    digits(d, b, message)
+    hex_all(d, b, message)
 }
 
 // Whether a verb is that of a call that answers a choice: a reply, and those that choose.

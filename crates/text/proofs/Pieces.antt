@@ -1,6 +1,6 @@
 -- Pieces of text written one behind the other.
 -- Assumes nothing.
-use Prim.Native.Nat.{ℕ, _+_, _-_, _/_, _%_, _<_, _≤_}
+use Prim.Native.Nat.{ℕ, suc, _+_, _-_, _/_, _%_, _<_, _≤_}
 use mathlib.Core.Path.{_≡_, refl, sym, ap, _∙_}
 use mathlib.Core.Bool.{Bool, true, false, cond}
 use mathlib.Core.Logic.{inl, inr}
@@ -8,12 +8,12 @@ use mathlib.Core.List.{List, [], _∷_, _++_}
 use native.Mathlib.Nat.{add-zero}
 use native.Mathlib.Numerals.{add-one}
 use native.Mathlib.Omega.{arith}
-use lib.ListN.{length, drop, take, getD, length-append, List·getD-eq-default}
-use lib.Seq.{take-suc, take-length, take-at, length-take-le}
+use lib.ListN.{length, drop, take, getD, length-append, drop-of-length-le, List·getD-eq-default}
+use lib.Seq.{drop-cons, take-suc, take-length, take-at, length-take-le}
 use lib.Dec.{leb, eqb}
 use borrow.Author.Tests.{le-leb, eq-eqb, ne-eqb, leb-true}
 use Rattle.octets.proofs.Bools.{which}
-use Rattle.text.specs.Text.{quoted, hexDigit, hexOf, glyphOf, glyphs, Text, text, appended, written}
+use Rattle.text.specs.Text.{quoted, hexDigit, hexOf, digitsOf, glyphOf, glyphs, Text, text, appended, written}
 use Rattle.put.specs.Put.{put, joined, Written}
 use Rattle.put.proofs.Laws.{put-none, length-put, put-more, joined-append}
 
@@ -36,6 +36,18 @@ length-written (p ∷ ps) t = length-written ps (appended t p) ∙ length-append
 
 pub same-room : (d d' : List ℕ) (at r : ℕ) (ps : List (List ℕ)) → text d' r ≡ written ps (text d at) → length d' ≡ length d
 same-room d d' at r ps e = ap (λ (t : Text). length (t .octets)) e ∙ length-written ps (text d at)
+
+-- the digits of the octets that are left
+module _ (v : List ℕ) (i : ℕ) (x t : Text) (inv : x ≡ written (digitsOf (drop i v)) t) where
+  pub digits-more : i < length v → (u : Text) → u ≡ written (hexOf (getD v i 0) ∷ []) t → x ≡ written (digitsOf (drop (i + 1) v)) u
+  unfolding digitsOf written
+  digits-more h u e = inv ∙ rw (add-one, drop-cons v i 0) (sym (ap (written (digitsOf (drop (suc i) v))) e))
+
+  pub digits-end : length v ≤ i → t ≡ x
+  unfolding digitsOf written
+  digits-end h = sym (inv ∙ rw (drop-of-length-le v h))
+
+pub ruleset digits = (digits-more, digits-end)
 
 -- pieces behind pieces
 pub written-append : (ps qs : List (List ℕ)) (t : Text) → written (ps ++ qs) t ≡ written qs (written ps t)

@@ -5,7 +5,7 @@
 --   quoted t      the codes of the characters of t
 --   decimal n     a number of 32 bits in decimal; decimal64 n: one of 64 bits; decimalTo m n: in at most m digits
 --   signed z      a signed number in decimal, as pieces of text: its minus sign, where it has one, and its digits
---   hexOf x       an octet as two hexadecimal digits; hexDigit: one digit
+--   hexOf x       an octet as two hexadecimal digits; hexDigit: one digit; digitsOf v: octets as digits, as pieces of text
 --   idText i      the usual text of the id i, as pieces of text: its octets in order, and dashes
 --   idOrder       where the octets and dashes of that text come from; glyphOf i k: the piece from the place k; glyphs: those from places
 --   Text          a slice, with the place behind what is written in it; text d at is that of slice and place
@@ -49,6 +49,10 @@ hexDigit d = cond (ltb d 10) (48 + d) (55 + d)
 
 abbrev pub hexOf : ℕ → List ℕ
 hexOf x = hexDigit (x / 16) ∷ hexDigit (x % 16) ∷ []
+
+unfoldable pub digitsOf : List ℕ → List (List ℕ)
+digitsOf [] = []
+digitsOf (x ∷ v) = hexOf x ∷ digitsOf v
 
 -- "Ids print as the usual text (first three groups byte-reversed)." The places of an id's octets in the order of its text; 16, which is no place,
 -- stands for a dash.

@@ -4,7 +4,7 @@ ghost use mathlib.Core.Path.{_≡_};
 ghost use Prim.Native.Nat.{_<_};
 ghost use mathlib.Core.List.{_∷_, []};
 ghost use lib.IntN.{natAbs};
-ghost use Rattle.text.specs.Text.{text, written, decimal, decimal64, signed as Text·signed, glyphOf, glyphs as Text·glyphs, hexOf, hexDigit, idText};
+ghost use Rattle.text.specs.Text.{text, written, decimal, decimal64, signed as Text·signed, glyphOf, glyphs as Text·glyphs, hexOf, digitsOf, hexDigit, idText};
 use put::put_octets;
 
 // The octets v.
@@ -85,6 +85,19 @@ pub fn hex(d: &mut [u8], at: usize, x: u8) -> usize
 {
     let v = [hex_digit(x / 16), hex_digit(x % 16)];
     append(d, at, &v)
+}
+
+// Octets as digits.
+pub fn hex_all(d: &mut [u8], at: usize, v: &[u8]) -> usize
+    ensures { λ r. ⌜ text (now (d .exit)) r ≡ written (digitsOf (now (v .entry))) (text (now (d .entry)) at) ⌝ }
+{
+    let mut next = at;
+    let mut i = 0;
+    while i < v.len() {
+        next = hex(d, next, v[i]);
+        i += 1;
+    }
+    next
 }
 
 // The octet of an id at place k, 0 where it has none; or a dash, where k is 16.

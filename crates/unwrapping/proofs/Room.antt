@@ -9,7 +9,7 @@ use native.Mathlib.Omega.{arith}
 use lib.ListN.{length, getD, length-append}
 use borrow.Author.Tests.{leb-true}
 use Rattle.put.specs.Put.{joined}
-use Rattle.text.specs.Text.{quoted, decimal64, decimalTo, hexOf}
+use Rattle.text.specs.Text.{quoted, decimal64, decimalTo, hexOf, digitsOf}
 use Rattle.text.proofs.Pieces.{length-joined}
 use Rattle.text.proofs.Digits.{length-decimal}
 use Rattle.der.specs.Got.{Got, ok, no}
@@ -21,7 +21,7 @@ use Rattle.envelope.specs.Reading.{envelopeOf}
 use Rattle.envelope.specs.Claims.{OneReading}
 use Rattle.envelope.proofs.RoundTrip.{read-encoded}
 use Rattle.envelope_parts.specs.Parts.{isNegoex}
-use Rattle.envelope_lines.specs.Lines.{digitsOf, octetsText, mark, mechanismLine, mechanismLines, octetsLine, namedLines, stateLine, tokenPlace, tokenLine, lastLines, headLine, refusedText, textOf}
+use Rattle.envelope_lines.specs.Lines.{octetsText, mark, mechanismLine, mechanismLines, octetsLine, namedLines, stateLine, tokenPlace, tokenLine, lastLines, headLine, refusedText, textOf}
 use Rattle.unwrapping.specs.Claims.{TextFits}
 
 abbrev size : List (List ℕ) → ℕ

@@ -5,7 +5,6 @@ use Rattle.envelope_lines.proofs.octets_text.Statement.{statement}
 use Rattle.envelope_lines.proofs.octets_text.Tie as tie
 use Rattle.envelope_lines.proofs.octets_text.Reads as reads
 use Rattle.envelope_lines.proofs.octets_text.Lts as lts
-use Rattle.envelope_lines.proofs.digits.Reads as digits-reads
 use Rattle.text.proofs.append.Reads as append-reads
 
 slice-aggregate-append : tie.Need-slice-aggregate-append
@@ -20,8 +19,8 @@ same-length c = search needs
 returns : tie.Need-returns
 returns c = search (needs, octets)
 
-digits-requires : tie.Need-digits-requires
-digits-requires c κs = search needs
+hex-all-requires : tie.Need-hex-all-requires
+hex-all-requires c κs = search needs
 
 same-length-2 : tie.Need-same-length-2
 same-length-2 c = search needs
@@ -37,6 +36,6 @@ octets-text-spec =
     append-requires
     same-length
     returns
-    digits-requires
+    hex-all-requires
     same-length-2
     returns-2)

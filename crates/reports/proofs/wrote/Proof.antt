@@ -17,8 +17,8 @@ slice-aggregate-append c = search needs
 append-requires : tie.Need-append-requires
 append-requires c κs = search needs
 
-digits-requires : tie.Need-digits-requires
-digits-requires c κs = search needs
+hex-all-requires : tie.Need-hex-all-requires
+hex-all-requires c κs = search needs
 
 same-length : tie.Need-same-length
 same-length c = search needs
@@ -35,6 +35,6 @@ wrote-spec =
     wide-field-requires
     slice-aggregate-append
     append-requires
-    digits-requires
+    hex-all-requires
     same-length
     returns)

@@ -1,13 +1,12 @@
 -- Assumes nothing.
-use Rattle.envelope_lines.proofs.Chains.{digits}
 use borrow.Author.Needs.{needs}
 use Prim.Native.Nat.{_-_}
 use mathlib.Core.Path.{_≡_, refl}
 use lib.ListN.{length, drop}
-use Rattle.text.specs.Text.{text, written}
-use Rattle.envelope_lines.specs.Lines.{digitsOf}
-use Rattle.envelope_lines.proofs.digits.Statement.{statement}
-use Rattle.envelope_lines.proofs.digits.Tie as tie
+use Rattle.text.specs.Text.{digitsOf, text, written}
+use Rattle.text.proofs.Pieces.{digits}
+use Rattle.text.proofs.hex_all.Statement.{statement}
+use Rattle.text.proofs.hex_all.Tie as tie
 
 abbrev Inv-loop : tie.InvT-loop
 Inv-loop d₀ at v next₀ i₀ d next i = (length d ≡ length d₀) × (written (digitsOf v) (text d₀ at) ≡ written (digitsOf (drop i v)) (text d next))
@@ -39,8 +38,8 @@ same-length c = search needs
 returns : tie.Need-returns Inv-loop μ-loop
 returns c = search digits
 
-pub digits-spec : {M : Type 1} → statement M
-digits-spec =
+pub hex-all-spec : {M : Type 1} → statement M
+hex-all-spec =
     tie.close
     (tie.spec
     Inv-loop
