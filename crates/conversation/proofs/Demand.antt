@@ -37,7 +37,7 @@ use Rattle.conversation.proofs.Ends.{ok-distinct, Ask, Fair, run-fair, 
 
 -- 1. a written NEGO, whatever follows it
 
-all-sized : (l : List Id) → ((s : Id) → List·Memᴰ s l → length s ≡ 16) → AllIds l
+pub all-sized : (l : List Id) → ((s : Id) → List·Memᴰ s l → length s ≡ 16) → AllIds l
 all-sized [] h = tt
 all-sized (x ∷ l) h = (h x (List·Memᴰ·head refl), all-sized l (λ s m. h s (List·Memᴰ·tail m)))
 

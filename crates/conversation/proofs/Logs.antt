@@ -56,7 +56,7 @@ pub record Sound (r : Record) (d : List ℕ) (log : List (List ℕ)) : Type 0 wh
 room-kept : (used n : ℕ) (d : List ℕ) → leb (used + n) (room d) ≡ true → (used + n ≤ length d) × (used + n ≤ 65535)
 room-kept used n d h = let w : used + n ≤ room d = leb-true _ _ h in (omega arith, omega arith)
 
-put-end : (d : List ℕ) (used : ℕ) (x : List ℕ) → used ≤ length d → take (used + length x) (put d used x) ≡ take used d ++ x
+pub put-end : (d : List ℕ) (used : ℕ) (x : List ℕ) → used ≤ length d → take (used + length x) (put d used x) ≡ take used d ++ x
 unfolding put
 put-end d used x h =
     let n : length (take used d ++ x) ≡ used + length x = length-append (take used d) x ∙ ap (λ (k : ℕ). k + length x) (length-take-le used d h) in
@@ -72,7 +72,7 @@ type-known true kind = small (eqb kind 1) (omega arith) (small (eqb kind 2) (ome
 type-known false kind = small (eqb kind 1) (omega arith) (small (eqb kind 2) (omega arith) (small (eqb kind 3) (omega arith) (small (eqb kind 4) (omega arith) (omega arith))))
 
 -- what is said names one scheme, and leaves marks and metadata as they were
-whole-speech : (s : Speech) (id : List ℕ) → length id ≡ 16 → Whole (contentsIn id s)
+pub whole-speech : (s : Speech) (id : List ℕ) → length id ≡ 16 → Whole (contentsIn id s)
 whole-speech (request value) id h = h
 whole-speech (checksum type value) id h = h
 whole-speech (alarm a) id h = h

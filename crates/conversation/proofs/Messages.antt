@@ -127,7 +127,7 @@ same-start q p (m ∷ ms) (n ∷ ns) a b e h = same-front q p m n (join ms) (joi
 
 -- 3. a written message
 
-least : (c : Contents) → 64 ≤ sizeOf c
+pub least : (c : Contents) → 64 ≤ sizeOf c
 least (ofNego o) = omega arith
 least (ofExchange p) = omega arith
 least (ofVerify k) = omega arith
@@ -216,7 +216,7 @@ numbered-plain q v (m ∷ ms) e = (
 )
 
 -- a chain without a refusal
-abbrev Ends : Chain → Type 0
+abbrev pub Ends : Chain → Type 0
 Ends end = Unit {0}
 Ends (cutAt n p) = ⊥
 Ends (message m ms) = Ends ms

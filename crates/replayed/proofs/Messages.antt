@@ -2,37 +2,30 @@
 -- Assumes nothing.
 use Prim.Native.Nat.{ℕ, zero, suc, _+_, _*_, _<_, _≤_}
 use mathlib.Core.Path.{_≡_, refl, sym, ap, subst, _∙_}
-use mathlib.Core.Bool.{Bool, true, false}
 use mathlib.Core.Logic.{_⊎_, inl, inr}
-use mathlib.Core.List.{List, [], _∷_, _++_, append-nil, List·Memᴰ, List·Memᴰ·head, List·Memᴰ·tail, List·Memᴰ·cases-cons, List·Memᴰ·not-nil}
+use mathlib.Core.List.{List, [], _∷_, _++_, append-nil, List·Memᴰ, List·Memᴰ·tail, List·Memᴰ·cases-cons, List·Memᴰ·not-nil}
 use native.Mathlib.Omega.{arith}
 use lib.ListN.{length, take, drop, getD, length-append, length-drop}
 use lib.Seq.{take-add, take-append-le, drop-append-le}
-use Rattle.octets.specs.Octets.{octets}
 use Rattle.message.specs.Layout.{Head, shapeOf, headerOf, headOf, size}
 use Rattle.message.specs.Check.{SIGNATURE}
 use Rattle.message.specs.Show.{idsAt}
 use Rattle.put.specs.Put.{joined}
 use Rattle.put.proofs.Laws.{joined-append}
 use Rattle.encode.specs.declared.Heading.{Heading}
-use Rattle.encode.specs.Encode.{Whole, Contents, ofNego, ofExchange, ofVerify, ofAlert, sizeOf, headFields, bodyFields, encoded}
+use Rattle.encode.specs.Encode.{Whole, Contents, ofExchange, sizeOf, headFields, bodyFields, encoded}
 use Rattle.encode.proofs.Sizes.{length-encoded}
 use Rattle.roundtrip.proofs.Fields.{octets-at}
 use Rattle.roundtrip.proofs.Heads.{head-fields}
 use Rattle.schemes.specs.Lists.{Id, joinIds}
 use Rattle.conversation.specs.declared.Record.{Record}
 use Rattle.conversation.specs.State.{ownOf, schemeAt}
-use Rattle.conversation.specs.Turns.{classOf, typeOf}
+use Rattle.conversation.specs.Turns.{typeOf}
 use Rattle.conversation.specs.Writing.{heading, messageOf, Speech, request, checksum, alarm, classIn, contentsIn}
 use Rattle.conversation.specs.Admitting.{schemeIn}
 use Rattle.conversation.proofs.Inside.{own-length}
+use Rattle.conversation.proofs.Messages.{least}
 use Rattle.conversation.proofs.Logs.{type-known}
-
-least : (c : Contents) → 64 ≤ sizeOf c
-least (ofNego o) = omega arith
-least (ofExchange p) = omega arith
-least (ofVerify k) = omega arith
-least (ofAlert p) = omega arith
 
 -- 1. the head
 

@@ -1,29 +1,23 @@
 -- Turns played one after the other: what the sides have read and written, and one more turn at the end.
 -- Assumes nothing.
 use Prim.Native.Nat.{ℕ, _+_, _<_, _≤_}
-use mathlib.Core.Path.{_≡_, refl, sym, ap, subst, _∙_}
+use mathlib.Core.Path.{_≡_, refl, sym, ap, _∙_}
 use mathlib.Core.Bool.{Bool, true, false, cond, not}
 use mathlib.Core.List.{List, [], _∷_, _++_, append-assoc, append-nil}
 use native.Mathlib.Omega.{arith}
-use lib.ListN.{length, take, drop, length-append, length-take}
-use lib.Seq.{take-at, length-take-le}
+use lib.ListN.{length, take, length-append}
 use Rattle.token.specs.Split.{join}
 use Rattle.put.specs.Put.{put}
 use Rattle.put.proofs.Laws.{length-put}
 use Rattle.conversation.specs.declared.Record.{Record}
 use Rattle.conversation.specs.Runs.{isAccepted}
 use Rattle.conversation.proofs.Messages.{join-append}
+use Rattle.conversation.proofs.Logs.{put-end}
 use Rattle.sides.specs.Merging.{Turn}
-use Rattle.sides.specs.Replay.{Case, Sides, Played, sideOf, withSides, finished, outcomeOf, soPlayed, playFrom}
+use Rattle.sides.specs.Replay.{Case, Sides, sideOf, withSides, finished, outcomeOf, soPlayed, playFrom}
 use Rattle.sides.proofs.Turns.{allOf, ofSide, Alternate}
 
 -- 1. transcripts
-
-pub put-end : (d : List ℕ) (used : ℕ) (x : List ℕ) → used ≤ length d → take (used + length x) (put d used x) ≡ take used d ++ x
-unfolding put
-put-end d used x h =
-    let n : length (take used d ++ x) ≡ used + length x = length-append (take used d) x ∙ ap (λ (k : ℕ). k + length x) (length-take-le used d h) in
-    take-at (take used d ++ x) (drop (used + length x) d) (used + length x) n
 
 -- a record has read and written these messages
 pub record Level (r : Record) (ms : List (List ℕ)) : Type 0 where

@@ -8,23 +8,20 @@ use mathlib.Core.List.{List, [], _∷_, _++_, append-assoc, append-nil, List·Me
 use mathlib.Core.Option.{some}
 use native.Mathlib.Omega.{arith}
 use lib.ListN.{length, take, length-append}
-use lib.Dec.{eqb, leb}
+use lib.Dec.{eqb}
 use borrow.Author.Tests.{eq-eqb, eqb-true, le-leb}
-use Rattle.octets.specs.Octets.{octets}
 use Rattle.octets.proofs.Bools.{which, no-true}
 use Rattle.message.specs.Layout.{headOf}
-use Rattle.message.specs.Show.{idsAt, idsOf}
-use Rattle.message.proofs.Tables.{AllTrue}
+use Rattle.message.specs.Show.{idsOf}
 use Rattle.token.specs.Split.{join}
-use Rattle.roundtrip.proofs.RoundTrip.{AllIds, ids-joined}
+use Rattle.roundtrip.proofs.RoundTrip.{ids-joined}
 use Rattle.schemes.specs.Lists.{Id, oneTo16, wholeIds, listOk, joinIds}
 use Rattle.schemes.specs.Sets.{below}
 use Rattle.conversation.specs.declared.Record.{Record}
 use Rattle.conversation.specs.declared.Answer.{Answer}
 use Rattle.conversation.specs.State.{limitRows, fresh}
 use Rattle.conversation.specs.Outcomes.{zeroId}
-use Rattle.conversation.specs.Writing.{opening}
-use Rattle.conversation.specs.Runs.{Sized, Call, offer, reply, metadata, speak, read, choose, End, act, moved, Opening, World, world, outcomeAt, next, ends, Entry, run, isAccepted, Replied, ChoseWith}
+use Rattle.conversation.specs.Runs.{Call, offer, reply, metadata, speak, read, choose, End, act, moved, Opening, World, world, outcomeAt, next, ends, Entry, run, isAccepted}
 use Rattle.conversation.specs.Logs.{InOrder, Logs, nextLogs, logsAfter, logsOf, added, Counted}
 use Rattle.conversation.specs.Claims.{isReading, addedAt, writtenIn, readIn}
 use Rattle.conversation.proofs.Decides.{first-none}
@@ -32,9 +29,10 @@ use Rattle.conversation.proofs.Accepted.{refused-stays}
 use Rattle.conversation.proofs.Ends.{each-whole, length-joined, count-joined, opening-fresh}
 use Rattle.conversation.proofs.Inside.{limits-counts}
 use Rattle.conversation.proofs.Messages.{join-append}
+use Rattle.conversation.proofs.Demand.{all-sized}
 use Rattle.conversation.proofs.Logs.{Both, both-next, both-opened, every-run}
-use Rattle.sides.specs.Merging.{Turn, token, messagesOf, turnsOf, inRow}
-use Rattle.sides.specs.Replay.{Case, Sides, Played, Ending, Whose, finished, initiator, acceptor, sideOf, marksOf, givenOk, fileEnding, before, choiceOf, playFrom, conversationIn, opened, endedBy, turnsIn, replayOf}
+use Rattle.sides.specs.Merging.{Turn, token, messagesOf, turnsOf}
+use Rattle.sides.specs.Replay.{Case, Sides, Played, Whose, finished, initiator, acceptor, sideOf, marksOf, fileEnding, before, choiceOf, playFrom, conversationIn, opened, turnsIn, replayOf}
 use Rattle.sides.proofs.Cutting.{Pieces, messages-join, ends-join}
 use Rattle.sides.proofs.Turns.{allOf, ofSide, turns-of-sides, sides-in-row}
 use Rattle.replayed.specs.Claims.{AllRead, MarksAre, caseOf, SameTranscript, SameEnds, ReplaysRun}
@@ -334,10 +332,7 @@ module _ (c : Case) (s₀ : Sides) (v : List ℕ) where
 -- 4. the case of a run
 
 ids-back : (l : List Id) → ((s : Id) → List·Memᴰ s l → length s ≡ 16) → idsOf (joinIds l) ≡ l
-ids-back l h = ids-joined l (all-ids l h) where
-  all-ids : (k : List Id) → ((s : Id) → List·Memᴰ s k → length s ≡ 16) → AllIds k
-  all-ids [] g = tt
-  all-ids (x ∷ k) g = (g x (List·Memᴰ·head refl), all-ids k (λ s m. g s (List·Memᴰ·tail m)))
+ids-back l h = ids-joined l (all-sized l h)
 
 list-ok : (l : List Id) → wholeIds l ≡ true → oneTo16 l ≡ true → listOk (joinIds l) ≡ true
 unfolding listOk

@@ -2,26 +2,25 @@
 -- Assumes nothing.
 use Prim.Native.Nat.{ℕ, _+_, _*_, _^_, _<_, _≤_}
 use mathlib.Core.Path.{_≡_, refl, sym, ap, subst, _∙_}
-use mathlib.Core.Bool.{Bool, true, false, cond, not, _&&_}
+use mathlib.Core.Bool.{Bool, true, false, not, _&&_}
 use mathlib.Core.Logic.{_⊎_, inl, inr}
 use mathlib.Core.List.{List, [], _∷_, _++_}
 use native.Mathlib.Omega.{arith}
 use lib.ListN.{length, take}
 use lib.Dec.{eqb, leb}
-use borrow.Author.Tests.{eqb-true, eqb-false, eq-eqb, ne-eqb, leb-true, lt-ltb, not-true}
-use Rattle.octets.specs.Octets.{sameOctets}
+use borrow.Author.Tests.{eqb-true, eq-eqb, ne-eqb, leb-true, lt-ltb, not-true}
 use Rattle.octets.proofs.Bools.{which, no-true, and-l, and-r}
 use Rattle.octets.proofs.Same.{same-refl}
 use Rattle.message.specs.Layout.{headOf}
-use Rattle.message.specs.Check.{Row, FirstFails}
+use Rattle.message.specs.Check.{Row}
 use Rattle.message.proofs.Tables.{AllTrue, without, fails-other}
-use Rattle.encode.specs.Encode.{Whole, Contents, ofNego, ofExchange}
-use Rattle.schemes.specs.Lists.{Id, mem, place, joinIds}
+use Rattle.encode.specs.Encode.{Whole, Contents, ofExchange}
+use Rattle.schemes.specs.Lists.{Id, place, joinIds}
 use Rattle.schemes.specs.Sets.{left, named, below}
 use Rattle.schemes.specs.Answers.{withBit}
 use Rattle.conversation.specs.declared.Record.{Record}
 use Rattle.conversation.specs.State.{ownOf, schemeAt, limitRows}
-use Rattle.conversation.specs.Turns.{FIRST, ANSWER, FURTHER, NEGO, METADATA, EXCHANGE, VERIFY, ALERT, writing, classOf, typeOf, after, afterOpening, afterFurther, writes, placeAfter, mayWrite}
+use Rattle.conversation.specs.Turns.{FIRST, ANSWER, NEGO, METADATA, writing, classOf, typeOf, after, afterOpening, afterFurther, writes, placeAfter, mayWrite}
 use Rattle.conversation.specs.Outcomes.{Outcome, decide, row, room, fits, WrittenAs, unchanged, wrote, appended}
 use Rattle.conversation.specs.Writing.{negoIn, extensionRows, speechFits, messageOf, stageRows, thenFits, offered, offerRows, offering, someLeft, firstOr, replyMessage, naming, replyRows, replying, metadataAllowed, metadataMessage, metadataRows, writingMetadata, schemeNow, schemeAllowed, namedRows, Speech, request, checksum, alarm, classIn, contentsIn, spoken, spokenAs, speaking}
 use Rattle.conversation.specs.Admitting.{schemeIn, listedBy}
@@ -29,7 +28,7 @@ use Rattle.conversation.specs.Choosing.{openTo, chose, mayChoose, choosing}
 use Rattle.conversation.specs.Runs.{NegoCall, Sized, Call, offer, reply, metadata, speak, read, choose, End, act, turnAfter, isAccepted}
 use Rattle.conversation.specs.Logs.{added}
 use Rattle.conversation.proofs.Decides.{decide-passed}
-use Rattle.conversation.proofs.Rows.{back-true, decide-out, true-behind, front-true}
+use Rattle.conversation.proofs.Rows.{back-true, decide-out, true-behind}
 use Rattle.conversation.proofs.Chosen.{choiceTable, choice-passed}
 use Rattle.conversation.proofs.Tokens.{Heads}
 use Rattle.conversation.proofs.Goals.{positive, no-after, nego-start}
@@ -37,8 +36,8 @@ use Rattle.conversation.proofs.Ends.{left-sized}
 use Rattle.conversation.proofs.Inside.{own-length, place-own, allowed-own, allowed-untold, now-below, chosen-below, now-chosen, scheme-chosen, limits-counts}
 use Rattle.conversation.proofs.Demand.{heads-written}
 use Rattle.conversation.proofs.Early.{writes-some}
-use Rattle.conversation.proofs.Logs.{Sound}
-use Rattle.sides.specs.Turning.{sameList, withMarks, begun, owed, saidAs, said}
+use Rattle.conversation.proofs.Logs.{whole-speech, Sound}
+use Rattle.sides.specs.Turning.{withMarks, begun, owed, saidAs, said}
 use Rattle.replayed.proofs.Messages.{Headed, headed, scheme-exchange, scheme-spoken, scheme-front, own-sized, own-joined}
 
 -- 1. stages and places
@@ -110,11 +109,6 @@ said-spoken : (r : Record) (s : Speech) (id : Id) → saidAs r (classIn s) id �
 said-spoken r (request value) id = refl
 said-spoken r (checksum type value) id = refl
 said-spoken r (alarm code) id = refl
-
-whole-speech : (s : Speech) (id : List ℕ) → length id ≡ 16 → Whole (contentsIn id s)
-whole-speech (request value) id h = h
-whole-speech (checksum type value) id h = h
-whole-speech (alarm code) id h = h
 
 -- 2. a call at an end
 

@@ -4,17 +4,16 @@ use Prim.Native.Nat.{ℕ, zero, suc, _+_, _-_, _<_, _≤_}
 use mathlib.Core.Path.{_≡_, refl, sym, ap, subst, _∙_}
 use mathlib.Core.Bool.{Bool, true, false}
 use mathlib.Core.Logic.{_⊎_, inl, inr}
-use mathlib.Core.List.{List, [], _∷_, _++_, append-nil}
+use mathlib.Core.List.{List, [], _∷_, _++_}
 use native.Mathlib.Omega.{arith}
-use lib.ListN.{length, take, drop, length-append, getD}
+use lib.ListN.{length, take, drop, length-append}
 use lib.Seq.{take-at, drop-at}
-use lib.Dec.{eqb, leb}
+use lib.Dec.{leb}
 use borrow.Author.Tests.{eqb-true, ne-eqb, leb-true, le-leb}
 use Rattle.octets.proofs.Bools.{which, no-true}
-use Rattle.message.specs.Layout.{headOf, size, front}
+use Rattle.message.specs.Layout.{headOf, size}
 use Rattle.message.specs.Check.{Row}
 use Rattle.message.proofs.Tables.{AllTrue, fails-other}
-use Rattle.message.proofs.Local.{head-same}
 use Rattle.token.specs.Token.{passes, Chain, end, refused as cutAt, message, chainOf, Reading, Accepted, tokenOf}
 use Rattle.token.specs.Walk.{messagesOf, Accepts}
 use Rattle.token.specs.Split.{Numbered, join, placedFrom}
@@ -23,7 +22,7 @@ use Rattle.token.proofs.Cuts.{passes-parts}
 use Rattle.conversation.specs.declared.Record.{Record}
 use Rattle.conversation.specs.declared.Scan.{Scan}
 use Rattle.conversation.specs.State.{limitRows}
-use Rattle.conversation.specs.Outcomes.{Outcome, room}
+use Rattle.conversation.specs.Outcomes.{room}
 use Rattle.conversation.specs.Reading.{startOf, Judged, whole, halted, judge, chainFor, conversationOf, judged, taken, accepted, finish, tokenRows, readingToken}
 use Rattle.conversation.specs.Admitting.{Admitted, on, stop, admit}
 use Rattle.conversation.specs.Runs.{isAccepted}
@@ -31,8 +30,7 @@ use Rattle.conversation.specs.Logs.{messagesIn}
 use Rattle.conversation.proofs.Decides.{decide-passed}
 use Rattle.conversation.proofs.Rows.{decide-out}
 use Rattle.conversation.proofs.Tokens.{judged-number}
-use Rattle.conversation.proofs.Messages.{FramedFrom, Taken, token-taken}
-use Rattle.sides.specs.Merging.{fits}
+use Rattle.conversation.proofs.Messages.{FramedFrom, Ends, token-taken}
 use Rattle.sides.specs.Turning.{afterFirst, heardTurn}
 use Rattle.sides.proofs.Cutting.{Pieces, piece-front}
 
@@ -161,11 +159,6 @@ first-number r t n c w =
       go (m ∷ ms) f e = ap (λ (s : List ℕ). headOf s .sequence) (sym e) ∙ f .0 .number (join ms)
 
 -- 4. the structural reading accepts it too
-
-abbrev Ends : Chain → Type 0
-Ends end = Unit {0}
-Ends (cutAt n p) = ⊥
-Ends (message m ms) = Ends ms
 
 judge-ends : (r : Record) (t : List ℕ) (n : ℕ) (c : Scan) (ch : Chain) (k : ℕ) (d : Scan) → judge r t n c ch ≡ whole k d → Ends ch
 unfolding judge
