@@ -9,7 +9,7 @@ use native.Mathlib.Omega.{arith}
 use lib.ListN.{length, take, drop, length-take, length-drop, drop-of-length-le}
 use lib.Seq.{take-all, length-take-le, ext-getD, getD-take, getD-drop}
 use Rattle.octets.proofs.Slices.{tail-all}
-use Rattle.octets.specs.Octets.{le, octets, sameOctets, sameId}
+use Rattle.octets.specs.Octets.{octets, sameOctets, sameId}
 use Rattle.octets.proofs.Same.{same-sizes}
 use Rattle.vector.specs.Vector.{shown}
 use Rattle.message.specs.Layout.{size, front, schemeVector}

@@ -2,12 +2,10 @@
 -- Assumes nothing.
 use Prim.Native.Nat.{ℕ, _+_, _-_, _<_, _≤_, _^_}
 use mathlib.Core.Path.{_≡_, refl, sym, ap, subst, _∙_}
-use mathlib.Core.Bool.{Bool, cond}
 use mathlib.Core.List.{List, [], _∷_, _++_, append-nil, append-assoc}
 use native.Mathlib.Omega.{arith}
 use lib.ListN.{length, take, drop, length-append, length-take, length-drop, take-append-drop}
 use lib.Seq.{length-take-le, take-all, take-at, drop-at, drop-drop, take-add}
-use lib.Dec.{eqb}
 use borrow.Author.Tests.{eq-eqb, ne-eqb}
 use Rattle.octets.proofs.Slices.{tail-all}
 use Rattle.vector.specs.declared.TokenPlace.{TokenPlace}
@@ -16,7 +14,7 @@ use Rattle.token.specs.declared.Answer.{Answer}
 use Rattle.token.specs.declared.Answer.the-variants as answer
 use Rattle.token.specs.Token.{Placed, Reading, Outcome, tokenOf, outcomeOf, told}
 use Rattle.token.specs.Split.{join, placedFrom}
-use Rattle.token.specs.Walk.{messagesOf, Accepts}
+use Rattle.token.specs.Walk.{Accepts}
 use Rattle.token.proofs.Walks.{Left, Turn, turn, whole, accepted-short, answer-accepts, answer-refuses}
 use Rattle.coverage.specs.Coverage.{headerIn, isCovered}
 use Rattle.blanking.specs.Covered.{coveredIn, covered}

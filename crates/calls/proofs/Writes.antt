@@ -1,20 +1,20 @@
 -- A call that writes a message, by its refusal: one law for the six writers. And a message that is put at the transcript's end.
 -- Assumes nothing.
 use Prim.Native.Nat.{ℕ, _+_, _%_, _≤_, min}
-use mathlib.Core.Path.{_≡_, refl, ap, _∙_}
+use mathlib.Core.Path.{_≡_, ap, _∙_}
 use mathlib.Core.Bool.{Bool, true, false}
 use mathlib.Core.List.{List, [], _∷_, _++_}
 use native.Mathlib.Omega.{arith}
 use lib.ListN.{length}
 use lib.Dec.{leb}
-use borrow.Author.Tests.{le-leb, eq-eqb}
+use borrow.Author.Tests.{le-leb}
 use Rattle.message.specs.Check.{Row}
 use Rattle.message.proofs.Tables.{AllTrue, without}
 use Rattle.put.specs.Put.{put}
 use Rattle.encode.specs.declared.Heading.{Heading}
 use Rattle.encode.specs.declared.Stored.{Stored}
 use Rattle.encode.specs.declared.Stored.the-variants as variant
-use Rattle.encode.specs.Encode.{Whole, Contents, ofNego, ofExchange, ofVerify, ofAlert, sizeOf, hasKind, fitsFields, encodable, written, told, storing, storingHanded}
+use Rattle.encode.specs.Encode.{Whole, Contents, sizeOf, hasKind, encodable, written, told, storing, storingHanded}
 use Rattle.encode.proofs.Sizes.{length-encoded}
 use Rattle.conversation.specs.declared.Record.{Record}
 use Rattle.conversation.specs.declared.Answer.{Answer}

@@ -2,20 +2,19 @@
 -- Assumes nothing.
 use Prim.Native.Nat.{ℕ, _<_}
 use mathlib.Core.Path.{_≡_, refl, sym, ap, subst, _∙_}
-use mathlib.Core.Bool.{Bool, true, false}
+use mathlib.Core.Bool.{false}
 use mathlib.Core.List.{List, [], _∷_, _++_}
 use native.Mathlib.Omega.{arith}
 use lib.ListN.{length}
 use borrow.Author.Tests.{le-leb, ne-eqb}
 use Rattle.message.specs.Check.{firstFailing}
 use Rattle.message.proofs.Tables.{AllTrue}
-use Rattle.token.specs.Token.{passes, nextRows, Chain, refused as cutAt, chainOf}
+use Rattle.token.specs.Token.{passes, nextRows, refused as cutAt}
 use Rattle.token.proofs.Cuts.{turn-fail}
 use Rattle.encode.specs.Encode.{encoded}
 use Rattle.roundtrip.proofs.RoundTrip.{critical-stops, some-octets}
-use Rattle.conversation.specs.declared.Record.{Record}
 use Rattle.conversation.specs.State.{limitRows}
-use Rattle.conversation.specs.Reading.{conversationOf, startOf, Judged, halted, judge, chainFor, judged, tokenRows, finish, readingToken}
+use Rattle.conversation.specs.Reading.{conversationOf, startOf, halted, judge, chainFor, judged, tokenRows, finish, readingToken}
 use Rattle.conversation.specs.Claims.{CriticalCloses}
 use Rattle.conversation.proofs.Decides.{first-none, decide-passed}
 use Rattle.conversation.proofs.Rows.{both-true}

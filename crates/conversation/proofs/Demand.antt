@@ -14,7 +14,7 @@ use borrow.Author.Tests.{eq-eqb, leb-true, le-leb}
 use Rattle.octets.proofs.Bools.{no-true, and-l, and-r, and-i}
 use Rattle.message.specs.Show.{idsOf}
 use Rattle.message.proofs.Tables.{AllTrue}
-use Rattle.encode.specs.Encode.{ofNego, encodable}
+use Rattle.encode.specs.Encode.{encodable}
 use Rattle.roundtrip.specs.ReadBack.{Sent}
 use Rattle.roundtrip.proofs.RoundTrip.{AllIds, ids-joined, nego-begins}
 use Rattle.schemes.specs.Lists.{Id, mem, distinct, first, leftOver, rule2, oneTo16, joinIds}
@@ -29,7 +29,7 @@ use Rattle.conversation.specs.Outcomes.{zeroId}
 use Rattle.elements.specs.Elements.{itemsOf}
 use Rattle.elements.proofs.Views.{handed}
 use Rattle.conversation.specs.Writing.{negoIn, extensionRows, heading, messageOf, offered, replyMessage, Speech}
-use Rattle.conversation.specs.Runs.{Sized, NegoCall, Call, offer, reply, metadata, speak, read, choose, Opening, World, world, next, Entry, run, isAccepted, isLawful, Replied, MarksKept, Choice, Demand3}
+use Rattle.conversation.specs.Runs.{NegoCall, Call, offer, reply, metadata, speak, read, choose, Opening, World, world, next, Entry, run, isAccepted, isLawful, Replied, MarksKept, Choice, Demand3}
 use Rattle.conversation.specs.Claims.{RuleTwoAnswer, ByRule2, NoneRefused, ReplyAnswer, ReplyByMarks, acceptedAt, withMarks}
 use Rattle.conversation.proofs.Tokens.{Heads}
 use Rattle.conversation.proofs.Once.{marks-once, same-kept}

@@ -15,7 +15,6 @@ use Rattle.octets.proofs.Same.{same-refl}
 use Rattle.message.specs.Layout.{size}
 use Rattle.message.specs.Check.{Row}
 use Rattle.message.proofs.Tables.{AllTrue, without, fails-other}
-use Rattle.token.specs.Token.{message}
 use Rattle.schemes.specs.Lists.{Id, place}
 use Rattle.conversation.specs.declared.Record.{Record}
 use Rattle.conversation.specs.declared.Scan.{Scan}

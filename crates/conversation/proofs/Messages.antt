@@ -11,10 +11,9 @@ use lib.ListN.{length, take, drop, length-append, take-append-drop}
 use lib.Seq.{take-at, take-length, drop-at, drop-nil}
 use lib.Dec.{eqb}
 use borrow.Author.Tests.{ne-eqb}
-use Rattle.octets.specs.Octets.{le}
 use Rattle.octets.proofs.Bools.{which, no-true}
-use Rattle.message.specs.Layout.{Head, Shape, nego, exchange, verify, alert, shapeOf, headerOf, headOf, elementsAt, contentOf, vectorsOf, size, front}
-use Rattle.message.specs.Check.{SIGNATURE, Row, FirstFails, commonRows, versionOk, allKeepRule, noneCritical, criticalOk, checksumOk, contentRows, bodyRows, frontRows}
+use Rattle.message.specs.Layout.{Head, shapeOf, headerOf, headOf, contentOf, vectorsOf, size, front}
+use Rattle.message.specs.Check.{SIGNATURE, Row, FirstFails, commonRows, versionOk, allKeepRule, criticalOk, checksumOk, contentRows, bodyRows, frontRows}
 use Rattle.message.proofs.Tables.{AllTrue, given, refuses-first, without}
 use Rattle.token.specs.Token.{orderRows, nextRows, passes, Chain, end, refused as cutAt, message, chainOf}
 use Rattle.token.specs.Split.{Message, Numbered, join}
@@ -23,9 +22,8 @@ use Rattle.token.proofs.Splits.{front-message, message-head, message-order, mes
 use Rattle.put.specs.Put.{joined}
 use Rattle.put.proofs.Laws.{joined-append}
 use Rattle.encode.specs.declared.Heading.{Heading}
-use Rattle.encode.specs.Encode.{Offer, Whole, Contents, ofNego, ofExchange, ofVerify, ofAlert, sizeOf, headFields, bodyFields, encoded}
+use Rattle.encode.specs.Encode.{Whole, Contents, ofNego, ofExchange, ofVerify, ofAlert, sizeOf, headFields, bodyFields, encoded}
 use Rattle.encode.proofs.Sizes.{length-encoded}
-use Rattle.roundtrip.proofs.Fields.{number-at}
 use Rattle.roundtrip.proofs.Heads.{head-fields}
 use Rattle.conversation.specs.declared.Record.{Record}
 use Rattle.conversation.specs.declared.Scan.{Scan}

@@ -2,7 +2,6 @@
 -- Assumes nothing.
 use Prim.Native.Nat.{ℕ, _+_}
 use mathlib.Core.Path.{_≡_, refl}
-use mathlib.Core.Bool.{true, false}
 use mathlib.Core.Logic.{inl, inr}
 use mathlib.Core.List.{List, _++_}
 use native.Mathlib.Omega.{arith}
@@ -12,7 +11,7 @@ use Rattle.octets.proofs.Bools.{which}
 use Rattle.message.proofs.Tables.{fails-other}
 use Rattle.conversation.specs.declared.Record.{Record}
 use Rattle.conversation.specs.State.{limitRows}
-use Rattle.conversation.specs.Outcomes.{Outcome, room}
+use Rattle.conversation.specs.Outcomes.{room}
 use Rattle.conversation.specs.Reading.{Judged, whole, halted, judged, finish, tokenRows, readingToken}
 use Rattle.conversation.specs.Claims.{NineNeverRead}
 use Rattle.conversation.proofs.Rows.{decide-out}

@@ -22,7 +22,7 @@ use Rattle.conversation.specs.Outcomes.{Outcome, refused, closedBy, deci
 use Rattle.conversation.specs.Writing.{extensionRows, stageRows, thenFits, offered, offerRows, offering, someLeft, replyMessage, replyRows, naming, replying, metadataMessage, metadataRows, writingMetadata, namedRows, speaking, spoken, Speech, classIn, speechFits, spokenAs}
 use Rattle.conversation.specs.Reading.{Judged, whole, halted, judged, taken, finish, tokenRows, readingToken}
 use Rattle.conversation.specs.Choosing.{mayChoose, chose, choosing}
-use Rattle.conversation.specs.Runs.{Sized, NegoCall, Call, offer, reply, metadata, speak, read, choose, End, act, World, world, outcomeAt, next, Entry, run, isAccepted}
+use Rattle.conversation.specs.Runs.{NegoCall, Call, offer, reply, metadata, speak, read, choose, End, act, World, world, outcomeAt, next, Entry, run, isAccepted}
 use Rattle.conversation.specs.Claims.{atEnd, acceptedAt, withMarks, MarksOnce}
 use Rattle.message.proofs.Tables.{without, fails-other}
 use Rattle.conversation.proofs.Rows.{decide-out, true-behind}

@@ -11,7 +11,7 @@ use lib.ListN.{length, length-append}
 use lib.Dec.{eqb}
 use lib.IntN.{ℤ}
 use borrow.Author.Tests.{eqb-true, eqb-false, ne-eqb, not-true}
-use Rattle.octets.specs.Octets.{octets, sameOctets}
+use Rattle.octets.specs.Octets.{sameOctets}
 use Rattle.octets.proofs.Bools.{which, no-true, and-l}
 use Rattle.message.specs.Layout.{headOf}
 use Rattle.message.specs.Check.{Row}

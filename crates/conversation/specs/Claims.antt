@@ -62,7 +62,7 @@ use Rattle.conversation.specs.Writing.{heading, messageOf, negoIn, schem
 use Rattle.conversation.specs.Admitting.{schemeIn}
 use Rattle.conversation.specs.Reading.{conversationOf, readingToken}
 use Rattle.conversation.specs.Choosing.{chose, choosing}
-use Rattle.conversation.specs.Runs.{Sized, NegoCall, Call, offer, reply, metadata, speak, read, choose, End, act, Opening, World, world, outcomeAt, next, ends, Entry, run, isAccepted, isLawful, Replied}
+use Rattle.conversation.specs.Runs.{NegoCall, Call, offer, reply, metadata, speak, read, choose, End, act, Opening, World, world, outcomeAt, next, ends, Entry, run, isAccepted, isLawful, Replied}
 use Rattle.conversation.specs.Logs.{added}
 
 -- "Record and lent octets are unchanged.", as C-18 has it: "Refusal 12 now returns the record closed, everything else in it unchanged, and the lent

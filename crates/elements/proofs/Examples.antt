@@ -5,7 +5,6 @@ use mathlib.Core.Path.{_≡_, refl}
 use mathlib.Core.Bool.{true, false}
 use mathlib.Core.List.{List, [], _∷_}
 use lib.ListN.{length}
-use borrow.Author.Tests.{eq-eqb}
 use Rattle.octets.specs.Octets.{signed32}
 use Rattle.put.specs.Put.{octetsOf, joined}
 use Rattle.elements.specs.declared.Elements.{Elements}

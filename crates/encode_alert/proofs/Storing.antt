@@ -1,6 +1,6 @@
 -- What the writer leaves: one law for each answer, in the words of the code.
 -- Assumes nothing.
-use mathlib.Core.Path.{_≡_, refl, sym, ap, _∙_}
+use mathlib.Core.Path.{_≡_, sym, ap, _∙_}
 use mathlib.Core.Bool.{Bool, true, false}
 use mathlib.Core.List.{List, [], _∷_, _++_}
 use Prim.Native.Nat.{ℕ, _+_, _*_, _≤_}
@@ -13,9 +13,9 @@ use Rattle.put.specs.Put.{Written, joined}
 use Rattle.put.proofs.Laws.{wrote, step, group, done}
 use Rattle.elements.specs.declared.Elements.{Elements}
 use Rattle.elements.specs.Elements.{offsetOf, itemOctets, itemsOf, elementsFit}
-use Rattle.elements.proofs.Views.{handed, few-given, short-given, fit-given, size-given}
+use Rattle.elements.proofs.Views.{handed, size-given}
 use Rattle.encode.specs.declared.Heading.{Heading}
-use Rattle.encode.specs.Encode.{alertOf, sizeOf, headFields, alertFields, encoded, encodable, written, unwritten, storing, storingHanded}
+use Rattle.encode.specs.Encode.{alertOf, sizeOf, headFields, alertFields, encoded, encodable, written, unwritten, storingHanded}
 use Rattle.encode.proofs.Sizes.{length-encoded}
 use Rattle.encode.proofs.Storing.{unhanded, handed-on, crowded, roomy, room-given}
 

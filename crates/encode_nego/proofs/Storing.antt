@@ -1,6 +1,6 @@
 -- What the writer leaves: one law for each answer, in the words of the code.
 -- Assumes nothing.
-use mathlib.Core.Path.{_≡_, refl, sym, ap, _∙_}
+use mathlib.Core.Path.{_≡_, sym, ap, _∙_}
 use mathlib.Core.Bool.{Bool, true, false}
 use mathlib.Core.List.{List, [], _∷_, _++_}
 use Prim.Native.Nat.{ℕ, _+_, _*_, _/_, _%_, _≤_, _<_}
@@ -13,10 +13,10 @@ use Rattle.elements.specs.declared.Elements.{Elements}
 use Rattle.elements.specs.Elements.{offsetOf, itemOctets, itemsOf, elementsFit}
 use Rattle.elements.proofs.Views.{handed, few-given, short-given, fit-given, size-given}
 use Rattle.encode.specs.declared.Heading.{Heading}
-use Rattle.encode.specs.Encode.{negoOf, sizeOf, headFields, negoFields, encoded, encodable, written, unwritten, storing, storingHanded}
+use Rattle.encode.specs.Encode.{negoOf, sizeOf, headFields, negoFields, encoded, encodable, written, unwritten, storingHanded}
 use Rattle.put.proofs.Laws.{wrote, step, group, done}
 use Rattle.encode.proofs.Sizes.{length-encoded}
-use Rattle.encode.proofs.Storing.{unencodable, crowded, roomy, room-given, unhanded, handed-on}
+use Rattle.encode.proofs.Storing.{crowded, roomy, room-given, unhanded, handed-on}
 
 -- the fields as the code puts them: count and sizes of what is handed over are those of the list
 pub nego-octets : (h : Heading) (random schemes : List ℕ) (e : Elements) (v : List ℕ) → elementsFit e v ≡ true

@@ -6,9 +6,8 @@ use mathlib.Core.List.{List, List·Memᴰ, List·Memᴰ·head, List·Memᴰ·tai
 use native.Mathlib.Omega.{arith}
 use lib.ListN.{length}
 use Rattle.vector.specs.declared.Vector.{Vector}
-use Rattle.vector.specs.Vector.{extent}
 use Rattle.message.specs.Layout.{Shape, nego, exchange, verify, alert, headOf, shapeOf, headerOf, schemeVector, extensionVector, alertVector, contentOf, vectorsOf}
-use Rattle.coverage.specs.Coverage.{headerIn, vectorsIn, vectorIn}
+use Rattle.coverage.specs.Coverage.{vectorsIn}
 use Rattle.table.specs.Table.{Held}
 use Rattle.table.proofs.Entries.{all-vectors, entry-within, held-long}
 use Rattle.entries.specs.Entries.{idsVector, arrayVector}

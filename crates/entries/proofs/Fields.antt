@@ -1,20 +1,18 @@
 -- The tables of fields, row by row. In the words of the code where a function is meant.
 -- Assumes nothing.
 use Prim.Native.Nat.{ℕ, zero, suc, _+_, _*_, _<_, _≤_}
-use mathlib.Core.Path.{_≡_, refl, sym, ap, subst, _∙_}
-use mathlib.Core.Bool.{Bool, true, false, _&&_}
-use mathlib.Core.Logic.{inl, inr}
+use mathlib.Core.Path.{_≡_, refl, sym, ap, _∙_}
+use mathlib.Core.Bool.{Bool, true, _&&_}
 use mathlib.Core.List.{List, [], _∷_, _++_}
 use native.Mathlib.Omega.{arith}
 use lib.ListN.{length, getD}
 use lib.Seq.{getD-append-add}
-use lib.Dec.{leb, ltb}
+use lib.Dec.{leb}
 use borrow.Author.Tests.{leb-true, lt-ltb, le-ltb}
 use Rattle.octets.proofs.Bools.{and-l, and-r}
 use Rattle.octets.specs.Octets.{le, octets}
-use Rattle.message.specs.Layout.{Shape, nego, exchange, verify, alert, shapeOf, headerOf, Head, headOf, contentOf}
-use Rattle.entries.specs.declared.Entry.{Entry}
-use Rattle.entries.specs.Entries.{Field, fieldsOf, noField, fieldAt, numberAt, fieldEntry, headerEntry}
+use Rattle.message.specs.Layout.{Shape, nego, exchange, verify, alert, headerOf, Head, headOf, contentOf}
+use Rattle.entries.specs.Entries.{Field, fieldsOf, noField, fieldAt, numberAt, headerEntry}
 use Rattle.entries.specs.Lookup.{flat, tableEntry, Row}
 use Rattle.entries.specs.Claims.{FieldsTile, PadsListed, FieldsRead}
 

@@ -1,16 +1,16 @@
 -- The layouts by the kind's number, in the words of the code.
 -- Assumes nothing.
 use Prim.Native.Nat.{ℕ, _+_, _*_, _-_, _<_, _≤_}
-use mathlib.Core.Path.{_≡_, refl, ap, _∙_}
+use mathlib.Core.Path.{_≡_, _∙_}
 use mathlib.Core.Logic.{_⊎_, inl, inr}
 use mathlib.Core.List.{List}
 use native.Mathlib.Omega.{arith}
 use lib.ListN.{length}
-use lib.Dec.{leb, eqb}
+use lib.Dec.{leb}
 use borrow.Author.Tests.{eq-eqb, ne-eqb, leb-true, leb-false}
 use Rattle.octets.proofs.Bools.{which}
 use Rattle.vector.specs.declared.Vector.{Vector}
-use Rattle.message.specs.Layout.{Shape, nego, exchange, verify, alert, shapeOf, schemeVector, extensionVector, alertVector}
+use Rattle.message.specs.Layout.{nego, exchange, verify, alert, shapeOf, schemeVector, extensionVector, alertVector}
 use Rattle.message.proofs.Shapes.{shape-nego, shape-exchange, shape-verify, shape-alert}
 use Rattle.coverage.specs.Coverage.{noVector}
 use Rattle.entries.specs.declared.Entry.{Entry}

@@ -12,21 +12,20 @@ use lib.Dec.{eqb}
 use borrow.Author.Tests.{eqb-true, eqb-false}
 use Rattle.octets.proofs.Bools.{which}
 use Rattle.octets.proofs.Slices.{tail-all}
-use Rattle.message.specs.Layout.{Shape, nego, exchange, verify, alert, headOf, shapeOf}
+use Rattle.message.specs.Layout.{headOf, shapeOf}
 use Rattle.message.specs.Show.{firstOf}
 use Rattle.token.specs.Token.{Placed, tokenOf}
 use Rattle.token.specs.Split.{Message, Numbered, join, placedFrom}
 use Rattle.token.specs.Walk.{messagesOf, Accepts}
 use Rattle.token.proofs.Splits.{message-length, accepted-splits}
 use Rattle.token.proofs.Walks.{Left, Turn, turn, whole, accepted-short}
-use Rattle.coverage.specs.Coverage.{vectorsIn}
 use Rattle.put.specs.Put.{Written}
 use Rattle.put.proofs.Laws.{put-none, length-put}
-use Rattle.table.specs.Table.{numbers, placedAt, Held}
+use Rattle.table.specs.Table.{numbers, Held}
 use Rattle.table.proofs.Numbers.{length-numbers, both-written}
 use Rattle.table.proofs.Entries.{message-held, entry-within}
 use Rattle.entries.specs.declared.Entry.{Entry}
-use Rattle.entries.specs.Entries.{fieldsOf, idsVector, arrayVector, entriesIn, entriesFrom, entriesOf, entryOctets}
+use Rattle.entries.specs.Entries.{idsVector, arrayVector, entriesIn, entriesFrom, entriesOf, entryOctets}
 use Rattle.entries.specs.Lookup.{noEntry, countIn, Filled}
 use Rattle.entries.specs.Claims.{EntriesFew}
 use Rattle.entries.proofs.Bounds.{ids-inside, array-inside}

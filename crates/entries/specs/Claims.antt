@@ -16,7 +16,7 @@ use lib.ListN.{length}
 use lib.Dec.{eqb}
 use Rattle.octets.specs.Octets.{le, octets}
 use Rattle.vector.specs.Vector.{part}
-use Rattle.message.specs.Layout.{Shape, nego, exchange, verify, alert, headerOf, Pad, padsOf, Head, headOf, octetVector, vectorAt, elementsOf, Content, Nego, Exchange, Verify, Alert, contentOf}
+use Rattle.message.specs.Layout.{Shape, nego, exchange, verify, alert, headerOf, Pad, padsOf, Head, headOf, octetVector, vectorAt, elementsOf, Nego, Exchange, Verify, Alert, contentOf}
 use Rattle.token.specs.Token.{Placed, Accepted, tokenOf}
 use Rattle.entries.specs.Names.{PAD}
 use Rattle.entries.specs.Entries.{Field, fieldsOf, fieldAt, entriesOf}

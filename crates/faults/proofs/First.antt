@@ -1,27 +1,27 @@
 -- The field at fault is the first whose test fails.
 -- Assumes nothing.
-use Prim.Native.Nat.{ℕ, zero, suc, _+_, _*_, _<_, _≤_}
+use Prim.Native.Nat.{ℕ, _+_, _*_, _<_, _≤_}
 use mathlib.Core.Path.{_≡_, refl, sym, ap, subst, _∙_}
 use mathlib.Core.Bool.{Bool, true, false, cond, not, _&&_}
 use mathlib.Core.Logic.{_⊎_, inl, inr}
 use mathlib.Core.List.{List, [], _∷_, _++_}
 use native.Mathlib.Omega.{arith}
-use lib.ListN.{length, take, drop, length-append}
+use lib.ListN.{length, drop}
 use lib.Seq.{length-take-le, take-take, drop-at}
-use lib.Dec.{leb, ltb, eqb}
-use borrow.Author.Tests.{le-leb, leb-true, lt-ltb, eqb-true, eqb-false}
+use lib.Dec.{eqb}
+use borrow.Author.Tests.{le-leb, lt-ltb}
 use Rattle.octets.proofs.Bools.{which, no-true, and-l, and-r}
 use Rattle.octets.specs.Octets.{le, signed32, negative}
 use Rattle.vector.specs.declared.Vector.{Vector}
 use Rattle.vector.specs.Vector.{keepsRule, part, shown}
-use Rattle.message.specs.Layout.{Shape, nego, exchange, verify, alert, shapeOf, headerOf, Head, headOf, Element, elementsOf, valuesOf, schemeVector, extensionVector, contentOf, contentIn, vectorsOf, size, front}
-use Rattle.message.specs.Check.{Row, FirstFails, commonRows, allPass, allKeepRule, noneCritical, contentRows, bodyRows, frontRows}
+use Rattle.message.specs.Layout.{Shape, nego, exchange, verify, alert, shapeOf, headerOf, Head, headOf, Element, elementsOf, valuesOf, schemeVector, extensionVector, contentOf, vectorsOf, size, front}
+use Rattle.message.specs.Check.{FirstFails, commonRows, allPass, allKeepRule, noneCritical, contentRows, bodyRows, frontRows}
 use Rattle.message.specs.Show.{firstOf}
 use Rattle.message.proofs.Tables.{giving}
-use Rattle.message.proofs.Headers.{Sized, common-sized}
+use Rattle.message.proofs.Headers.{common-sized}
 use Rattle.message.proofs.Local.{head-front}
-use Rattle.token.specs.Token.{orderRows, nextRows, Refused, tokenOf}
-use Rattle.token.specs.Split.{join, Stop}
+use Rattle.token.specs.Token.{orderRows, nextRows}
+use Rattle.token.specs.Split.{join}
 use Rattle.token.proofs.Splits.{refused-stops}
 use Rattle.coverage.specs.Coverage.{headerIn, vectorsIn}
 use Rattle.faults.specs.declared.Spot.{Spot}

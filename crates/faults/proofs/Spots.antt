@@ -7,20 +7,20 @@ use mathlib.Core.Logic.{inl, inr}
 use mathlib.Core.List.{List, [], _∷_}
 use native.Mathlib.Numerals.{add-one}
 use native.Mathlib.Omega.{arith}
-use lib.ListN.{length, take, drop, getD, length-take, length-drop}
+use lib.ListN.{length, drop, length-take, length-drop}
 use lib.Seq.{drop-cons}
-use lib.Dec.{leb, ltb, eqb}
+use lib.Dec.{leb}
 use borrow.Author.Tests.{le-leb, lt-leb, lt-ltb, le-ltb, eq-eqb, ne-eqb, leb-true, leb-false}
 use Rattle.octets.proofs.Bools.{which}
 use Rattle.octets.specs.Octets.{le, signed32, negative}
 use Rattle.vector.specs.declared.Vector.{Vector}
 use Rattle.vector.specs.Vector.{keepsRule, part, shown}
-use Rattle.message.specs.Layout.{Shape, nego, exchange, verify, alert, headOf, shapeOf, headerOf, Element, elementsAt, elementsOf, extensionVector, alertVector, contentOf, contentIn, vectorsOf}
+use Rattle.message.specs.Layout.{nego, alert, headOf, shapeOf, headerOf, Element, elementsAt, elementsOf, extensionVector, alertVector, contentOf, contentIn, vectorsOf}
 use Rattle.message.proofs.Shapes.{shape-nego, shape-exchange, shape-verify, shape-alert, header-least}
 use Rattle.coverage.specs.Coverage.{headerIn, vectorsIn, noVector, vectorIn}
 use Rattle.coverage.proofs.Numbered.{count-nego, count-one, count-alert}
 use Rattle.faults.specs.declared.Spot.{Spot}
-use Rattle.faults.specs.Faults.{spot, noSpot, firstBroken, brokenIn, vectorSpot, brokenSpot, firstCritical, criticalSpot, checksumSpot, spotOf}
+use Rattle.faults.specs.Faults.{spot, firstBroken, brokenIn, vectorSpot, brokenSpot, firstCritical, criticalSpot, checksumSpot, spotOf}
 
 -- ---- the words of `broken_vector`
 pub type-room : (m : List ℕ) → headerIn m ≤ length m → 8 + 4 ≤ length m

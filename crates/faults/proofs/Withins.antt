@@ -2,18 +2,18 @@
 -- Assumes nothing.
 use Prim.Native.Nat.{ℕ, zero, suc, _+_, _*_, _-_, _/_, _<_, _≤_}
 use mathlib.Core.Path.{_≡_, refl, sym, ap, subst, _∙_}
-use mathlib.Core.Bool.{Bool, true, false, cond, not, _&&_}
+use mathlib.Core.Bool.{Bool, true, false, not, _&&_}
 use mathlib.Core.Logic.{_⊎_, inl, inr}
 use mathlib.Core.List.{List, [], _∷_, _++_}
 use native.Mathlib.Omega.{arith}
-use lib.ListN.{length, take, drop, length-append, length-take, length-drop}
+use lib.ListN.{length, drop, length-take, length-drop}
 use lib.Seq.{length-take-le, take-take, drop-at}
-use lib.Dec.{leb, ltb, eqb}
-use borrow.Author.Tests.{le-leb, leb-true, eqb-true, eqb-false}
+use lib.Dec.{leb, eqb}
+use borrow.Author.Tests.{le-leb, leb-true, eqb-false}
 use Rattle.octets.proofs.Bools.{which, no-true}
 use Rattle.octets.specs.Octets.{le, signed32, negative}
 use Rattle.vector.specs.declared.Vector.{Vector}
-use Rattle.vector.specs.Vector.{keepsRule, extent, part, shown}
+use Rattle.vector.specs.Vector.{extent, part}
 use Rattle.message.specs.Layout.{Shape, nego, exchange, verify, alert, shapeOf, headerOf, Head, headOf, Element, elementsAt, elementsOf, valuesOf, extensionVector, alertVector, contentOf, vectorsOf, size, front}
 use Rattle.message.specs.Check.{FirstFails, commonRows, allPass, allKeepRule, noneCritical, contentRows, bodyRows, frontRows}
 use Rattle.message.specs.Show.{firstOf}
@@ -23,7 +23,6 @@ use Rattle.message.proofs.Local.{head-front}
 use Rattle.token.specs.Token.{orderRows, nextRows}
 use Rattle.token.specs.Split.{join}
 use Rattle.token.proofs.Splits.{refused-stops}
-use Rattle.coverage.specs.Coverage.{vectorsIn}
 use Rattle.faults.specs.declared.Spot.{Spot}
 use Rattle.faults.specs.Faults.{spot, firstBroken, vectorSpot, brokenSpot, firstCritical, criticalSpot, spotOf}
 use Rattle.faults.specs.Claims.{Within, FaultWithin}

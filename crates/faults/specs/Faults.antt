@@ -18,8 +18,8 @@
 --   faultAt p i s n    the fault of what is left, s, at the place p, refused with n: for 2 all of it, else a field
 --   faultIn r s        the fault of a token s by its reading r: nothing where it is accepted
 --   faultOf s          the fault of a token; of one that is too long the first octet too many
-use Prim.Native.Nat.{ℕ, zero, suc, _+_, _*_, _-_}
-use mathlib.Core.Bool.{Bool, cond, not}
+use Prim.Native.Nat.{ℕ, _+_, _*_, _-_}
+use mathlib.Core.Bool.{cond, not}
 use mathlib.Core.List.{List, [], _∷_}
 use lib.ListN.{length, take, drop}
 use lib.Dec.{leb, ltb, eqb}

@@ -1,7 +1,7 @@
 -- The loop that cuts a file, in the words of the code.
 -- Assumes nothing.
 use Prim.Native.Nat.{ℕ, suc, _+_, _-_, _<_, _≤_}
-use mathlib.Core.Path.{_≡_, refl, sym, ap, subst, _∙_}
+use mathlib.Core.Path.{_≡_, sym, ap, _∙_}
 use mathlib.Core.Bool.{true, false}
 use mathlib.Core.List.{List, [], _∷_}
 use native.Mathlib.Omega.{arith}
@@ -15,7 +15,7 @@ use Rattle.message.specs.declared.Read.the-variants as answer
 use Rattle.message.specs.Layout.{headOf, size, front}
 use Rattle.message.specs.Check.{firstFailing, commonRows, said, fieldsOf, headerVerdict}
 use Rattle.message.proofs.Tables.{verdict-read, verdict-refused}
-use Rattle.token.specs.Token.{Chain, end, refused as cutAt, message}
+use Rattle.token.specs.Token.{Chain, refused as cutAt, message}
 use Rattle.conversation.specs.Logs.{messagesIn}
 use Rattle.sides.specs.Merging.{fits, cutFrom, cutOf}
 use Rattle.sides.proofs.Cutting.{fits-sized, turn-fits, turn-stops}

@@ -9,14 +9,13 @@ use native.Mathlib.Omega.{arith}
 use lib.ListN.{length, take, drop, length-append, length-drop, length-take}
 use lib.Seq.{drop-drop, take-add, length-take-le}
 use lib.Dec.{eqb, ltb}
-use borrow.Author.Tests.{eq-eqb, eqb-false, ltb-true, ltb-false, lt-ltb, le-ltb}
-use Rattle.octets.proofs.Bools.{which, no-true}
+use borrow.Author.Tests.{ltb-true, ltb-false, lt-ltb, le-ltb}
+use Rattle.octets.proofs.Bools.{which}
 use Rattle.octets.proofs.Slices.{tail-all}
 use Rattle.message.specs.Layout.{headOf, size, front}
 use Rattle.token.specs.Split.{join}
 use Rattle.sides.specs.Merging.{fits, messagesOf, runFrom, Turn, turnsFrom, turnsOf, together}
-use Rattle.sides.proofs.Cutting.{fits-sized, Piece, Pieces, piece-long, pieces-cut}
-use Rattle.merging.specs.declared.Run.{Run}
+use Rattle.sides.proofs.Cutting.{fits-sized, Pieces, piece-long, pieces-cut}
 use Rattle.merging.specs.declared.Next.{Next}
 use Rattle.merging.specs.Merged.{ranIn, nextIn, nextBy, turnsLeft}
 use Rattle.merging.proofs.Runs.{messages-on, messages-none}

@@ -2,12 +2,12 @@
 -- Assumes nothing.
 use Prim.Native.Nat.{ℕ, zero, suc, _+_, _-_, _<_, _≤_}
 use mathlib.Core.Path.{_≡_, refl, sym, ap, subst, _∙_}
-use mathlib.Core.Bool.{Bool, true, false}
+use mathlib.Core.Bool.{true, false}
 use mathlib.Core.Logic.{_⊎_, inl, inr}
-use mathlib.Core.List.{List, [], _∷_, _++_, append-assoc}
+use mathlib.Core.List.{List, [], _∷_, _++_}
 use native.Mathlib.Omega.{arith}
-use lib.ListN.{length, take, drop, length-append, length-drop, take-append-drop}
-use lib.Seq.{drop-drop, take-add, length-take-le, drop-nil}
+use lib.ListN.{length, take, drop, length-append, take-append-drop}
+use lib.Seq.{length-take-le}
 use lib.Dec.{eqb, ltb}
 use borrow.Author.Tests.{eq-eqb, ne-eqb, lt-ltb, le-ltb}
 use Rattle.octets.proofs.Bools.{which}
@@ -17,14 +17,11 @@ use Rattle.message.specs.declared.Read.{Read}
 use Rattle.message.specs.declared.Read.the-variants as answer
 use Rattle.message.specs.Layout.{Head, headOf, size, front}
 use Rattle.message.specs.Check.{said, headerVerdict}
-use Rattle.message.proofs.Local.{head-front}
-use Rattle.token.specs.Token.{Chain}
 use Rattle.token.specs.Split.{join}
 use Rattle.conversation.specs.Logs.{messagesIn}
-use Rattle.sides.specs.Merging.{fits, cutFrom, cutOf, messagesOf, runFrom}
-use Rattle.sides.proofs.Cutting.{fits-sized, turn-fits, turn-stops, Piece, piece-front, piece-head}
+use Rattle.sides.specs.Merging.{fits, cutFrom, messagesOf, runFrom}
+use Rattle.sides.proofs.Cutting.{turn-fits, turn-stops, piece-front, piece-head}
 use Rattle.merging.specs.declared.Run.{Run}
-use Rattle.merging.specs.declared.Next.{Next}
 use Rattle.merging.specs.Merged.{ranIn, nextIn, nextBy}
 use Rattle.merging.proofs.Cuts.{header-fits, header-size, header-number, header-long, header-left, header-refused}
 

@@ -7,7 +7,7 @@
 --   refusedLine    the line of a refusal
 --   endLines e     the line of an ending: none at the last turn
 use Prim.Native.Nat.{ℕ}
-use mathlib.Core.Bool.{Bool, true, false}
+use mathlib.Core.Bool.{Bool}
 use mathlib.Core.List.{List, [], _∷_, _++_}
 use mathlib.Core.Option.{Option, none, some}
 use Rattle.text.specs.Text.{quoted, decimal, decimal64, idText}

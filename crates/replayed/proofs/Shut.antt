@@ -8,19 +8,19 @@ use mathlib.Core.List.{List, [], _∷_, _++_, append-nil}
 use native.Mathlib.Omega.{arith}
 use lib.ListN.{length, length-append}
 use lib.Dec.{eqb, leb}
-use borrow.Author.Tests.{ne-eqb, eqb-true}
+use borrow.Author.Tests.{ne-eqb}
 use Rattle.octets.proofs.Bools.{which, no-true}
 use Rattle.message.specs.Layout.{headOf}
 use Rattle.message.specs.Check.{Row, FirstFails, firstFailing, commonRows}
 use Rattle.message.proofs.Tables.{AllTrue, given, refuses-first, without, fails-other}
-use Rattle.token.specs.Token.{Chain, refused as cutAt, chainOf, passes, orderRows, nextRows}
+use Rattle.token.specs.Token.{refused as cutAt, passes, orderRows, nextRows}
 use Rattle.token.specs.Split.{join}
 use Rattle.token.proofs.Cuts.{turn-fail}
 use Rattle.conversation.specs.declared.Record.{Record}
 use Rattle.conversation.specs.State.{closed, limitRows}
-use Rattle.conversation.specs.Outcomes.{Outcome, refused, closedBy, row, room}
+use Rattle.conversation.specs.Outcomes.{Outcome, closedBy, row, room}
 use Rattle.conversation.specs.Reading.{conversationOf, startOf, Judged, whole, halted, judge, chainFor, judged, tokenRows, finish, readingToken}
-use Rattle.conversation.specs.Runs.{Call, read, End, act, moved, World, outcomeAt, next, isAccepted}
+use Rattle.conversation.specs.Runs.{Call, read, End, act, moved, World, next, isAccepted}
 use Rattle.conversation.specs.Claims.{isReading, addedBy, addedAt}
 use Rattle.conversation.specs.Logs.{added}
 use Rattle.conversation.proofs.Rows.{decide-out, true-behind, fails-until}

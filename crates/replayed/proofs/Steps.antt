@@ -1,14 +1,12 @@
 -- A run beside the replay of what is written in it: the two are in step, or the two ends have parted and neither reads any more.
 -- Assumes nothing.
-use Prim.Native.Nat.{ℕ, zero, suc, _+_, _<_, _≤_}
+use Prim.Native.Nat.{ℕ, _+_, _<_, _≤_}
 use mathlib.Core.Path.{_≡_, refl, sym, ap, subst, _∙_}
-use mathlib.Core.Bool.{Bool, true, false, cond, not}
+use mathlib.Core.Bool.{Bool, true, false, not}
 use mathlib.Core.Logic.{_⊎_, inl, inr}
 use mathlib.Core.List.{List, [], _∷_, _++_, append-assoc, append-nil}
 use native.Mathlib.Omega.{arith}
-use lib.ListN.{length, getD, length-append, List·getD-append}
-use lib.Dec.{eqb}
-use Rattle.octets.proofs.Bools.{no-true}
+use lib.ListN.{length, length-append, List·getD-append}
 use Rattle.message.specs.Layout.{Head, headOf}
 use Rattle.message.proofs.Local.{head-same}
 use Rattle.token.specs.Split.{join}
@@ -17,19 +15,19 @@ use Rattle.conversation.specs.declared.Record.{Record}
 use Rattle.conversation.specs.Turns.{writing, writes}
 use Rattle.conversation.specs.Outcomes.{Outcome}
 use Rattle.conversation.specs.Reading.{chainFor, taken, accepted, readingToken}
-use Rattle.conversation.specs.Runs.{Call, offer, reply, metadata, speak, read, choose, End, act, moved, isAccepted}
+use Rattle.conversation.specs.Runs.{Call, read, End, act, moved, isAccepted}
 use Rattle.conversation.specs.Logs.{messagesIn, added}
 use Rattle.conversation.proofs.Messages.{join-one}
 use Rattle.conversation.proofs.Logs.{Sound}
 use Rattle.sides.specs.Merging.{Turn, token}
 use Rattle.sides.specs.Turning.{begun, owed, heardTurn, said, saidAll, spoke}
-use Rattle.sides.specs.Replay.{Case, Sides, sideOf, withSides, marksOf, outcomeOf, soPlayed}
+use Rattle.sides.specs.Replay.{Case, Sides, sideOf, marksOf, outcomeOf, soPlayed}
 use Rattle.sides.proofs.Cutting.{Pieces, pieces-append}
 use Rattle.sides.proofs.Turns.{allOf, ofSide}
 use Rattle.replayed.proofs.Messages.{Headed}
 use Rattle.replayed.proofs.Writes.{Marked, marksIn, marked-in, Writes, writes-call}
 use Rattle.sides.proofs.Spoken.{said-snoc, spoke-counts}
-use Rattle.sides.proofs.Heard.{Heard, heard-by, heard-again, Exact, AllExact, exact-append, Gone, gone-through, first-number}
+use Rattle.sides.proofs.Heard.{Heard, heard-by, heard-again, AllExact, exact-append, Gone, gone-through, first-number}
 use Rattle.replayed.proofs.Played.{Level, level-on, Holds, holds-on, sidesAfter, AllHeard, after-snoc, heard-snoc, AlternateTo, alternate-snoc, all-snoc, side-here, side-there, not-not, side-writer, side-reader, side-transcript}
 
 -- 1. ends that have parted

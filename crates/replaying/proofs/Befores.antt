@@ -1,30 +1,28 @@
 -- What ends a replay before play, in the words of the code.
 -- Assumes nothing.
 use Prim.Native.Nat.{ℕ, zero, suc, _+_, _-_, _/_, _%_, _<_, _≤_}
-use mathlib.Core.Path.{_≡_, refl, sym, ap, subst, _∙_}
+use mathlib.Core.Path.{_≡_, refl, sym, ap, _∙_}
 use mathlib.Core.Bool.{Bool, true, false, cond, not, _&&_, _||_}
 use mathlib.Core.Logic.{_⊎_, inl, inr}
 use mathlib.Core.List.{List, [], _∷_}
-use mathlib.Core.Option.{none, some}
 use native.Mathlib.Omega.{arith}
 use lib.ListN.{length}
 use lib.Dec.{eqb, leb}
-use borrow.Author.Tests.{eq-eqb, ne-eqb, eqb-true, eqb-false, leb-true, leb-false, le-leb, not-true}
+use borrow.Author.Tests.{ne-eqb, eqb-true, leb-true}
 use Rattle.octets.proofs.Bools.{which, no-true, and-l, and-r}
 use Rattle.vector.specs.declared.TokenPlace.{TokenPlace}
-use Rattle.message.specs.Layout.{headOf, size, front}
+use Rattle.message.specs.Layout.{headOf, size}
 use Rattle.message.specs.Check.{firstFailing, commonRows}
 use Rattle.message.specs.Show.{idsOf}
 use Rattle.message.proofs.Ids.{length-ids}
-use Rattle.message.proofs.Tables.{without, fails-other, refuses-first}
-use Rattle.token.specs.Token.{Chain, end, refused as cutAt, message}
+use Rattle.message.proofs.Tables.{fails-other, refuses-first}
 use Rattle.schemes.specs.Lists.{distinct, listOk, oneTo16}
 use Rattle.schemes.specs.Sets.{below}
 use Rattle.conversation.specs.Logs.{messagesIn}
-use Rattle.sides.specs.Merging.{fits, cutFrom, cutOf, messagesOf, turnsOf, together, inRow}
-use Rattle.sides.specs.Replay.{Case, Whose, initiator, acceptor, neither, Ending, finished, refused, unopened, givenOk, firstEnding, cutEnding, fileEnding, fileOf, before}
+use Rattle.sides.specs.Merging.{fits, cutFrom, messagesOf, turnsOf, together, inRow}
+use Rattle.sides.specs.Replay.{Whose, initiator, acceptor, neither, Ending, finished, refused, firstEnding, cutEnding, fileEnding, fileOf, before}
 use Rattle.merging.specs.declared.Cut.{Cut}
-use Rattle.merging.specs.Merged.{numberIn, placeIn, cutBy, fileCut}
+use Rattle.merging.specs.Merged.{numberIn, placeIn, fileCut}
 use Rattle.replaying.specs.declared.Marks.{Marks}
 use Rattle.replaying.specs.declared.Found.{Found}
 use Rattle.replaying.specs.declared.Fault.{Fault}

@@ -2,17 +2,17 @@
 -- Assumes nothing.
 use Prim.Native.Nat.{ℕ, zero, suc, _+_, _*_, _/_, _^_, _<_, _≤_}
 use mathlib.Core.Path.{_≡_, refl, sym, ap, _∙_}
-use mathlib.Core.Bool.{Bool, true, false, not, _&&_}
-use mathlib.Core.List.{List, [], _∷_, _++_, append-nil}
+use mathlib.Core.Bool.{Bool, true, not, _&&_}
+use mathlib.Core.List.{List, [], _∷_, _++_}
 use native.Mathlib.Omega.{arith}
 use lib.ListN.{length, take, drop, length-append}
 use lib.Seq.{take-at, drop-at, drop-drop}
-use lib.Dec.{leb, eqb, ltb}
-use borrow.Author.Tests.{le-leb, ne-eqb, ltb-true}
+use lib.Dec.{ltb}
+use borrow.Author.Tests.{le-leb, ltb-true}
 use Rattle.octets.proofs.Bools.{both}
-use Rattle.octets.specs.Octets.{le, octets, signed32, negative}
+use Rattle.octets.specs.Octets.{le, signed32, negative}
 use Rattle.vector.specs.declared.Vector.{Vector}
-use Rattle.vector.specs.Vector.{extent, keepsRule, part, shown}
+use Rattle.vector.specs.Vector.{keepsRule, part, shown}
 use Rattle.vector.proofs.Rule.{inside-rule, rule-empty}
 use Rattle.message.specs.Layout.{Element, elementAt, elementsAt, elementsOf, valuesOf}
 use Rattle.message.specs.Check.{allKeepRule, noneCritical}

@@ -15,8 +15,8 @@ use Rattle.message.specs.Layout.{headerOf, padsOf, Head, headOf, size, front, c
 use Rattle.message.specs.Check.{allKeepRule, firstFailing, FirstFails}
 use Rattle.message.proofs.Tables.{refuses-first}
 use Rattle.message.specs.Show.{idsAt, idsOf, schemesIn}
-use Rattle.token.specs.Token.{passes, nextRows, tokenOf}
-use Rattle.token.specs.Split.{Message, Numbered, join, placedFrom}
+use Rattle.token.specs.Token.{passes, nextRows}
+use Rattle.token.specs.Split.{Message, Numbered, join}
 use Rattle.message.proofs.Shapes.{header-least}
 use Rattle.token.proofs.Splits.{numbered-accepted, stops-refused}
 use Rattle.put.specs.Put.{put, joined}

@@ -14,7 +14,7 @@ use Rattle.fields.specs.declared.hex.Decoded.the-variants as decoded
 use Rattle.fields.specs.declared.number.Number.{Number}
 use Rattle.fields.specs.declared.number.Number.the-variants as number
 use Rattle.script.specs.declared.given.GivenText.{GivenText}
-use Rattle.script.specs.Grammar.{fieldsOf, first, others, numberIn, restIn}
+use Rattle.script.specs.Grammar.{first, others, numberIn, restIn}
 use Rattle.script.specs.Steps.{fieldsFrom}
 use Rattle.script.specs.Given.{behindWord, givenAs, givenBy, givenOf}
 use Rattle.script.proofs.Places.{from-start}

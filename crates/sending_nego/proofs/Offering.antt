@@ -19,7 +19,7 @@ use Rattle.conversation.specs.Outcomes.{Outcome, answered, row, unchanged}
 use Rattle.conversation.specs.Writing.{NegoContent, negoIn, extensionRows, offerRows, offering}
 use Rattle.conversation.specs.Claims.{Arrays}
 use Rattle.conversation.proofs.Decides.{first-none, first-stop}
-use Rattle.calls.specs.Calls.{roomFor, stageRefusal, writeRefusal, Inside, Ready, Appended}
+use Rattle.calls.specs.Calls.{roomFor, stageRefusal, writeRefusal, Inside, Appended}
 use Rattle.calls.proofs.Refusals.{stage-inside, write-stage, write-on, passed-inside, passed-own}
 use Rattle.calls.proofs.Writes.{write-refused, write-ready, write-written}
 use Rattle.sending_nego.specs.Ready.{NegoReady}

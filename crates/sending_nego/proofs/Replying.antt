@@ -29,7 +29,7 @@ use Rattle.conversation.specs.Turns.{typeOf, placeAfter}
 use Rattle.conversation.specs.Outcomes.{Outcome, answered, row, appended}
 use Rattle.conversation.specs.Writing.{NegoContent, negoIn, extensionRows, messageOf, someLeft, replyRows, naming, replying}
 use Rattle.conversation.proofs.Decides.{first-none, first-stop}
-use Rattle.calls.specs.Calls.{roomFor, stageRefusal, writeRefusal, Inside, Ready, Appended}
+use Rattle.calls.specs.Calls.{roomFor, stageRefusal, writeRefusal, Inside, Appended}
 use Rattle.calls.proofs.Refusals.{stage-inside, write-stage, write-on, passed-inside, passed-own}
 use Rattle.conversation.specs.Claims.{Arrays}
 use Rattle.calls.proofs.Writes.{changed, write-refused, write-ready, write-passed}

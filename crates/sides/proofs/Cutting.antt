@@ -1,19 +1,19 @@
 -- A file is cut message by message: what passes 2 to 6 at its front is taken off, and a join of such messages is cut into them.
 -- Assumes nothing.
 use Prim.Native.Nat.{ℕ, zero, suc, _+_, _-_, _<_, _≤_}
-use mathlib.Core.Path.{_≡_, refl, sym, ap, subst, _∙_}
+use mathlib.Core.Path.{_≡_, refl, sym, ap, _∙_}
 use mathlib.Core.Bool.{true, false}
 use mathlib.Core.Logic.{_⊎_, inl, inr}
-use mathlib.Core.List.{List, [], _∷_, _++_, append-assoc, append-nil}
+use mathlib.Core.List.{List, [], _∷_, _++_}
 use native.Mathlib.Omega.{arith}
-use lib.ListN.{length, take, drop, length-append, take-append-drop}
+use lib.ListN.{length, take, drop, length-append}
 use lib.Seq.{take-append-le, take-at, drop-at, take-take, length-take-le, drop-nil}
 use Rattle.octets.proofs.Bools.{which}
 use Rattle.message.specs.Layout.{Head, headOf, size, front}
 use Rattle.message.specs.Check.{firstFailing, commonRows}
 use Rattle.message.proofs.Headers.{Sized, common-sized}
 use Rattle.message.proofs.Local.{head-front, common-front}
-use Rattle.token.specs.Token.{Chain, end, refused as cutAt, message}
+use Rattle.token.specs.Token.{refused as cutAt, message}
 use Rattle.token.specs.Split.{join}
 use Rattle.token.proofs.Cuts.{placed, drop-one}
 use Rattle.conversation.specs.Logs.{messagesIn}

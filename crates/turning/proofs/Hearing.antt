@@ -1,13 +1,13 @@
 -- The reader's answer, in the words of the code: what comes after the first message is 28, where that is owed.
 -- Assumes nothing.
 use Prim.Native.Nat.{ℕ, zero, suc, _+_, _-_, _<_, _≤_}
-use mathlib.Core.Path.{_≡_, refl, sym, ap, subst, _∙_}
+use mathlib.Core.Path.{_≡_, refl, sym, ap, _∙_}
 use mathlib.Core.Bool.{Bool, true, false, cond, not, _||_}
 use mathlib.Core.Logic.{_⊎_, inl, inr}
 use mathlib.Core.List.{List, [], _∷_, _++_}
 use native.Mathlib.Omega.{arith}
 use lib.ListN.{length}
-use lib.Dec.{eqb, leb, ltb}
+use lib.Dec.{eqb}
 use borrow.Author.Tests.{eq-eqb, ne-eqb, lt-ltb, le-ltb, lt-leb, not-true}
 use Rattle.octets.proofs.Bools.{which, and-l, and-r}
 use Rattle.message.specs.Layout.{size}
@@ -17,11 +17,9 @@ use Rattle.token.specs.Token.{orderRows, nextRows, passes, chainOf}
 use Rattle.conversation.specs.declared.Record.{Record}
 use Rattle.conversation.specs.declared.Answer.{Answer}
 use Rattle.conversation.specs.State.{limitRows}
-use Rattle.conversation.specs.Outcomes.{Outcome, answered, refused, closedBy, decide, room}
+use Rattle.conversation.specs.Outcomes.{Outcome, answered, refused, decide, room}
 use Rattle.conversation.specs.Reading.{Judged, whole, halted, chainFor, conversationOf, judged, finish, tokenRows, readingToken}
-use Rattle.conversation.proofs.Rows.{decide-out}
 use Rattle.conversation.proofs.Tokens.{Numbers, judged-numbers}
-use Rattle.conversation.proofs.Decides.{decide-passed, decide-refused}
 use Rattle.sides.specs.Turning.{afterFirst, heardTurn}
 use Rattle.turning.specs.Hearing.{owedBefore}
 

@@ -1,25 +1,23 @@
 -- 28, in the words of the code.
 -- Assumes nothing.
 use Prim.Native.Nat.{ℕ, zero, suc, _+_, _*_, _-_, _/_, _%_, _<_, _≤_}
-use mathlib.Core.Path.{_≡_, refl, sym, ap, subst, _∙_}
-use mathlib.Core.Bool.{Bool, true, false, cond, _&&_}
+use mathlib.Core.Path.{_≡_, refl, sym, ap, _∙_}
+use mathlib.Core.Bool.{Bool, true, false, _&&_}
 use mathlib.Core.Logic.{_⊎_, inl, inr}
 use mathlib.Core.List.{List, [], _∷_, _++_}
 use native.Mathlib.Omega.{arith}
-use native.Mathlib.Nat.{add-sub-cancel-left}
 use lib.ListN.{length, take, drop, getD, length-take, length-drop, drop-of-length-le}
 use lib.Seq.{take-add, length-take-le, take-all}
 use lib.Bits.{bitAnd}
-use lib.Dec.{eqb, leb}
+use lib.Dec.{eqb}
 use borrow.Author.Tests.{eq-eqb, ne-eqb, eqb-true, eqb-false}
 use Rattle.octets.specs.Octets.{octets, sameOctets, sameId}
-use Rattle.octets.proofs.Bools.{which, no-true}
+use Rattle.octets.proofs.Bools.{which}
 use Rattle.octets.proofs.Same.{same-sizes, same-step}
-use Rattle.vector.specs.declared.Vector.{Vector}
 use Rattle.vector.specs.Vector.{extent, keepsRule, part, shown}
 use Rattle.vector.proofs.Rule.{rule-inside}
 use Rattle.message.specs.Layout.{front, schemeVector}
-use Rattle.message.specs.Show.{idsAt, idsOf, schemesIn}
+use Rattle.message.specs.Show.{idsAt, schemesIn}
 use Rattle.message.proofs.Ids.{length-ids, id-at}
 use Rattle.schemes.specs.Lists.{Id, joinIds}
 use Rattle.schemes.specs.Sets.{left, named, openPlaces}
@@ -32,9 +30,9 @@ use Rattle.conversation.specs.State.{ownOf, replied}
 use Rattle.conversation.specs.Turns.{writes}
 use Rattle.conversation.specs.Writing.{someLeft, firstOr}
 use Rattle.conversation.specs.Admitting.{schemeIn, listedBy}
-use Rattle.conversation.specs.Choosing.{openTo, firstPlace, mayChoose}
+use Rattle.conversation.specs.Choosing.{openTo, mayChoose}
 use Rattle.admitting.specs.Admissions.{listedIn}
-use Rattle.calls.proofs.Lefts.{left-less, open-none, open-some}
+use Rattle.calls.proofs.Lefts.{left-less, open-none}
 use Rattle.sides.specs.Turning.{sameList, withMarks, owed}
 
 -- 1. octets, one by one

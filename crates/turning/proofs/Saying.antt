@@ -1,7 +1,7 @@
 -- The writer's record after its messages, in the words of the code.
 -- Assumes nothing.
 use Prim.Native.Nat.{ℕ, _+_, _*_, _-_, _<_, _≤_}
-use mathlib.Core.Path.{_≡_, refl, sym, ap, subst, _∙_}
+use mathlib.Core.Path.{_≡_, refl, sym, ap, _∙_}
 use mathlib.Core.Bool.{Bool, true, false, cond, _&&_, _||_}
 use mathlib.Core.List.{List, [], _∷_}
 use native.Mathlib.Omega.{arith}
@@ -20,7 +20,7 @@ use Rattle.schemes.specs.Answers.{withBit}
 use Rattle.conversation.specs.declared.Record.{Record}
 use Rattle.conversation.specs.State.{ownOf}
 use Rattle.conversation.specs.Turns.{ANSWER, classOf, writing, writes, placeAfter}
-use Rattle.conversation.specs.Outcomes.{WrittenAs, unchanged, wrote}
+use Rattle.conversation.specs.Outcomes.{unchanged, wrote}
 use Rattle.conversation.specs.Admitting.{schemeIn}
 use Rattle.conversation.specs.Choosing.{chose, mayChoose}
 use Rattle.sides.specs.Merging.{messagesOf}

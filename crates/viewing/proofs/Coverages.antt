@@ -1,21 +1,19 @@
 -- The coverage of a token as an answer. In the words of the code.
 -- Assumes nothing.
 use Prim.Native.Nat.{ℕ, zero, suc, _+_, _-_, _<_, _≤_, _^_}
-use mathlib.Core.Path.{_≡_, refl, sym, ap, subst, _∙_}
-use mathlib.Core.Bool.{Bool, cond}
+use mathlib.Core.Path.{_≡_, refl, sym, ap, _∙_}
 use mathlib.Core.List.{List, [], _∷_, _++_}
 use native.Mathlib.Numerals.{add-one}
 use native.Mathlib.Omega.{arith}
-use lib.ListN.{length, take, drop, set, replicate, length-append, length-take, length-drop}
-use lib.Seq.{take-suc-set, take-all, length-take-le, take-at, drop-at}
+use lib.ListN.{length, take, drop, set, replicate}
+use lib.Seq.{take-suc-set, take-all, length-take-le}
 use lib.IntN.{ℤ, pos, negℤ}
-use lib.Dec.{leb, eqb}
 use mir.Syntax.{w64}
 use mir.Val.{SFits, toZ, ofZ}
 use borrow.Author.Tests.{le-leb, lt-leb, eq-eqb}
 use Rattle.token.specs.declared.Answer.{Answer}
-use Rattle.token.specs.Token.{Reading, tokenOf, told}
-use Rattle.token.specs.Walk.{messagesOf, Accepts}
+use Rattle.token.specs.Token.{Reading, told}
+use Rattle.token.specs.Walk.{Accepts}
 use Rattle.token.proofs.Walks.{accepted-short}
 use Rattle.put.specs.Put.{put}
 use Rattle.blanking.specs.Covered.{covered}

@@ -9,7 +9,6 @@ use lib.IntN.{ℤ, pos, negℤ}
 use mir.Syntax.{w64}
 use mir.Val.{SFits, toZ, ofZ}
 use borrow.Author.Tests.{le-leb, lt-leb}
-use Rattle.der.specs.Got.{Got, ok, no}
 use Rattle.vector.specs.declared.TokenPlace.{TokenPlace}
 use Rattle.token.specs.declared.Answer.{Answer}
 use Rattle.token.specs.declared.Answer.the-variants as answer

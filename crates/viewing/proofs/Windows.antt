@@ -1,7 +1,7 @@
 -- The answers of a viewer's calls. In the words of the code.
 -- Assumes nothing.
 use Prim.Native.Nat.{ℕ, _+_, _*_, _-_, _/_, _<_, _≤_, _^_}
-use mathlib.Core.Path.{_≡_, refl, sym, ap, subst, _∙_}
+use mathlib.Core.Path.{_≡_, sym, ap, subst, _∙_}
 use mathlib.Core.Bool.{cond}
 use mathlib.Core.List.{List, []}
 use native.Mathlib.Omega.{arith}
@@ -11,14 +11,14 @@ use lib.Dec.{leb}
 use mir.Syntax.{w64}
 use mir.Val.{SFits, toZ, ofZ}
 use borrow.Author.Tests.{le-leb, lt-leb}
-use Rattle.token.specs.Token.{Reading, Accepted, tokenOf}
+use Rattle.token.specs.Token.{Reading, tokenOf}
 use Rattle.token.specs.Walk.{messagesOf, Accepts}
 use Rattle.token.proofs.Walks.{accepted-short}
-use Rattle.put.specs.Put.{Written, put}
+use Rattle.put.specs.Put.{Written}
 use Rattle.entries.specs.declared.Entry.{Entry}
 use Rattle.entries.specs.Entries.{entriesOf, entryOctets}
 use Rattle.entries.specs.Lookup.{noEntry, Filled}
-use Rattle.entries.proofs.Walked.{octets-length, entries-few}
+use Rattle.entries.proofs.Walked.{entries-few}
 use Rattle.replies.specs.Replies.{Reply, given, refused, andThen, readingReply, itemAt, answerOf, lent, writtenIn}
 use Rattle.replies.proofs.Answers.{same}
 use Rattle.replies.proofs.Messages.{item-given, item-refused}

@@ -3,7 +3,7 @@ use Prim.Native.Nat.{_-_}
 use native.Mathlib.Omega.{arith}
 use borrow.Author.Needs.{needs}
 use Rattle.elements.proofs.Limits.{sum-turn}
-use Rattle.elements.proofs.Arrays.{Left, left-start, left-room, left-turn, left-end}
+use Rattle.elements.proofs.Arrays.{Left, left-start, left-turn, left-end}
 use Rattle.elements.proofs.put_array.Statement.{statement}
 use Rattle.elements.proofs.put_array.Tie as tie
 

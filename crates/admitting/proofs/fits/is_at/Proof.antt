@@ -1,7 +1,6 @@
 -- Assumes nothing.
 use Rattle.calls.proofs.Sizes.{sized}
 use Rattle.admitting.proofs.Allowed.{places}
-use borrow.Author.Needs.{needs}
 use Rattle.admitting.proofs.fits.is_at.Statement.{statement}
 use Rattle.admitting.proofs.fits.is_at.Tie as tie
 

@@ -1,6 +1,6 @@
 -- Assumes nothing.
 use Rattle.entries.proofs.Layouts.{vectors}
-use Rattle.coverage.proofs.Numbered.{room-extensions, room-alerts}
+use Rattle.coverage.proofs.Numbered.{room-extensions}
 use borrow.Author.Needs.{needs}
 use Rattle.entries.proofs.lookup.ids_vector.Statement.{statement}
 use Rattle.entries.proofs.lookup.ids_vector.Tie as tie
