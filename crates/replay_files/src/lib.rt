@@ -1,17 +1,15 @@
 // Replaying a case: its text and its two files read, and what the replay says written to standard output.
 ghost use Rattle.console.specs.Console.{holds};
-use case::Case;
-use case::name_behind;
-use case::read_case;
 use console::Loaded;
 use console::load;
 use fields::part;
 use libc::STDOUT_FILENO;
+use replay_case::CaseText;
+use replay_case::read_case;
 use replaying::Found;
 use replaying::Marks;
 use turns::show_replay;
 
-mod case;
 mod turns;
 
 // Whether a file was read, and how many octets of it.
@@ -39,18 +37,18 @@ fn marks_of(n: u32) -> u16 {
 }
 
 // Replays the files of a case, by the lists of its two sides. One octet more than a file may have is asked for, so that a longer one is seen.
-fn replay_files(c: Case, text: &[u8], ilist: &[u8], alist: &[u8]) {
+fn replay_files(c: CaseText, text: &[u8], ilist: &[u8], alist: &[u8]) {
     let mut ibuf = [0u8; 65536];
     let mut abuf = [0u8; 65536];
-    let i = file_of(load(name_behind(text, b"initiator "), &mut ibuf));
-    let a = file_of(load(name_behind(text, b"acceptor "), &mut abuf));
+    let i = file_of(load(part(text, c.initiator.from, c.initiator.end), &mut ibuf));
+    let a = file_of(load(part(text, c.acceptor.from, c.acceptor.end), &mut abuf));
     let found = Found {
         initiator: i.found,
         acceptor: a.found,
     };
     let marks = Marks {
-        initiator: marks_of(c.initiator.marks),
-        acceptor: marks_of(c.acceptor.marks),
+        initiator: marks_of(c.i.marks),
+        acceptor: marks_of(c.a.marks),
     };
     show_replay(
         ilist,
@@ -63,16 +61,16 @@ fn replay_files(c: Case, text: &[u8], ilist: &[u8], alist: &[u8]) {
 }
 
 // Replays a case. Each list has room for all ids that its text can have.
-fn replay_case(text: &[u8]) {
+fn replay_text(text: &[u8]) {
     let mut ilist = [0u8; 65536];
     let mut alist = [0u8; 65536];
     let c = read_case(text, &mut ilist, &mut alist);
-    if c.lines != Case::WHOLE {
+    if c.ok {} else {
         io::write_all(STDOUT_FILENO, b"bad case\n");
         return;
     }
-    let i = c.initiator.length;
-    let a = c.acceptor.length;
+    let i = c.i.length;
+    let a = c.a.length;
     replay_files(c, text, part(&ilist, 0, i), part(&alist, 0, a));
 }
 
@@ -82,7 +80,7 @@ fn replay_front(buf: &[u8], n: usize) {
         io::write_all(STDOUT_FILENO, b"bad case\n");
         return;
     }
-    replay_case(part(buf, 0, n));
+    replay_text(part(buf, 0, n));
 }
 
 // Replays the case in the file with a name, by way of a buffer that the caller lends, and writes what is to be seen of it to standard output.
