@@ -18,29 +18,26 @@ use Rattle.schemes.specs.Sets.{left, openPlaces, named, keptBelow}
 use Rattle.schemes.specs.Answers.{placesFrom, leftPlaces, leftOf}
 use Rattle.schemes.specs.declared.Left.{Left}
 use Rattle.schemes.proofs.Places.{lowest, less, less-step, left-below, named-left}
+use Rattle.schemes.proofs.Limits.{AllBelow}
 use Rattle.conversation.specs.Writing.{someLeft, firstOr, startsWith}
 use Rattle.conversation.specs.Choosing.{firstPlace}
 
 -- ---- every place left is one of the list
-abbrev pub Below : ℕ → List ℕ → Type 0
-Below n [] = Unit {0}
-Below n (k ∷ ks) = (k < n) × Below n ks
-
-places-inside : (k j n c m : ℕ) → k + j ≤ n → Below n (openPlaces (placesFrom k j) c m)
+places-inside : (k j n c m : ℕ) → k + j ≤ n → AllBelow n (openPlaces (placesFrom k j) c m)
 unfolding openPlaces placesFrom
 places-inside k zero n c m h = tt
 places-inside k (suc j) n c m h = go (bit c 0 && not (bit m k)) (places-inside (suc k) j n (c / 2) m (omega arith)) where
-  go : (b : Bool) → Below n (openPlaces (placesFrom (suc k) j) (c / 2) m) → Below n (cond b (k ∷ openPlaces (placesFrom (suc k) j) (c / 2) m) (openPlaces (placesFrom (suc k) j) (c / 2) m))
+  go : (b : Bool) → AllBelow n (openPlaces (placesFrom (suc k) j) (c / 2) m) → AllBelow n (cond b (k ∷ openPlaces (placesFrom (suc k) j) (c / 2) m) (openPlaces (placesFrom (suc k) j) (c / 2) m))
   go true i = (omega arith, i)
   go false i = i
 
-pub kept-inside : (n : ℕ) (ks : List ℕ) (c m : ℕ) → keptBelow n ks c ≡ true → Below n (openPlaces ks c m)
+pub kept-inside : (n : ℕ) (ks : List ℕ) (c m : ℕ) → keptBelow n ks c ≡ true → AllBelow n (openPlaces ks c m)
 unfolding openPlaces keptBelow
 kept-inside n [] c m h = tt
 kept-inside n (k ∷ ks) c m h =
     go (bit c 0) (not (bit m k)) (and-l (not (bit c 0) || ltb k n) (keptBelow n ks (c / 2)) h) (kept-inside n ks (c / 2) m (and-r (not (bit c 0) || ltb k n) (keptBelow n ks (c / 2)) h))
   where
-    go : (a b : Bool) → (not a || ltb k n) ≡ true → Below n (openPlaces ks (c / 2) m) → Below n (cond (a && b) (k ∷ openPlaces ks (c / 2) m) (openPlaces ks (c / 2) m))
+    go : (a b : Bool) → (not a || ltb k n) ≡ true → AllBelow n (openPlaces ks (c / 2) m) → AllBelow n (cond (a && b) (k ∷ openPlaces ks (c / 2) m) (openPlaces ks (c / 2) m))
     go true true e i = (ltb-true k n e, i)
     go true false e i = i
     go false b e i = i
@@ -63,7 +60,7 @@ module _ (list : List ℕ) (n : ℕ) (z : Left) where
   none-named (x ∷ l) h = absurd (omega arith)
 
   -- the first, where there is one
-  first-named : (ks : List ℕ) → z ≡ leftOf ks → Below n ks → someLeft (named (idsAt n list) ks) ≡ true
+  first-named : (ks : List ℕ) → z ≡ leftOf ks → AllBelow n ks → someLeft (named (idsAt n list) ks) ≡ true
       → (z .place < n) × ((octets 16 list (16 * z .place) ≡ firstOr (named (idsAt n list) ks)) × (z .place ≡ firstPlace ks))
   unfolding leftOf
   first-named [] e i s = no-true s
@@ -87,7 +84,7 @@ module _ (list : List ℕ) (n : ℕ) (z : Left) where
     pub open-count : z .left ≡ length (named (idsAt n list) ks)
     open-count = count-named ks is
 
-    pub open-first : Below n ks → someLeft (named (idsAt n list) ks) ≡ true
+    pub open-first : AllBelow n ks → someLeft (named (idsAt n list) ks) ≡ true
         → (z .place < n) × ((octets 16 list (16 * z .place) ≡ firstOr (named (idsAt n list) ks)) × (z .place ≡ firstPlace ks))
     open-first = first-named ks is
 

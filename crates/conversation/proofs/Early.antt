@@ -18,6 +18,7 @@ use Rattle.message.specs.Check.{Row}
 use Rattle.message.proofs.Tables.{AllTrue, without, fails-other}
 use Rattle.token.specs.Token.{passes, Chain, end, refused as cutAt, message, chainOf}
 use Rattle.schemes.specs.Lists.{Id, mem, place, distinct}
+use Rattle.schemes.proofs.Replies.{getD-place}
 use Rattle.conversation.specs.declared.Record.{Record}
 use Rattle.conversation.specs.declared.Answer.{Answer}
 use Rattle.conversation.specs.declared.Scan.{Scan}
@@ -47,14 +48,6 @@ distinct-at (x ∷ l) zero (suc k) d a b e = no-true (let m : mem x l ≡ true =
 distinct-at (x ∷ l) (suc j) zero d a b e = no-true (let m : mem x l ≡ true = mem-at x l j (omega arith) (subst (λ (y : Id). sameOctets x y ≡ true) (sym e) (same-refl x)) in rw m at d)
 distinct-at (x ∷ l) (suc j) (suc k) d a b e = ap suc (distinct-at l j k (and-r (not (mem x l)) (distinct l) d) (omega arith) (omega arith) e)
 
-pub place-at : (l : List Id) (id : Id) → mem id l ≡ true → getD l (place l id) [] ≡ id
-unfolding mem place
-place-at [] id m = no-true m
-place-at (x ∷ l) id m = elim (which (sameOctets id x)) [
-  | inl e ↦ rw e (sym (same-eq id x e))
-  | inr e ↦ rw e (place-at l id (rw e at m))
-]
-
 module _ (r : Record) (limits : AllTrue (limitRows r)) where
   -- two places of one scheme are one
   pub same-place : (j k : ℕ) → j < r .count → k < r .count → schemeAt r j ≡ schemeAt r k → j ≡ k
@@ -83,7 +76,7 @@ module _ (r : Record) (t : List ℕ) (f : eqb (reads r) FURTHER ≡ true) where
       let at : place (ownOf r) (schemeIn m) ≡ d .chosen = sym (rw f) ∙ ap (λ (s : Scan). s .chosen) is in
       record {
         low = subst (λ (n : ℕ). n < r .count) at (place-own r (schemeIn m) own);
-        fits = subst (λ (s : Id). furtherFits r (c .chosen) s ≡ true) (sym (place-at (ownOf r) (schemeIn m) own) ∙ ap (schemeAt r) at) g;
+        fits = subst (λ (s : Id). furtherFits r (c .chosen) s ≡ true) (sym (getD-place (ownOf r) (schemeIn m) own) ∙ ap (schemeAt r) at) g;
       }
 
   abbrev Some : Chain → Type 0

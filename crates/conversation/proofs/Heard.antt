@@ -16,6 +16,7 @@ use Rattle.message.specs.Layout.{headOf}
 use Rattle.message.proofs.Tables.{AllTrue}
 use Rattle.token.specs.Token.{Chain, end, refused as cutAt, message}
 use Rattle.schemes.specs.Lists.{Id, mem, place, keep}
+use Rattle.schemes.proofs.Replies.{getD-place}
 use Rattle.conversation.specs.declared.Record.{Record}
 use Rattle.conversation.specs.declared.Scan.{Scan}
 use Rattle.conversation.specs.State.{NONE, ownOf, schemeAt, replied, limitRows}
@@ -27,7 +28,6 @@ use Rattle.conversation.specs.Logs.{messagesIn}
 use Rattle.conversation.specs.Claims.{isVerify, verifyFor}
 use Rattle.conversation.proofs.Tokens.{not-stop}
 use Rattle.conversation.proofs.Inside.{own-length, place-own, further-mem, further-kind}
-use Rattle.conversation.proofs.Early.{place-at}
 
 -- 1. a message that is let through: what it has, and what is carried on
 
@@ -171,7 +171,7 @@ module _ (id : Id) where
         let g : furtherFits r (c .chosen) (schemeIn m) ≡ true = rw (k .0, k .1, f) at (fitting r t c d m e) in
         let own : mem (schemeIn m) (ownOf r) ≡ true = further-mem r (c .chosen) (schemeIn m) g in
         let at : place (ownOf r) (schemeIn m) ≡ d .chosen = sym (rw f) ∙ chosen-then r t c d m e in
-        record { low = subst (λ (n : ℕ). n < r .count) at (place-own r (schemeIn m) own); scheme = ap (schemeAt r) (sym at) ∙ place-at (ownOf r) (schemeIn m) own; fits = g }
+        record { low = subst (λ (n : ℕ). n < r .count) at (place-own r (schemeIn m) own); scheme = ap (schemeAt r) (sym at) ∙ getD-place (ownOf r) (schemeIn m) own; fits = g }
 
     -- after a message, where the flag said before it how many of its scheme there were
     then-later : (c d : Scan) (m : List ℕ) (n : ℕ) (e : admit r t c m ≡ on d) → n ≤ 1 → (id ≡ schemeIn m → n ≡ cond (confirmedFor r c (schemeIn m)) 1 0) → Later d (n + one m)
@@ -342,7 +342,7 @@ module _ (id : Id) where
   at-place r s own = elim (which (sameOctets id s)) [
     | inl q ↦
         let own′ : mem s (ownOf r) ≡ true = subst (λ (i : Id). mem i (ownOf r) ≡ true) (same-eq id s q) own in
-        let same : schemeAt r (place (ownOf r) s) ≡ s = place-at (ownOf r) s own′ in
+        let same : schemeAt r (place (ownOf r) s) ≡ s = getD-place (ownOf r) s own′ in
         let yes : isAt r (place (ownOf r) s) id ≡ true = rw (lt-ltb _ _ (place-own r s own′)) (subst (λ (i : Id). sameOctets id i ≡ true) (sym same) q) in
         q ∙ sym yes
     | inr q ↦ q ∙ sym (elim (which (ltb (place (ownOf r) s) (r .count))) [

@@ -16,6 +16,7 @@ use Rattle.message.specs.Layout.{shapeOf, contentOf}
 use Rattle.message.specs.Check.{Row, FirstFails, criticalOk}
 use Rattle.message.proofs.Tables.{AllTrue, without, fails-other}
 use Rattle.token.specs.Split.{join}
+use Rattle.token.proofs.Joins.{join-append}
 use Rattle.put.specs.Put.{put}
 use Rattle.encode.specs.Encode.{Whole, Contents, ofExchange}
 use Rattle.schemes.specs.Lists.{Id, distinct, oneTo16, joinIds, place}
@@ -38,7 +39,7 @@ use Rattle.conversation.proofs.Tokens.{judged-first, judged-number}
 use Rattle.conversation.proofs.Ends.{ok-distinct, each-whole, sized-at, own-opened, count-joined, length-joined}
 use Rattle.conversation.proofs.Sends.{listed-whole, left-whole, plain-nego}
 use Rattle.conversation.proofs.Inside.{told-below, ChosenBelow, admit-chosen, limits-wrote, limits-taken, limits-chose, limits-counts, now-below, chosen-below, now-chosen}
-use Rattle.conversation.proofs.Messages.{FramedFrom, Framed, framed-more, framed-behind, framed-long, framed-order, join-append, join-one, same-messages, same-start, Plain, AllPlain, plain-more, plain-behind, written-framed, written-plain, plain-kind, Not12, turn-12, judge-keeps, Taken, token-taken}
+use Rattle.conversation.proofs.Messages.{FramedFrom, Framed, framed-more, framed-behind, framed-long, framed-order, join-one, same-messages, same-start, Plain, AllPlain, plain-more, plain-behind, written-framed, written-plain, plain-kind, Not12, turn-12, judge-keeps, Taken, token-taken}
 
 -- 1. the invariant of an end
 

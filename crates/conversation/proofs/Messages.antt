@@ -4,7 +4,7 @@ use Prim.Native.Nat.{ℕ, zero, suc, _+_, _*_, _-_, _≤_, _<_}
 use mathlib.Core.Path.{_≡_, refl, sym, ap, subst, _∙_}
 use mathlib.Core.Bool.{Bool, true, false, cond}
 use mathlib.Core.Logic.{_⊎_, inl, inr}
-use mathlib.Core.List.{List, [], _∷_, _++_, append-assoc, append-nil}
+use mathlib.Core.List.{List, [], _∷_, _++_, append-nil}
 use native.Mathlib.Nat.{add-zero}
 use native.Mathlib.Omega.{arith}
 use lib.ListN.{length, take, drop, length-append, take-append-drop}
@@ -19,6 +19,7 @@ use Rattle.token.specs.Token.{orderRows, nextRows, passes, Chain, end, refused 
 use Rattle.token.specs.Split.{Message, Numbered, join}
 use Rattle.token.proofs.Cuts.{passes-sized, drop-one, turn-pass, turn-fail}
 use Rattle.token.proofs.Splits.{front-message, message-head, message-order, message-length}
+use Rattle.token.proofs.Joins.{join-append}
 use Rattle.put.specs.Put.{joined}
 use Rattle.put.proofs.Laws.{joined-append}
 use Rattle.encode.specs.declared.Heading.{Heading}
@@ -82,10 +83,6 @@ plain-more (m ∷ ms) ns a b = (a .0, plain-more ms ns (a .1) b)
 pub plain-behind : (ms ns : List (List ℕ)) → AllPlain (ms ++ ns) → AllPlain ns
 plain-behind [] ns a = a
 plain-behind (m ∷ ms) ns a = plain-behind ms ns (a .1)
-
-pub join-append : (ms ns : List (List ℕ)) → join (ms ++ ns) ≡ join ms ++ join ns
-join-append [] ns = refl
-join-append (m ∷ ms) ns = rw (join-append ms ns) (sym (append-assoc m (join ms) (join ns)))
 
 pub join-one : (ms : List (List ℕ)) (m : List ℕ) → join (ms ++ (m ∷ [])) ≡ join ms ++ m
 join-one ms m = join-append ms (m ∷ []) ∙ ap (λ (l : List ℕ). join ms ++ l) (append-nil m)

@@ -16,6 +16,7 @@ use Rattle.message.specs.Layout.{nego as nego-shape, shapeOf, contentOf}
 use Rattle.message.specs.Check.{Row, criticalOk}
 use Rattle.message.specs.Show.{idsAt}
 use Rattle.message.proofs.Tables.{AllTrue, without, fails-other}
+use Rattle.message.proofs.Ids.{length-ids}
 use Rattle.put.specs.Put.{put}
 use Rattle.elements.specs.Elements.{itemsFit, itemsOf, ordinary}
 use Rattle.elements.proofs.Views.{handed, types-alone}
@@ -67,11 +68,6 @@ ids-sized (suc n) a h s m = elim (List·Memᴰ·cases-cons m) [
   | inl e ↦ ap length e ∙ length-take-le 16 a (omega arith)
   | inr i ↦ ids-sized n (drop 16 a) (omega (arith, length-drop 16 a)) s i
 ]
-
-length-idsAt : (n : ℕ) (a : List ℕ) → length (idsAt n a) ≡ n
-unfolding idsAt
-length-idsAt zero a = refl
-length-idsAt (suc n) a = ap suc (length-idsAt n (drop 16 a))
 
 either : (c : Contents) (kind : ℕ) (a : Bool) → hasKind c (typeOf true kind) ≡ true → hasKind c (typeOf false kind) ≡ true → hasKind c (typeOf a kind) ≡ true
 either c kind true e f = e
@@ -151,7 +147,7 @@ module _ (r : Record) (d : List ℕ) (arrays : Arrays r) where
   now-sized : AllTrue (limitRows r) → schemeAllowed r ≡ true → length (schemeAt r (schemeNow r)) ≡ 16
   now-sized limits allowed =
       let low : schemeNow r < r .count = now-below r allowed in
-      sized-at (ownOf r) (own-sized limits) (schemeNow r) (rw (length-idsAt (r .count) (r .list)) low)
+      sized-at (ownOf r) (own-sized limits) (schemeNow r) (rw (length-ids (r .count) (r .list)) low)
 
   pub listed-whole : AllTrue (limitRows r) → length (take (16 * r .count) (r .list)) % 16 ≡ 0
   listed-whole limits =

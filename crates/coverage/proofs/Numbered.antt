@@ -17,7 +17,7 @@ use Rattle.message.proofs.Shapes.{shape-nego, shape-exchange, shape-verify, sha
 use Rattle.coverage.specs.Coverage.{headerIn, vectorsIn, noVector, vectorIn}
 
 -- ---- the values of an array
-values-length : (n : ℕ) (a : List ℕ) (at : ℕ) → length (valuesOf (elementsAt n a at)) ≡ n
+pub values-length : (n : ℕ) (a : List ℕ) (at : ℕ) → length (valuesOf (elementsAt n a at)) ≡ n
 unfolding elementsAt
 values-length zero a at = refl
 values-length (suc n) a at = ap suc (values-length n a (at + 12))

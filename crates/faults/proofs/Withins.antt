@@ -1,6 +1,6 @@
 -- The field at fault lies in what is left of the token.
 -- Assumes nothing.
-use Prim.Native.Nat.{ℕ, zero, suc, _+_, _*_, _-_, _/_, _<_, _≤_}
+use Prim.Native.Nat.{ℕ, _+_, _*_, _-_, _/_, _<_, _≤_}
 use mathlib.Core.Path.{_≡_, refl, sym, ap, subst, _∙_}
 use mathlib.Core.Bool.{Bool, true, false, not, _&&_}
 use mathlib.Core.Logic.{_⊎_, inl, inr}
@@ -14,7 +14,7 @@ use Rattle.octets.proofs.Bools.{which, no-true}
 use Rattle.octets.specs.Octets.{le, signed32, negative}
 use Rattle.vector.specs.declared.Vector.{Vector}
 use Rattle.vector.specs.Vector.{extent, part}
-use Rattle.message.specs.Layout.{Shape, nego, exchange, verify, alert, shapeOf, headerOf, Head, headOf, Element, elementsAt, elementsOf, valuesOf, extensionVector, alertVector, contentOf, vectorsOf, size, front}
+use Rattle.message.specs.Layout.{Shape, nego, exchange, verify, alert, shapeOf, headerOf, Head, headOf, Element, elementsOf, extensionVector, alertVector, contentOf, vectorsOf, size, front}
 use Rattle.message.specs.Check.{FirstFails, commonRows, allPass, allKeepRule, noneCritical, contentRows, bodyRows, frontRows}
 use Rattle.message.specs.Show.{firstOf}
 use Rattle.message.proofs.Tables.{giving}
@@ -28,15 +28,11 @@ use Rattle.faults.specs.Faults.{spot, firstBroken, vectorSpot, brokenSpo
 use Rattle.faults.specs.Claims.{Within, FaultWithin}
 use Rattle.faults.proofs.Spots.{elements-length, at-3, at-4, at-5, at-6, at-7, at-8, at-10, at-11, at-12, at-13}
 use Rattle.faults.proofs.First.{broken-few, broken-is, second-keeps, critical-is, checksum-header-is, checksum-scheme-is}
+use Rattle.coverage.proofs.Numbered.{values-length}
 
 -- element j of an array that stands in the message ends in it
 element-ends : (m : List ℕ) (v : Vector) (j : ℕ) → j < length (part m v) / 12 → v .offset .0 + 12 * j + 12 ≤ length m
 element-ends m v j h = omega (arith, length-take (extent v) (drop (v .offset .0) m), length-drop (v .offset .0) m)
-
-values-length : (n : ℕ) (a : List ℕ) (at : ℕ) → length (valuesOf (elementsAt n a at)) ≡ n
-unfolding elementsAt
-values-length zero a at = refl
-values-length (suc n) a at = ap suc (values-length n a (at + 12))
 
 -- ---- where a vector's offset and size stand
 vector-within : (shape : Shape) (m : List ℕ) (k : ℕ) → headerOf shape ≤ length m → k < length (vectorsOf (contentOf shape m)) → Within (vectorSpot shape m k) (length m)

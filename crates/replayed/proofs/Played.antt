@@ -7,11 +7,11 @@ use mathlib.Core.List.{List, [], _∷_, _++_, append-assoc, append-nil}
 use native.Mathlib.Omega.{arith}
 use lib.ListN.{length, take, length-append}
 use Rattle.token.specs.Split.{join}
+use Rattle.token.proofs.Joins.{join-append}
 use Rattle.put.specs.Put.{put}
 use Rattle.put.proofs.Laws.{length-put}
 use Rattle.conversation.specs.declared.Record.{Record}
 use Rattle.conversation.specs.Runs.{isAccepted}
-use Rattle.conversation.proofs.Messages.{join-append}
 use Rattle.conversation.proofs.Logs.{put-end}
 use Rattle.sides.specs.Merging.{Turn}
 use Rattle.sides.specs.Replay.{Case, Sides, sideOf, withSides, finished, outcomeOf, soPlayed, playFrom}

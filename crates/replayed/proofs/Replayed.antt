@@ -14,6 +14,7 @@ use Rattle.octets.proofs.Bools.{which, no-true}
 use Rattle.message.specs.Layout.{headOf}
 use Rattle.message.specs.Show.{idsOf}
 use Rattle.token.specs.Split.{join}
+use Rattle.token.proofs.Joins.{join-append}
 use Rattle.roundtrip.proofs.RoundTrip.{ids-joined}
 use Rattle.schemes.specs.Lists.{Id, oneTo16, wholeIds, listOk, joinIds}
 use Rattle.schemes.specs.Sets.{below}
@@ -28,7 +29,6 @@ use Rattle.conversation.proofs.Decides.{first-none}
 use Rattle.conversation.proofs.Accepted.{refused-stays}
 use Rattle.conversation.proofs.Ends.{each-whole, length-joined, count-joined, opening-fresh}
 use Rattle.conversation.proofs.Inside.{limits-counts}
-use Rattle.conversation.proofs.Messages.{join-append}
 use Rattle.conversation.proofs.Demand.{all-sized}
 use Rattle.conversation.proofs.Logs.{Both, both-next, both-opened, every-run}
 use Rattle.sides.specs.Merging.{Turn, token, messagesOf, turnsOf}

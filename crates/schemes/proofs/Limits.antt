@@ -42,7 +42,7 @@ module _ (ks : List ℕ) (sized : length ks ≡ 16) (n k m : ℕ) (x : Bool) (in
 pub ruleset limits = (asked, unasked, below-end, below-stop, below-pass)
 
 -- ---- for callers: the places that an end keeps lie inside its list
-abbrev AllBelow : ℕ → List ℕ → Type 0
+abbrev pub AllBelow : ℕ → List ℕ → Type 0
 AllBelow n [] = Unit {0}
 AllBelow n (p ∷ ps) = (p < n) × AllBelow n ps
 
