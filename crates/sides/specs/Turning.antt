@@ -76,13 +76,13 @@ afterFirst false (whole n c) = halted 28 0
 unfoldable pub heardTurn : Bool → Record → List ℕ → List ℕ → Outcome
 heardTurn ok r d t = decide (limitRows r ++ tokenRows r (length t)) r d (finish r d t (afterFirst ok (judged r t)))
 
--- as the calls that write a message of this kind, and name this scheme
+-- as the calls that write a message of this class, and name this scheme
 abbrev pub saidAs : Record → ℕ → Id → WrittenAs
-saidAs w kind id = record {
+saidAs w class id = record {
   marks = w .marks;
-  metadata = cond (eqb kind METADATA && ltb (place (ownOf w) id) (w .count)) (withBit (w .metadata) (place (ownOf w) id)) (w .metadata);
-  requested = cond (eqb kind EXCHANGE && eqb (writes w) FIRST) 0 (w .requested);
-  attested = eqb kind VERIFY || w .attested;
+  metadata = cond (eqb class METADATA && ltb (place (ownOf w) id) (w .count)) (withBit (w .metadata) (place (ownOf w) id)) (w .metadata);
+  requested = cond (eqb class EXCHANGE && eqb (writes w) FIRST) 0 (w .requested);
+  attested = eqb class VERIFY || w .attested;
 }
 
 unfoldable pub said : Record → List ℕ → Record
