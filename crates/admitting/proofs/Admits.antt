@@ -38,20 +38,27 @@ chosen-now token place chosen e = rw (eq-eqb _ _ e)
 pub chosen-before : (token place chosen : ℕ) → (token ≡ 2 → ⊥) → chosen ≡ cond (eqb token 2) place chosen
 chosen-before token place chosen e = rw (ne-eqb _ _ e)
 
-module _ (r : Record) (c : Scan) (h : Bool) (kind position : ℕ) (id : List ℕ) (h-is : h ≡ confirmedFor r c id) (p : ℕ) (p-is : p ≡ place (ownOf r) id) (token : ℕ) (token-is : token ≡ reads r) where
-  pub carried : (a : ℕ) → a ≡ cond (eqb kind 2) (c .named + 1) (c .named) → (b : ℕ) → b ≡ cond (eqb kind 3 && eqb token 0) p (c .requested) → (d : ℕ) → d ≡ cond (eqb token 2) p (c .chosen) → (e : Bool) → e ≡ (h || eqb kind 4) → _≡_ {A = Scan} (record { position = position; named = a; requested = b; chosen = d; confirmed = e }) (passed r c kind position id)
+module _ (r : Record) (c : Scan) (h : Bool) (kind position : ℕ) (id : List ℕ) (h-is : h ≡ confirmedFor r c id) (p : ℕ) (p-is : p ≡ place (ownOf r) id)
+    (token : ℕ) (token-is : token ≡ reads r) where
+  pub carried : (a : ℕ) → a ≡ cond (eqb kind 2) (c .named + 1) (c .named) → (b : ℕ) → b ≡ cond (eqb kind 3 && eqb token 0) p (c .requested) → (d : ℕ)
+      → d ≡ cond (eqb token 2) p (c .chosen) → (e : Bool) → e ≡ (h || eqb kind 4)
+      → _≡_ {A = Scan} (record { position = position; named = a; requested = b; chosen = d; confirmed = e }) (passed r c kind position id)
   unfolding passed
   carried a a-is b b-is d d-is e e-is = rw (← p-is, ← token-is, ← h-is) (rw (a-is, b-is, d-is, e-is))
 
 pub ruleset carryings = (named-more, named-same, requested-now, requested-before, requested-other, chosen-now, chosen-before, carried)
 
-module _ (r : Record) (t : List ℕ) (c : Scan) (m : List ℕ) (number : ℕ) (number-is : number ≡ le 4 m 8) (kind : ℕ) (kind-is : kind ≡ classOf (not (r .acceptor)) number) (token : ℕ) (token-is : token ≡ reads r) (h : Bool) (h-is : h ≡ confirmedFor r c (schemeIn m)) (position : ℕ) (position-is : position ≡ after token (c .position) h kind) where
+module _ (r : Record) (t : List ℕ) (c : Scan) (m : List ℕ) (number : ℕ) (number-is : number ≡ le 4 m 8) (kind : ℕ)
+    (kind-is : kind ≡ classOf (not (r .acceptor)) number) (token : ℕ) (token-is : token ≡ reads r) (h : Bool)
+    (h-is : h ≡ confirmedFor r c (schemeIn m)) (position : ℕ) (position-is : position ≡ after token (c .position) h kind) where
   by-kind : admit r t c m ≡ admitClass r t c m kind
   unfolding admit headOf
   by-kind = ap (admitClass r t c m) (sym (kind-is ∙ ap (classOf (not (r .acceptor))) number-is))
 
   by-place : after (reads r) (c .position) (confirmedFor r c (schemeIn m)) kind ≡ position
-  by-place = ap (λ (k : ℕ). after k (c .position) (confirmedFor r c (schemeIn m)) kind) (sym token-is) ∙ ap (λ (b : Bool). after token (c .position) b kind) (sym h-is) ∙ sym position-is
+  by-place =
+      ap (λ (k : ℕ). after k (c .position) (confirmedFor r c (schemeIn m)) kind) (sym token-is)
+      ∙ ap (λ (b : Bool). after token (c .position) b kind) (sym h-is) ∙ sym position-is
 
   pub admit-14 : position ≡ 0 → stop 14 ≡ admit r t c m
   admit-14 e = sym (by-kind ∙ rw (by-place, eq-eqb _ _ e))

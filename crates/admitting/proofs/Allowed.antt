@@ -25,7 +25,8 @@ use Rattle.admitting.specs.Admissions.{listedIn}
 use Rattle.admitting.proofs.Lists.{listed-by}
 
 -- an id of a list, where it stands
-pub at-part : (l id : List ℕ) (k : ℕ) (b : Bool) → b ≡ sameId id (take (16 * k + 16 - 16 * k) (drop (16 * k) l)) → b ≡ sameId id (octets 16 l (16 * k))
+pub at-part : (l id : List ℕ) (k : ℕ) (b : Bool) → b ≡ sameId id (take (16 * k + 16 - 16 * k) (drop (16 * k) l))
+    → b ≡ sameId id (octets 16 l (16 * k))
 at-part l id k b e = let n : 16 * k + 16 - 16 * k ≡ 16 = omega arith in e ∙ ap (λ (j : ℕ). sameId id (take j (drop (16 * k) l))) n
 
 -- the own scheme at a place

@@ -30,12 +30,14 @@ kept-at : (f : ℕ → Bool) (s : List ℕ) (at i : ℕ) → i < length s → ge
 unfolding kept
 kept-at f [] at i h = absurd (omega arith)
 kept-at f (x ∷ s) at zero h = ap (λ (n : ℕ). cond (f n) x 0) (sym (add-zero at))
-kept-at f (x ∷ s) at (suc i) h = let z : at + 1 + i ≡ at + suc i = omega arith in kept-at f s (at + 1) i (omega arith) ∙ ap (λ (n : ℕ). cond (f n) (getD s i 0) 0) z
+kept-at f (x ∷ s) at (suc i) h =
+    let z : at + 1 + i ≡ at + suc i = omega arith in kept-at f s (at + 1) i (omega arith) ∙ ap (λ (n : ℕ). cond (f n) (getD s i 0) 0) z
 
 kept-yes : (f : ℕ → Bool) (s : List ℕ) (p : ℕ) → f p ≡ true → getD (kept f s 0) p 0 ≡ getD s p 0
 kept-yes f s p e = elim (which (ltb p (length s))) [
   | inl w ↦ let z : 0 + p ≡ p = omega arith in kept-at f s 0 p (ltb-true _ _ w) ∙ ap (λ (n : ℕ). cond (f n) (getD s p 0) 0) z ∙ rw e refl
-  | inr w ↦ let u : length s ≤ p = ltb-false _ _ w in List·getD-eq-default (kept f s 0) 0 (omega (arith, length-kept f s 0)) ∙ sym (List·getD-eq-default s 0 u)
+  | inr w ↦ let u : length s ≤ p =
+      ltb-false _ _ w in List·getD-eq-default (kept f s 0) 0 (omega (arith, length-kept f s 0)) ∙ sym (List·getD-eq-default s 0 u)
 ]
 
 kept-no : (f : ℕ → Bool) (s : List ℕ) (p : ℕ) → f p ≡ false → getD (kept f s 0) p 0 ≡ 0
@@ -67,10 +69,11 @@ kept-append f (x ∷ a) b at =
 kept-kept : (f : ℕ → Bool) (s : List ℕ) (at : ℕ) → kept f (kept f s at) at ≡ kept f s at
 unfolding kept
 kept-kept f [] at = refl
-kept-kept f (x ∷ s) at = ap (λ (l : List ℕ). cond (f at) (cond (f at) x 0) 0 ∷ l) (kept-kept f s (at + 1)) ∙ ap (λ (y : ℕ). y ∷ kept f s (at + 1)) (go (f at)) where
-  go : (b : Bool) → cond b (cond b x 0) 0 ≡ cond b x 0
-  go true = refl
-  go false = refl
+kept-kept f (x ∷ s) at =
+    ap (λ (l : List ℕ). cond (f at) (cond (f at) x 0) 0 ∷ l) (kept-kept f s (at + 1)) ∙ ap (λ (y : ℕ). y ∷ kept f s (at + 1)) (go (f at)) where
+      go : (b : Bool) → cond b (cond b x 0) 0 ≡ cond b x 0
+      go true = refl
+      go false = refl
 
 -- ---- message by message
 abbrev pub blankAll : List (List ℕ) → List ℕ
@@ -88,7 +91,8 @@ module _ (p : ℕ) (m : List ℕ) (ms : List (List ℕ)) where
   unfolding coveredIn
   in-first i h =
       let z : p + i - p ≡ 0 + i = omega arith in
-      ap (λ (b : Bool). (liesAt (record { place = p; octets = m }) (p + i) && isCovered m (p + i - p)) || b) (before-first (p + length m) ms (p + i) (omega arith))
+      ap (λ (b : Bool). (liesAt (record { place = p; octets = m }) (p + i) && isCovered m (p + i - p)) || b)
+      (before-first (p + length m) ms (p + i) (omega arith))
       ∙ ap (λ (n : ℕ). (liesAt (record { place = p; octets = m }) (p + i) && isCovered m n) || false) z
       ∙ ap (λ (b : Bool). (b && isCovered m (0 + i)) || false) here
       ∙ or-false (isCovered m (0 + i)) where
@@ -107,9 +111,11 @@ pub kept-messages : (p : ℕ) (ms : List (List ℕ)) → kept (coveredIn (placed
 kept-messages p [] = unfold kept in refl
 kept-messages p (m ∷ ms) =
     kept-append (coveredIn (placedFrom p (m ∷ ms))) m (join ms) p
-    ∙ ap (λ (l : List ℕ). l ++ kept (coveredIn (placedFrom p (m ∷ ms))) (join ms) (p + length m)) (kept-same (coveredIn (placedFrom p (m ∷ ms))) (isCovered m) m p 0 (in-first p m ms))
+    ∙ ap (λ (l : List ℕ). l ++ kept (coveredIn (placedFrom p (m ∷ ms))) (join ms) (p + length m))
+    (kept-same (coveredIn (placedFrom p (m ∷ ms))) (isCovered m) m p 0 (in-first p m ms))
     ∙ ap (λ (l : List ℕ). keptMessage m ++ l)
-    (kept-same (coveredIn (placedFrom p (m ∷ ms))) (coveredIn (placedFrom (p + length m) ms)) (join ms) (p + length m) (p + length m) (λ i h. behind-first p m ms i)
+    (kept-same (coveredIn (placedFrom p (m ∷ ms))) (coveredIn (placedFrom (p + length m) ms)) (join ms) (p + length m) (p + length m)
+    (λ i h. behind-first p m ms i)
     ∙ kept-messages (p + length m) ms)
 
 -- ---- the token
@@ -132,7 +138,8 @@ module _ (s : List ℕ) (ps : List Placed) (e : tokenOf s ≡ Accepted ps) where
   twice : blanked (blanked s) ≡ blanked s
   twice =
       let (qs, (a, views)) = nothing-points-at s (blanked s) ps e length-blanked keeps in
-      let same : (p : ℕ) → coveredIn qs p ≡ coveredIn ps p = λ p. sym (ap (λ (r : Reading). coveredIn (messagesOf r) p) a) ∙ same-covered s (blanked s) ps e length-blanked keeps p ∙ sym (own p) in
+      let same : (p : ℕ) → coveredIn qs p ≡ coveredIn ps p =
+      λ p. sym (ap (λ (r : Reading). coveredIn (messagesOf r) p) a) ∙ same-covered s (blanked s) ps e length-blanked keeps p ∙ sym (own p) in
       ap (λ (r : Reading). blankedBy r (blanked s)) a
       ∙ kept-same (coveredIn qs) (coveredIn ps) (blanked s) 0 0 (λ i h. same (0 + i))
       ∙ ap (λ (l : List ℕ). kept (coveredIn ps) l 0) blanked-is ∙ kept-kept (coveredIn ps) s 0 ∙ sym blanked-is

@@ -25,12 +25,16 @@ use Rattle.blanking.proofs.Sames.{message-room}
 use Rattle.blanking.proofs.Keeps.{length-kept, kept-same, kept-append, in-first, behind-first}
 
 -- what is kept of a mask whose first part stands beside the first message
-kept-first : (p : ℕ) (m : List ℕ) (ms : List (List ℕ)) (a b : List ℕ) → length a ≡ length m → kept (coveredIn (placedFrom p (m ∷ ms))) (a ++ b) p ≡ kept (isCovered m) a 0 ++ kept (coveredIn (placedFrom (p + length m) ms)) b (p + length m)
+kept-first : (p : ℕ) (m : List ℕ) (ms : List (List ℕ)) (a b : List ℕ) → length a ≡ length m
+    → kept (coveredIn (placedFrom p (m ∷ ms))) (a ++ b) p ≡ kept (isCovered m) a 0 ++ kept (coveredIn (placedFrom (p + length m) ms)) b (p + length m)
 kept-first p m ms a b e =
     kept-append (coveredIn (placedFrom p (m ∷ ms))) a b p
-    ∙ ap (λ (l : List ℕ). l ++ kept (coveredIn (placedFrom p (m ∷ ms))) b (p + length a)) (kept-same (coveredIn (placedFrom p (m ∷ ms))) (isCovered m) a p 0 (λ i h. in-first p m ms i (omega arith)))
+    ∙ ap (λ (l : List ℕ). l ++ kept (coveredIn (placedFrom p (m ∷ ms))) b (p + length a))
+    (kept-same (coveredIn (placedFrom p (m ∷ ms))) (isCovered m) a p 0 (λ i h. in-first p m ms i (omega arith)))
     ∙ ap (λ (n : ℕ). kept (isCovered m) a 0 ++ kept (coveredIn (placedFrom p (m ∷ ms))) b (p + n)) e
-    ∙ ap (λ (l : List ℕ). kept (isCovered m) a 0 ++ l) (kept-same (coveredIn (placedFrom p (m ∷ ms))) (coveredIn (placedFrom (p + length m) ms)) b (p + length m) (p + length m) (λ i h. behind-first p m ms i))
+    ∙ ap (λ (l : List ℕ). kept (isCovered m) a 0 ++ l)
+    (kept-same (coveredIn (placedFrom p (m ∷ ms))) (coveredIn (placedFrom (p + length m) ms)) b (p + length m) (p + length m)
+    (λ i h. behind-first p m ms i))
 
 -- ---- `cover_messages`: x is what the walk comes to, d₀ the mask at the start, d the mask so far
 pub record Masking (x token d₀ d : List ℕ) (at : ℕ) : Type 0 where
@@ -128,7 +132,16 @@ module _ (x token d₀ d : List ℕ) (at : ℕ) (on : Masking x token d₀ d at)
         })
 
     pub mask-beside : length (take (at + length m - at) (drop at d)) ≡ length (take (at + length m - at) (drop at token))
-    mask-beside = omega (arith, length-take (at + length m - at) (drop at d), length-take (at + length m - at) (drop at token), length-drop at d, length-drop at token, mask-length)
+    mask-beside =
+        omega (
+          arith,
+          length-take (at + length m - at) (drop at d),
+          length-take (at + length m - at)
+              (drop at token),
+          length-drop at d,
+          length-drop at token,
+          mask-length,
+        )
 
     module _ (y : List ℕ) (y-is : y ≡ kept (isCovered (take (at + length m - at) (drop at token))) (take (at + length m - at) (drop at d)) 0) where
       abbrev next : List ℕ
@@ -173,9 +186,13 @@ module _ (x token d₀ d : List ℕ) (at : ℕ) (on : Masking x token d₀ d at)
         left = here .left;
         done =
             ap (λ (l : List ℕ). l ++ (y ++ drop (at + length m - at) (drop at d))) mask-front
-            ∙ ap (λ (l : List ℕ). take at x ++ (y ++ l)) (ap (λ (n : ℕ). drop n (drop at d)) gone ∙ ap (drop (length m)) mask-rest ∙ drop-drop (length m) at d₀)
+            ∙ ap (λ (l : List ℕ). take at x ++ (y ++ l))
+            (ap (λ (n : ℕ). drop n (drop at d)) gone ∙ ap (drop (length m)) mask-rest ∙ drop-drop (length m) at d₀)
             ∙ sym (append-assoc (take at x) y (drop (at + length m) d₀))
-            ∙ ap (λ (l : List ℕ). l ++ drop (at + length m) d₀) (ap (λ (l : List ℕ). take at x ++ l) (sym (ap (take (length m)) split ∙ take-at y (kept (coveredIn (placedFrom (at + length m) (here .left .ms))) b (at + length m)) (length m) y-length)) ∙ sym (take-add at (length m) x));
+            ∙ ap (λ (l : List ℕ). l ++ drop (at + length m) d₀)
+            (ap (λ (l : List ℕ). take at x ++ l)
+            (sym (ap (take (length m)) split ∙ take-at y (kept (coveredIn (placedFrom (at + length m) (here .left .ms))) b (at + length m))
+            (length m) y-length)) ∙ sym (take-add at (length m) x));
         come =
             sym (drop-drop (length m) at x)
             ∙ ap (drop (length m)) split
@@ -191,19 +208,27 @@ pub ruleset masks = (mask-start, mask-length, mask-end, mask-fits, mask-within, 
 
 -- ---- `cover`
 module _ (s : List ℕ) (r : Answer) (r-is : told r ≡ outcomeOf (tokenOf s)) (d : List ℕ) where
-  pub cover-other : (n : ℕ) → r ≡ answer.Messages n → (length d ≡ length s → ⊥) → _≡_ {A = Blanking} (record { outcome = told (answer.Messages n); octets = d }) (maskingOf s d)
+  pub cover-other : (n : ℕ) → r ≡ answer.Messages n → (length d ≡ length s → ⊥)
+      → _≡_ {A = Blanking} (record { outcome = told (answer.Messages n); octets = d }) (maskingOf s d)
   cover-other n here h =
-      let e : d ≡ maskedBy (tokenOf s) s d = sym (ap (λ (q : Reading). maskedBy q s d) (answer-accepts s r r-is n here) ∙ simp (ne-eqb (length d) (length s) h)) in
-      ap (λ (o : Outcome). record { outcome = o; octets = d }) (sym (ap told here) ∙ r-is) ∙ ap (λ (l : List ℕ). record { outcome = outcomeOf (tokenOf s); octets = l }) e
+      let e : d ≡ maskedBy (tokenOf s) s d =
+      sym (ap (λ (q : Reading). maskedBy q s d) (answer-accepts s r r-is n here) ∙ simp (ne-eqb (length d) (length s) h)) in
+      ap (λ (o : Outcome). record { outcome = o; octets = d }) (sym (ap told here) ∙ r-is)
+      ∙ ap (λ (l : List ℕ). record { outcome = outcomeOf (tokenOf s); octets = l }) e
 
-  pub cover-done : (n : ℕ) → r ≡ answer.Messages n → length d ≡ length s → (x : List ℕ) → x ≡ kept (covered s) d 0 → _≡_ {A = Blanking} (record { outcome = told (answer.Messages n); octets = x }) (maskingOf s d)
+  pub cover-done : (n : ℕ) → r ≡ answer.Messages n → length d ≡ length s → (x : List ℕ) → x ≡ kept (covered s) d 0
+      → _≡_ {A = Blanking} (record { outcome = told (answer.Messages n); octets = x }) (maskingOf s d)
   cover-done n here h x x-is =
-      let e : x ≡ maskedBy (tokenOf s) s d = x-is ∙ sym (ap (λ (q : Reading). maskedBy q s d) (answer-accepts s r r-is n here) ∙ simp (eq-eqb (length d) (length s) h)) in
-      ap (λ (o : Outcome). record { outcome = o; octets = x }) (sym (ap told here) ∙ r-is) ∙ ap (λ (l : List ℕ). record { outcome = outcomeOf (tokenOf s); octets = l }) e
+      let e : x ≡ maskedBy (tokenOf s) s d =
+      x-is ∙ sym (ap (λ (q : Reading). maskedBy q s d) (answer-accepts s r r-is n here) ∙ simp (eq-eqb (length d) (length s) h)) in
+      ap (λ (o : Outcome). record { outcome = o; octets = x }) (sym (ap told here) ∙ r-is)
+      ∙ ap (λ (l : List ℕ). record { outcome = outcomeOf (tokenOf s); octets = l }) e
 
-  pub cover-refused : (n : ℕ) (place : TokenPlace) → r ≡ answer.Refused n place → _≡_ {A = Blanking} (record { outcome = told (answer.Refused n place); octets = d }) (maskingOf s d)
+  pub cover-refused : (n : ℕ) (place : TokenPlace) → r ≡ answer.Refused n place
+      → _≡_ {A = Blanking} (record { outcome = told (answer.Refused n place); octets = d }) (maskingOf s d)
   cover-refused n place here =
       let e : d ≡ maskedBy (tokenOf s) s d = sym (ap (λ (q : Reading). maskedBy q s d) (answer-refuses s r r-is n place here)) in
-      ap (λ (o : Outcome). record { outcome = o; octets = d }) (sym (ap told here) ∙ r-is) ∙ ap (λ (l : List ℕ). record { outcome = outcomeOf (tokenOf s); octets = l }) e
+      ap (λ (o : Outcome). record { outcome = o; octets = d }) (sym (ap told here) ∙ r-is)
+      ∙ ap (λ (l : List ℕ). record { outcome = outcomeOf (tokenOf s); octets = l }) e
 
 pub ruleset covering = (answer-accepts, cover-other, cover-done, cover-refused)

@@ -34,7 +34,8 @@ module _ (m t : List ℕ) where
   octets-same sized n at h =
       ext-getD 0 _ _ (simp (length-take, length-drop, sized))
       (λ i w. let u : i < n = omega (arith, length-take n (drop at t)) in
-      getD-take n (drop at t) i 0 u ∙ getD-drop at t i 0 ∙ h (at + i) (omega arith) (omega arith) ∙ sym (getD-take n (drop at m) i 0 u ∙ getD-drop at m i 0))
+      getD-take n (drop at t) i 0 u ∙ getD-drop at t i 0 ∙ h (at + i) (omega arith) (omega arith)
+      ∙ sym (getD-take n (drop at m) i 0 u ∙ getD-drop at m i 0))
 
   -- all that a layout says stands in a few stretches of its header and in its vectors
   module _ (sized : length t ≡ length m) (from k : ℕ) (h : Same m t from k) where
@@ -57,10 +58,12 @@ module _ (m t : List ℕ) where
   unfolding shown
   shown-same sized header v h = simp (sized, part-same sized v h)
 
-  pub all-shown-same : length t ≡ length m → (header : ℕ) (vs : List Vector) → ((v : Vector) → List·Memᴰ v vs → Same m t (v .offset .0) (extent v)) → allShown header t vs ≡ allShown header m vs
+  pub all-shown-same : length t ≡ length m → (header : ℕ) (vs : List Vector) → ((v : Vector) → List·Memᴰ v vs → Same m t (v .offset .0) (extent v))
+      → allShown header t vs ≡ allShown header m vs
   unfolding allShown
   all-shown-same sized header [] h = refl
-  all-shown-same sized header (v ∷ vs) h = simp (shown-same sized header v (h v (List·Memᴰ·head refl)), all-shown-same sized header vs (λ w i. h w (List·Memᴰ·tail i)))
+  all-shown-same sized header (v ∷ vs) h =
+      simp (shown-same sized header v (h v (List·Memᴰ·head refl)), all-shown-same sized header vs (λ w i. h w (List·Memᴰ·tail i)))
 
 -- ---- what is covered
 or-l : (a b : Bool) → a ≡ true → a || b ≡ true
@@ -96,7 +99,8 @@ alert-low i h = rw (lt-leb 66 i h, lt-leb 68 i (omega arith))
 module _ (m t : List ℕ) (sized : length t ≡ length m) (agree : (i : ℕ) → isCovered m i ≡ true → getD t i 0 ≡ getD m i 0) where
   in-vector : (v : Vector) → List·Memᴰ v (vectorsIn m) → Same m t (v .offset .0) (extent v)
   unfolding liesIn
-  in-vector v j i p q = agree i (or-r (inHeader m i && not (inPad m i)) (inVector m i) (lies-one (vectorsIn m) v j i (rw (le-leb _ _ p, lt-ltb _ _ q))))
+  in-vector v j i p q =
+      agree i (or-r (inHeader m i && not (inPad m i)) (inVector m i) (lies-one (vectorsIn m) v j i (rw (le-leb _ _ p, lt-ltb _ _ q))))
 
   -- a message of a given layout that has its header
   module _ (shape : Shape) (is : shapeOf (headOf m .kind) ≡ shape) (room : headerOf shape ≤ length m) where
@@ -129,14 +133,27 @@ module _ (m t : List ℕ) (sized : length t ≡ length m) (agree : (i : ℕ) →
   unfolding contentOf liesInPad
   exchange-same is room =
       let a : Same m t 0 64 = λ i p q. in-header exchange is room i (omega arith) refl in
-      simp (id m t sized 0 64 a 16 40 (omega arith) (omega arith), number m t sized 0 64 a 4 56 (omega arith) (omega arith), number m t sized 0 64 a 4 60 (omega arith) (omega arith))
+      simp (
+        id m t sized 0 64 a 16 40 (omega arith) (omega arith),
+        number m t sized 0 64 a 4 56 (omega arith)
+            (omega arith),
+        number m t sized 0 64 a 4 60 (omega arith) (omega arith),
+      )
 
   verify-same : shapeOf (headOf m .kind) ≡ verify → 80 ≤ length m → contentOf verify t ≡ contentOf verify m
   unfolding contentOf
   verify-same is room =
       let a : Same m t 0 76 = λ i p q. in-header verify is room i (omega arith) (verify-low i (omega arith)) in
       let n : (at : ℕ) → at + 4 ≤ 76 → le 4 t at ≡ le 4 m at = λ at w. number m t sized 0 76 a 4 at (omega arith) (omega arith) in
-      simp (id m t sized 0 76 a 16 40 (omega arith) (omega arith), n 56 (omega arith), n 60 (omega arith), n 64 (omega arith), n 68 (omega arith), n 72 (omega arith))
+      simp (
+        id m t sized 0 76 a 16 40 (omega arith) (omega arith),
+        n 56 (omega arith),
+        n 60 (omega arith),
+        n 64 (omega arith),
+        n 68
+            (omega arith),
+        n 72 (omega arith),
+      )
 
   alert-same : shapeOf (headOf m .kind) ≡ alert → 72 ≤ length m → contentOf alert t ≡ contentOf alert m
   unfolding contentOf vectorsOf
@@ -195,7 +212,8 @@ module _ (m t : List ℕ) (sized : length t ≡ length m) (agree : (i : ℕ) →
 pub message-room : (q : ℕ) (v m : List ℕ) → Message q v m → headerIn m ≤ length m
 message-room q v m e = let z = passes-sized m q v (e .pass) in omega (arith, z, e .exact)
 
-module _ (q : ℕ) (v m t : List ℕ) (e : Message q v m) (sized : length t ≡ length m) (agree : (i : ℕ) → isCovered m i ≡ true → getD t i 0 ≡ getD m i 0) where
+module _ (q : ℕ) (v m t : List ℕ) (e : Message q v m) (sized : length t ≡ length m)
+    (agree : (i : ℕ) → isCovered m i ≡ true → getD t i 0 ≡ getD m i 0) where
   room : headerIn m ≤ length m
   room = message-room q v m e
 

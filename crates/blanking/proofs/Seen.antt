@@ -71,12 +71,14 @@ module _ (m t : List ℕ) (mo : AllOctets m) (to : AllOctets t) where
   vector-seen : (n at : ℕ) → vectorAt n t at ≡ vectorAt n m at → Between m t at (at + 6)
   vector-seen n at e =
       let z : at + 4 + 2 ≡ at + 6 = omega arith in
-      next m t at (at + 4) (at + 6) (number-seen 4 at (ap (λ (v : Vector). v .offset .0) e)) (subst (Between m t (at + 4)) z (number-seen 2 (at + 4) (ap (λ (v : Vector). v .count) e)))
+      next m t at (at + 4) (at + 6) (number-seen 4 at (ap (λ (v : Vector). v .offset .0) e))
+      (subst (Between m t (at + 4)) z (number-seen 2 (at + 4) (ap (λ (v : Vector). v .count) e)))
 
   octet-vector-seen : (at : ℕ) → octetVector t at ≡ octetVector m at → Between m t at (at + 8)
   octet-vector-seen at e =
       let z : at + 4 + 4 ≡ at + 8 = omega arith in
-      next m t at (at + 4) (at + 8) (number-seen 4 at (ap (λ (v : Vector). v .offset .0) e)) (subst (Between m t (at + 4)) z (number-seen 4 (at + 4) (ap (λ (v : Vector). v .count) e)))
+      next m t at (at + 4) (at + 8) (number-seen 4 at (ap (λ (v : Vector). v .offset .0) e))
+      (subst (Between m t (at + 4)) z (number-seen 4 (at + 4) (ap (λ (v : Vector). v .count) e)))
 
   head-seen : headOf t ≡ headOf m → Between m t 0 40
   unfolding headOf
@@ -95,8 +97,11 @@ module _ (m t : List ℕ) (mo : AllOctets m) (to : AllOctets t) where
       let random : octets 32 t 40 ≡ octets 32 m 40 = cc in
       let version : le 8 t 72 ≡ le 8 m 72 = cc in
       let schemes : schemeVector t ≡ schemeVector m = cc in
-      let extensions : extensionVector t ≡ extensionVector m = cc in
-      (next m t 40 72 86 (octets-seen 32 40 random) (next m t 72 80 86 (number-seen 8 72 version) (vector-seen 16 80 schemes)), vector-seen 12 88 extensions)
+      let extensions : extensionVector t ≡ extensionVector m = cc in (
+        next m t 40 72 86 (octets-seen 32 40 random) (next m t 72 80 86 (number-seen 8 72 version) (vector-seen 16 80 schemes)),
+        vector-seen 12 88
+            extensions,
+      )
 
   exchange-seen : contentOf exchange t ≡ contentOf exchange m → Between m t 40 64
   unfolding contentOf
@@ -114,7 +119,8 @@ module _ (m t : List ℕ) (mo : AllOctets m) (to : AllOctets t) where
       let type : le 4 t 64 ≡ le 4 m 64 = cc in
       let value : checksumVector t ≡ checksumVector m = cc in
       next m t 40 56 76 (octets-seen 16 40 scheme)
-      (next m t 56 60 76 (number-seen 4 56 length) (next m t 60 64 76 (number-seen 4 60 checksum) (next m t 64 68 76 (number-seen 4 64 type) (octet-vector-seen 68 value))))
+      (next m t 56 60 76 (number-seen 4 56 length)
+      (next m t 60 64 76 (number-seen 4 60 checksum) (next m t 64 68 76 (number-seen 4 64 type) (octet-vector-seen 68 value))))
 
   alert-seen : contentOf alert t ≡ contentOf alert m → Between m t 40 66
   unfolding contentOf
@@ -165,7 +171,8 @@ module _ (m t : List ℕ) (mo : AllOctets m) (to : AllOctets t) (head : headOf t
     ]
   ]
 
-  header-seen : (shape : Shape) → contentOf shape t ≡ contentOf shape m → (i : ℕ) → i < headerOf shape → liesInPad (padsOf shape) i ≡ false → getD t i 0 ≡ getD m i 0
+  header-seen : (shape : Shape) → contentOf shape t ≡ contentOf shape m → (i : ℕ) → i < headerOf shape → liesInPad (padsOf shape) i ≡ false
+      → getD t i 0 ≡ getD m i 0
   header-seen nego e i h free = nego-header e i h free
   header-seen exchange e i h free = next m t 0 40 64 (head-seen m t mo to head) (exchange-seen m t mo to e) i (omega arith) h
   header-seen verify e i h free = verify-header e i h free
@@ -177,7 +184,8 @@ unfolding liesIn
 lies-bounds v i e = let b = both (leb (v .offset .0) i) (ltb i (v .offset .0 + extent v)) e in (leb-true _ _ (b .0), ltb-true _ _ (b .1))
 
 module _ (header : ℕ) (m t : List ℕ) (mo : AllOctets m) (to : AllOctets t) (sized : length t ≡ length m) where
-  shown-seen : (v : Vector) → keepsRule header (length m) v ≡ true → shown header t v ≡ shown header m v → (i : ℕ) → liesIn v i ≡ true → getD t i 0 ≡ getD m i 0
+  shown-seen : (v : Vector) → keepsRule header (length m) v ≡ true → shown header t v ≡ shown header m v → (i : ℕ) → liesIn v i ≡ true
+      → getD t i 0 ≡ getD m i 0
   unfolding shown
   shown-seen v k e i l =
       let b = lies-bounds v i l in
@@ -185,12 +193,15 @@ module _ (header : ℕ) (m t : List ℕ) (mo : AllOctets m) (to : AllOctets t) (
       let p : part t v ≡ part m v = rw (u, k) at e in
       octets-seen m t mo to (extent v) (v .offset .0) p i (b .0) (b .1)
 
-  vectors-seen : (vs : List Vector) → allKeepRule header (length m) vs ≡ true → allShown header t vs ≡ allShown header m vs → (i : ℕ) → liesInOne vs i ≡ true → getD t i 0 ≡ getD m i 0
+  vectors-seen : (vs : List Vector) → allKeepRule header (length m) vs ≡ true → allShown header t vs ≡ allShown header m vs → (i : ℕ)
+      → liesInOne vs i ≡ true → getD t i 0 ≡ getD m i 0
   unfolding allKeepRule allShown liesInOne
   vectors-seen [] k e i l = no-true l
   vectors-seen (v ∷ vs) k e i l = elim (which (liesIn v i)) [
-    | inl w ↦ let h : shown header t v ≡ shown header m v = cc in shown-seen v (both (keepsRule header (length m) v) (allKeepRule header (length m) vs) k .0) h i w
-    | inr w ↦ let h : allShown header t vs ≡ allShown header m vs = cc in vectors-seen vs (both (keepsRule header (length m) v) (allKeepRule header (length m) vs) k .1) h i (rw w at l)
+    | inl w ↦ let h : shown header t v ≡ shown header m v =
+        cc in shown-seen v (both (keepsRule header (length m) v) (allKeepRule header (length m) vs) k .0) h i w
+    | inr w ↦ let h : allShown header t vs ≡ allShown header m vs =
+        cc in vectors-seen vs (both (keepsRule header (length m) v) (allKeepRule header (length m) vs) k .1) h i (rw w at l)
   ]
 
 -- ---- a message
@@ -235,7 +246,9 @@ module _ (q k : ℕ) (v c m t : List ℕ) (em : Message q v m) (et : Message k c
 
   message-seen : (i : ℕ) → isCovered m i ≡ true → getD t i 0 ≡ getD m i 0
   message-seen i e = elim (or-case (inHeader m i && not (inPad m i)) (inVector m i) e) [
-    | inl w ↦ let b = both (inHeader m i) (not (inPad m i)) w in header-seen m t mo to (same .head) (shapeOf (headOf m .kind)) same-content i (ltb-true _ _ (b .0)) (not-true _ (b .1))
+    | inl w ↦ let b =
+        both (inHeader m i) (not (inPad m i)) w in
+        header-seen m t mo to (same .head) (shapeOf (headOf m .kind)) same-content i (ltb-true _ _ (b .0)) (not-true _ (b .1))
     | inr w ↦ vectors-seen (headerIn m) m t mo to same-length (vectorsIn m) (message-rule q v m em) same-shown i w
   ]
 
@@ -254,22 +267,26 @@ abbrev Seen : ℕ → List (List ℕ) → List (List ℕ) → Type 0
 Seen p ms ns = (i : ℕ) → coveredIn (placedFrom p ms) i ≡ true → getD (join ns) (i - p) 0 ≡ getD (join ms) (i - p) 0
 
 module _ (p : ℕ) (m t : List ℕ) (ms ns : List (List ℕ)) (sized : length t ≡ length m) where
-  in-first : ((i : ℕ) → isCovered m i ≡ true → getD t i 0 ≡ getD m i 0) → (i : ℕ) → p ≤ i → i < p + length m → isCovered m (i - p) ≡ true → getD (t ++ join ns) (i - p) 0 ≡ getD (m ++ join ms) (i - p) 0
+  in-first : ((i : ℕ) → isCovered m i ≡ true → getD t i 0 ≡ getD m i 0) → (i : ℕ) → p ≤ i → i < p + length m → isCovered m (i - p) ≡ true
+      → getD (t ++ join ns) (i - p) 0 ≡ getD (m ++ join ms) (i - p) 0
   in-first h i a b c =
       List·getD-append t (join ns) 0 (i - p) (omega arith) ∙ h (i - p) c ∙ sym (List·getD-append m (join ms) 0 (i - p) (omega arith))
 
-  behind-first : Seen (p + length m) ms ns → (i : ℕ) → coveredIn (placedFrom (p + length m) ms) i ≡ true → getD (t ++ join ns) (i - p) 0 ≡ getD (m ++ join ms) (i - p) 0
+  behind-first : Seen (p + length m) ms ns → (i : ℕ) → coveredIn (placedFrom (p + length m) ms) i ≡ true
+      → getD (t ++ join ns) (i - p) 0 ≡ getD (m ++ join ms) (i - p) 0
   behind-first h i c = elim (which (ltb i (p + length m))) [
     | inl w ↦ no-true (sym (before-first (p + length m) ms i (ltb-true _ _ w)) ∙ c)
     | inr w ↦ let u = ltb-false i (p + length m) w in
         let j : ℕ = i - (p + length m) in
         let a : i - p ≡ length t + j = omega arith in
         let b : i - p ≡ length m + j = omega arith in
-        ap (λ (n : ℕ). getD (t ++ join ns) n 0) a ∙ getD-append-add t (join ns) j 0 ∙ h i c ∙ sym (ap (λ (n : ℕ). getD (m ++ join ms) n 0) b ∙ getD-append-add m (join ms) j 0)
+        ap (λ (n : ℕ). getD (t ++ join ns) n 0) a ∙ getD-append-add t (join ns) j 0 ∙ h i c
+        ∙ sym (ap (λ (n : ℕ). getD (m ++ join ms) n 0) b ∙ getD-append-add m (join ms) j 0)
   ]
 
 same-view : (p : ℕ) (m t : List ℕ) → viewOf (record { place = p; octets = t }) ≡ viewOf (record { place = p; octets = m }) → SameView m t
-same-view p m t e = record { head = ap (λ (w : View). w .head) e; content = ap (λ (w : View). w .content) e; vectors = ap (λ (w : View). w .vectors) e }
+same-view p m t e =
+    record { head = ap (λ (w : View). w .head) e; content = ap (λ (w : View). w .content) e; vectors = ap (λ (w : View). w .vectors) e }
 
 seen : (p q k : ℕ) (v c : List ℕ) (ms ns : List (List ℕ)) → Numbered q v ms → Numbered k c ns → AllOctets (join ms) → AllOctets (join ns)
     → viewsOf (placedFrom p ns) ≡ viewsOf (placedFrom p ms) → Seen p ms ns
@@ -283,7 +300,9 @@ seen p q k v c (m ∷ ms) (t ∷ ns) em en mo to e i h =
     let mo1 = first-octets m (join ms) mo in
     let to1 = first-octets t (join ns) to in
     let n = same-length q k v c m t (em .0) (en .0) mo1 to1 same in
-    let behind : Seen (p + length m) ms ns = seen (p + length m) (q + 1) (k + 1) v c ms ns (em .1) (en .1) (rest-octets m (join ms) mo) (rest-octets t (join ns) to) (ap (λ (l : ℕ). viewsOf (placedFrom (p + l) ns)) (sym n) ∙ rest) in
+    let behind : Seen (p + length m) ms ns =
+    seen (p + length m) (q + 1) (k + 1) v c ms ns (em .1) (en .1) (rest-octets m (join ms) mo) (rest-octets t (join ns) to)
+    (ap (λ (l : ℕ). viewsOf (placedFrom (p + l) ns)) (sym n) ∙ rest) in
     elim (or-case (liesAt (record { place = p; octets = m }) i && isCovered m (i - p)) (coveredIn (placedFrom (p + length m) ms) i) h) [
       | inl w ↦ let b = both (liesAt (record { place = p; octets = m }) i) (isCovered m (i - p)) w in
           let l = both (leb p i) (ltb i (p + length m)) (b .0) in
@@ -295,9 +314,12 @@ pub covered-seen : CoveredSeen
 covered-seen s t ps qs so to e f views p c =
     let (ms, (split, places)) = accepted-splits s ps e in
     let (ns, (split2, places2)) = accepted-splits t qs f in
-    let told : coveredIn (placedFrom 0 ms) p ≡ true = ap (λ (l : List Placed). coveredIn l p) places ∙ sym (ap (λ (r : Reading). coveredIn (messagesOf r) p) e) ∙ c in
+    let told : coveredIn (placedFrom 0 ms) p ≡ true =
+    ap (λ (l : List Placed). coveredIn l p) places ∙ sym (ap (λ (r : Reading). coveredIn (messagesOf r) p) e) ∙ c in
     let z : p - 0 ≡ p = omega arith in
     let r : getD (join ns) (p - 0) 0 ≡ getD (join ms) (p - 0) 0 =
     seen 0 (headOf s .sequence) (headOf t .sequence) (headOf s .conversation) (headOf t .conversation) ms ns (split .numbered) (split2 .numbered)
-    (subst AllOctets (sym (split .joins)) so) (subst AllOctets (sym (split2 .joins)) to) (ap viewsOf places2 ∙ views ∙ sym (ap viewsOf places)) p told in
-    ap (λ (n : ℕ). getD t n 0) (sym z) ∙ sym (ap (λ (l : List ℕ). getD l (p - 0) 0) (split2 .joins)) ∙ r ∙ ap (λ (l : List ℕ). getD l (p - 0) 0) (split .joins) ∙ ap (λ (n : ℕ). getD s n 0) z
+    (subst AllOctets (sym (split .joins)) so) (subst AllOctets (sym (split2 .joins)) to)
+    (ap viewsOf places2 ∙ views ∙ sym (ap viewsOf places)) p told in
+    ap (λ (n : ℕ). getD t n 0) (sym z) ∙ sym (ap (λ (l : List ℕ). getD l (p - 0) 0) (split2 .joins)) ∙ r
+    ∙ ap (λ (l : List ℕ). getD l (p - 0) 0) (split .joins) ∙ ap (λ (n : ℕ). getD s n 0) z

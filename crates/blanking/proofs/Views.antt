@@ -60,7 +60,9 @@ module _ (p : ℕ) (m : List ℕ) (ms : List (List ℕ)) (t : List ℕ) (sized :
   agree-rest i e =
       let z : p + length m + i ≡ p + (length m + i) = omega arith in
       getD-drop (length m) t i 0
-      ∙ agree (length m + i) (or-r (liesAt (record { place = p; octets = m }) (p + (length m + i)) && isCovered m (p + (length m + i) - p)) (coveredIn (placedFrom (p + length m) ms) (p + (length m + i))) (ap (coveredIn (placedFrom (p + length m) ms)) (sym z) ∙ e))
+      ∙ agree (length m + i)
+      (or-r (liesAt (record { place = p; octets = m }) (p + (length m + i)) && isCovered m (p + (length m + i) - p))
+      (coveredIn (placedFrom (p + length m) ms) (p + (length m + i))) (ap (coveredIn (placedFrom (p + length m) ms)) (sym z) ∙ e))
       ∙ getD-append-add m (join ms) i 0
 
 -- ---- a message shows the same, has the same lines, and the same octets of it are covered
@@ -72,7 +74,8 @@ content-lines m t (Exchange scheme value) h = refl
 content-lines m t (Verify scheme headerLength checksumScheme type value) h = refl
 content-lines m t (Alert scheme code alerts elements) h = refl
 
-module _ (p q : ℕ) (v m t : List ℕ) (e : Message q v m) (sized : length t ≡ length m) (agree : (i : ℕ) → isCovered m i ≡ true → getD t i 0 ≡ getD m i 0) where
+module _ (p q : ℕ) (v m t : List ℕ) (e : Message q v m) (sized : length t ≡ length m)
+    (agree : (i : ℕ) → isCovered m i ≡ true → getD t i 0 ≡ getD m i 0) where
   has-room : headerIn m ≤ length m
   has-room = message-room q v m e
 
@@ -86,7 +89,8 @@ module _ (p q : ℕ) (v m t : List ℕ) (e : Message q v m) (sized : length t �
       ∙ ap (λ (h : Head). messageLine p h ∷ contentLines t (contentIn m)) (head-is m t sized agree has-room)
       ∙ ap (λ (l : List (List (List ℕ))). messageLine p (headOf m) ∷ l) (content-lines m t (contentIn m) (part-is m t sized agree has-room))
 
-  covers-same : (i : ℕ) → (liesAt (record { place = p; octets = t }) i && isCovered t (i - p)) ≡ (liesAt (record { place = p; octets = m }) i && isCovered m (i - p))
+  covers-same : (i : ℕ)
+      → (liesAt (record { place = p; octets = t }) i && isCovered t (i - p)) ≡ (liesAt (record { place = p; octets = m }) i && isCovered m (i - p))
   covers-same i =
       ap (λ (n : ℕ). (leb p i && ltb i (p + n)) && isCovered t (i - p)) sized
       ∙ ap (λ (b : Bool). liesAt (record { place = p; octets = m }) i && b) (covered-is m t sized agree has-room (i - p))
@@ -108,7 +112,8 @@ alike p q v (m ∷ ms) t e sized agree =
     let n = first-length p m ms t sized agree in
     let f = agree-first p m ms t sized agree in
     let r = alike (p + length m) (q + 1) v ms (drop (length m) t) (e .1) (rest-length p m ms t sized agree) (agree-rest p m ms t sized agree) in
-    let at : placedFrom (p + length (take (length m) t)) (r .parts) ≡ placedFrom (p + length m) (r .parts) = ap (λ (k : ℕ). placedFrom (p + k) (r .parts)) n in
+    let at : placedFrom (p + length (take (length m) t)) (r .parts) ≡ placedFrom (p + length m) (r .parts) =
+    ap (λ (k : ℕ). placedFrom (p + k) (r .parts)) n in
     record {
       parts = take (length m) t ∷ r .parts;
       joins = ap (λ (l : List ℕ). take (length m) t ++ l) (r .joins) ∙ take-append-drop (length m) t;
@@ -117,11 +122,14 @@ alike p q v (m ∷ ms) t e sized agree =
           ap (λ (w : View). w ∷ viewsOf (placedFrom (p + length (take (length m) t)) (r .parts))) (view-same p q v m (take (length m) t) (e .0) n f)
           ∙ ap (λ (l : List View). viewOf (record { place = p; octets = m }) ∷ l) (ap viewsOf at ∙ r .views);
       lines =
-          ap (λ (l : List (List (List ℕ))). l ++ allLines (placedFrom (p + length (take (length m) t)) (r .parts))) (lines-same p q v m (take (length m) t) (e .0) n f)
+          ap (λ (l : List (List (List ℕ))). l ++ allLines (placedFrom (p + length (take (length m) t)) (r .parts)))
+          (lines-same p q v m (take (length m) t) (e .0) n f)
           ∙ ap (λ (l : List (List (List ℕ))). messageLines p m ++ l) (ap allLines at ∙ r .lines);
       covers = λ i.
-          ap (λ (b : Bool). b || coveredIn (placedFrom (p + length (take (length m) t)) (r .parts)) i) (covers-same p q v m (take (length m) t) (e .0) n f i)
-          ∙ ap (λ (b : Bool). (liesAt (record { place = p; octets = m }) i && isCovered m (i - p)) || b) (ap (λ (l : List Placed). coveredIn l i) at ∙ r .covers i);
+          ap (λ (b : Bool). b || coveredIn (placedFrom (p + length (take (length m) t)) (r .parts)) i)
+          (covers-same p q v m (take (length m) t) (e .0) n f i)
+          ∙ ap (λ (b : Bool). (liesAt (record { place = p; octets = m }) i && isCovered m (i - p)) || b)
+          (ap (λ (l : List Placed). coveredIn l i) at ∙ r .covers i);
     }
 
 -- ---- the token
@@ -140,7 +148,9 @@ found s t ps e sized agree =
     let r = alike 0 (headOf s .sequence) (headOf s .conversation) ms t (split .numbered) (sized ∙ is) agreed in
     record {
       qs = placedFrom 0 (r .parts);
-      accepted = go (headOf s .sequence) (headOf s .conversation) (r .parts) (r .joins) (r .numbered) (omega (arith, split .short)) (omega (arith, split .some));
+      accepted =
+          go (headOf s .sequence) (headOf s .conversation) (r .parts) (r .joins) (r .numbered) (omega (arith, split .short))
+          (omega (arith, split .some));
       views = r .views ∙ ap viewsOf places;
       lines = r .lines ∙ ap allLines places;
       covers = λ i. r .covers i ∙ ap (λ (l : List Placed). coveredIn l i) places;
@@ -148,9 +158,11 @@ found s t ps e sized agree =
       told : (ms : List (List ℕ)) → placedFrom 0 ms ≡ ps → (i : ℕ) → coveredIn (placedFrom 0 ms) (0 + i) ≡ true → covered s i ≡ true
       told ms places i c =
           let z : 0 + i ≡ i = omega arith in
-          ap (λ (r : Reading). coveredIn (messagesOf r) i) e ∙ ap (λ (l : List Placed). coveredIn l i) (sym places) ∙ ap (coveredIn (placedFrom 0 ms)) (sym z) ∙ c
+          ap (λ (r : Reading). coveredIn (messagesOf r) i) e ∙ ap (λ (l : List Placed). coveredIn l i) (sym places)
+          ∙ ap (coveredIn (placedFrom 0 ms)) (sym z) ∙ c
 
-      go : (q : ℕ) (v : List ℕ) (ns : List (List ℕ)) → join ns ≡ t → Numbered q v ns → length t ≤ 65535 → 0 < length t → tokenOf t ≡ Accepted (placedFrom 0 ns)
+      go : (q : ℕ) (v : List ℕ) (ns : List (List ℕ)) → join ns ≡ t → Numbered q v ns → length t ≤ 65535 → 0 < length t
+          → tokenOf t ≡ Accepted (placedFrom 0 ns)
       go q v [] j c w z = absurd (omega (arith, ap length j))
       go q v (n ∷ ns) j c w z = ap tokenOf (sym j) ∙ numbered-accepted q v n ns c (omega (arith, ap length j))
 

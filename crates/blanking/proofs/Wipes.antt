@@ -115,24 +115,29 @@ module _ (f : ℕ → Bool) (map x m : List ℕ) (far at : ℕ) (inv : x ≡ tak
   unfolding wiped
   wipe-done h = sym (inv ∙ rw (drop-of-length-le m h, take-all at m h) (append-nil m))
 
-  pub wipe-more : at < length m → (far' : ℕ) → far' ≡ max far (getD map at 0) → (b : Bool) → b ≡ (f at || ltb at far') → (y : ℕ) → y ≡ cond b (getD m at 0) 0
+  pub wipe-more : at < length m → (far' : ℕ) → far' ≡ max far (getD map at 0) → (b : Bool) → b ≡ (f at || ltb at far') → (y : ℕ)
+      → y ≡ cond b (getD m at 0) 0
       → x ≡ take (at + 1) (set m at y) ++ wiped f map far' (drop (at + 1) (set m at y)) (at + 1)
   unfolding wiped
   wipe-more h far' far-is b b-is y y-is =
       let z : at + 1 ≡ suc at = add-one at in
-      let now : y ≡ cond (f at || ltb at (max far (getD map at 0))) (getD m at 0) 0 = y-is ∙ ap (λ (c : Bool). cond c (getD m at 0) 0) (b-is ∙ ap (λ (n : ℕ). f at || ltb at n) far-is) in
+      let now : y ≡ cond (f at || ltb at (max far (getD map at 0))) (getD m at 0) 0 =
+      y-is ∙ ap (λ (c : Bool). cond c (getD m at 0) 0) (b-is ∙ ap (λ (n : ℕ). f at || ltb at n) far-is) in
       inv ∙ ap (λ (l : List ℕ). take at m ++ wiped f map far l at) (drop-cons m at 0 h)
       ∙ ap (λ (n : ℕ). take at m ++ n ∷ wiped f map (max far (getD map at 0)) (drop (suc at) m) (at + 1)) (sym now)
       ∙ sym (append-snoc (take at m) y (wiped f map (max far (getD map at 0)) (drop (suc at) m) (at + 1)))
-      ∙ sym (ap (λ (l : List ℕ). l ++ wiped f map far' (drop (at + 1) (set m at y)) (at + 1)) (ap (λ (n : ℕ). take n (set m at y)) z ∙ take-suc-set m at y h)
-      ∙ ap (λ (l : List ℕ). take at m ++ (y ∷ []) ++ wiped f map far' l (at + 1)) (ap (λ (n : ℕ). drop n (set m at y)) z ∙ drop-set-lt (suc at) m at y (omega arith))
+      ∙ sym (ap (λ (l : List ℕ). l ++ wiped f map far' (drop (at + 1) (set m at y)) (at + 1))
+      (ap (λ (n : ℕ). take n (set m at y)) z ∙ take-suc-set m at y h)
+      ∙ ap (λ (l : List ℕ). take at m ++ (y ∷ []) ++ wiped f map far' l (at + 1))
+      (ap (λ (n : ℕ). drop n (set m at y)) z ∙ drop-set-lt (suc at) m at y (omega arith))
       ∙ ap (λ (n : ℕ). take at m ++ (y ∷ []) ++ wiped f map n (drop (suc at) m) (at + 1)) far-is)
 
 pub ruleset wipes = (wipe-done, wipe-more)
 
 -- ---- `blank_kind`: what a sweep with the farthest end keeps is what is covered
 module _ (f : ℕ → Bool) (map : List ℕ) (clear : Clear map) (vs : List Vector) where
-  wiped-kept : (s : List ℕ) (at : ℕ) → at + length s ≤ length map → wiped f (markedAll map vs) (endBefore (length map) vs at) s at ≡ kept (λ p. f p || liesInOne vs p) s at
+  wiped-kept : (s : List ℕ) (at : ℕ) → at + length s ≤ length map
+      → wiped f (markedAll map vs) (endBefore (length map) vs at) s at ≡ kept (λ p. f p || liesInOne vs p) s at
   unfolding wiped kept
   wiped-kept [] at h = refl
   wiped-kept (x ∷ s) at h =
@@ -140,7 +145,8 @@ module _ (f : ℕ → Bool) (map : List ℕ) (clear : Clear map) (vs : List Vect
       (ap (λ (l : List ℕ). cond (f at || ltb at (endBefore (length map) vs (at + 1))) x 0 ∷ l) (wiped-kept s (at + 1) (omega arith)))
 
 module _ (m : List ℕ) (kind : ℕ) (kind-is : kind ≡ headOf m .kind) (h : headerOf (shapeOf kind) ≤ length m)
-    (map map0 map1 : List ℕ) (sized : length map ≡ length m) (same : length map0 ≡ length map) (clear : Clear map0) (e : map1 ≡ markedAll map0 (vectorsOf (contentOf (shapeOf kind) m))) where
+    (map map0 map1 : List ℕ) (sized : length map ≡ length m) (same : length map0 ≡ length map) (clear : Clear map0)
+    (e : map1 ≡ markedAll map0 (vectorsOf (contentOf (shapeOf kind) m))) where
   all : vectorsOf (contentIn m) ≡ vectorsIn m
   unfolding vectorsIn
   all = let fits : headerIn m ≤ length m = rw kind-is at h in sym (rw (le-leb _ _ fits) refl)
@@ -297,7 +303,9 @@ module _ (x token : List ℕ) (at : ℕ) (on : On-way x token at) where
             ∙ ap (λ (l : List ℕ). take at token ++ (keptMessage l ++ blankAll (here .left .ms))) (sym own)
             ∙ ap (λ (l : List ℕ). take at token ++ (l ++ blankAll (here .left .ms))) (sym kept-is)
             ∙ sym (append-assoc (take at token) y (blankAll (here .left .ms)))
-            ∙ ap (λ (l : List ℕ). l ++ blankAll (here .left .ms)) (sym (ap (take (at + length m)) seam ∙ take-at (take at token ++ y) (drop (at + length m - at) (drop at token)) (at + length m) done));
+            ∙ ap (λ (l : List ℕ). l ++ blankAll (here .left .ms))
+            (sym (ap (take (at + length m)) seam ∙ take-at (take at token ++ y) (drop (at + length m - at) (drop at token))
+            (at + length m) done));
         short = omega (arith, way-length, on .short);
         within = omega (arith, way-length, way-fits);
       }
@@ -306,12 +314,15 @@ pub ruleset ways = (way-start, way-end, way-fits, way-small, way-less, way-room,
 
 -- ---- `blank`
 module _ (s : List ℕ) (r : Answer) (r-is : told r ≡ outcomeOf (tokenOf s)) where
-  pub blank-done : (n : ℕ) → r ≡ answer.Messages n → (x : List ℕ) → x ≡ blanked s → _≡_ {A = Blanking} (record { outcome = told (answer.Messages n); octets = x }) (blankingOf s)
+  pub blank-done : (n : ℕ) → r ≡ answer.Messages n → (x : List ℕ) → x ≡ blanked s
+      → _≡_ {A = Blanking} (record { outcome = told (answer.Messages n); octets = x }) (blankingOf s)
   blank-done n here x x-is = rw (x-is, sym (ap told here) ∙ r-is)
 
-  pub blank-refused : (n : ℕ) (place : TokenPlace) → r ≡ answer.Refused n place → _≡_ {A = Blanking} (record { outcome = told (answer.Refused n place); octets = s }) (blankingOf s)
+  pub blank-refused : (n : ℕ) (place : TokenPlace) → r ≡ answer.Refused n place
+      → _≡_ {A = Blanking} (record { outcome = told (answer.Refused n place); octets = s }) (blankingOf s)
   blank-refused n place here =
       let e : s ≡ blanked s = sym (ap (λ (q : Reading). blankedBy q s) (answer-refuses s r r-is n place here)) in
-      ap (λ (o : Outcome). record { outcome = o; octets = s }) (sym (ap told here) ∙ r-is) ∙ ap (λ (l : List ℕ). record { outcome = outcomeOf (tokenOf s); octets = l }) e
+      ap (λ (o : Outcome). record { outcome = o; octets = s }) (sym (ap told here) ∙ r-is)
+      ∙ ap (λ (l : List ℕ). record { outcome = outcomeOf (tokenOf s); octets = l }) e
 
 pub ruleset answers = (answer-accepts, blank-done, blank-refused)

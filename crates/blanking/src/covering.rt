@@ -22,7 +22,8 @@ use token::read_token;
 
 // Zeroes the mask where nothing covers a message of a kind.
 fn cover_kind(map: &mut [u32], kind: Kind, m: &[u8], mask: &mut [u8])
-    requires { ⌜ (length (now map) < 2 ^ 32) × (length (now map) ≡ length (now m)) × (headerOf (shapeOf (kind .0)) ≤ length (now m)) × (kind .0 ≡ headOf (now m) .kind) × (length (now mask) ≡ length (now m)) ⌝ }
+    requires { ⌜ (length (now map) < 2 ^ 32) × (length (now map) ≡ length (now m)) × (headerOf (shapeOf (kind .0)) ≤ length (now m))
+        × (kind .0 ≡ headOf (now m) .kind) × (length (now mask) ≡ length (now m)) ⌝ }
     ensures { λ _. ⌜ now (mask .exit) ≡ kept (isCovered (now (m .entry))) (now (mask .entry)) 0 ⌝ }
 {
     clear(map);
@@ -56,7 +57,8 @@ fn cover_messages(map: &mut [u32], token: &[u8], mask: &mut [u8])
 // Zeroes a mask as long as the token at each place where nothing covers the token; a mask of another length, and that of a refused token, is left as it is. The
 // answer is the structural reading's.
 pub fn cover(token: &[u8], mask: &mut [u8]) -> Answer
-    ensures { λ a. ⌜ _≡_ {A = Blanking} (record { outcome = told a; octets = now (mask .exit) }) (maskingOf (now (token .entry)) (now (mask .entry))) ⌝ }
+    ensures { λ a. ⌜ _≡_ {A = Blanking} (record { outcome = told a; octets = now (mask .exit) })
+        (maskingOf (now (token .entry)) (now (mask .entry))) ⌝ }
 {
     let r = read_token(token);
     match r {

@@ -95,7 +95,8 @@ fn wipe(m: &mut [u8], map: &[u32], kind: Kind)
 
 // Blanks a message of a kind, in a map with a cell for each of its octets.
 fn blank_kind(map: &mut [u32], kind: Kind, m: &mut [u8])
-    requires { ⌜ (length (now map) < 2 ^ 32) × (length (now map) ≡ length (now m)) × (headerOf (shapeOf (kind .0)) ≤ length (now m)) × (kind .0 ≡ headOf (now m) .kind) ⌝ }
+    requires { ⌜ (length (now map) < 2 ^ 32) × (length (now map) ≡ length (now m)) × (headerOf (shapeOf (kind .0)) ≤ length (now m))
+        × (kind .0 ≡ headOf (now m) .kind) ⌝ }
     ensures { λ _. ⌜ now (m .exit) ≡ keptMessage (now (m .entry)) ⌝ }
 {
     clear(map);

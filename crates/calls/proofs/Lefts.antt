@@ -27,7 +27,8 @@ places-inside : (k j n c m : ℕ) → k + j ≤ n → AllBelow n (openPlaces (pl
 unfolding openPlaces placesFrom
 places-inside k zero n c m h = tt
 places-inside k (suc j) n c m h = go (bit c 0 && not (bit m k)) (places-inside (suc k) j n (c / 2) m (omega arith)) where
-  go : (b : Bool) → AllBelow n (openPlaces (placesFrom (suc k) j) (c / 2) m) → AllBelow n (cond b (k ∷ openPlaces (placesFrom (suc k) j) (c / 2) m) (openPlaces (placesFrom (suc k) j) (c / 2) m))
+  go : (b : Bool) → AllBelow n (openPlaces (placesFrom (suc k) j) (c / 2) m)
+      → AllBelow n (cond b (k ∷ openPlaces (placesFrom (suc k) j) (c / 2) m) (openPlaces (placesFrom (suc k) j) (c / 2) m))
   go true i = (omega arith, i)
   go false i = i
 
@@ -35,9 +36,11 @@ pub kept-inside : (n : ℕ) (ks : List ℕ) (c m : ℕ) → keptBelow n ks c ≡
 unfolding openPlaces keptBelow
 kept-inside n [] c m h = tt
 kept-inside n (k ∷ ks) c m h =
-    go (bit c 0) (not (bit m k)) (and-l (not (bit c 0) || ltb k n) (keptBelow n ks (c / 2)) h) (kept-inside n ks (c / 2) m (and-r (not (bit c 0) || ltb k n) (keptBelow n ks (c / 2)) h))
+    go (bit c 0) (not (bit m k)) (and-l (not (bit c 0) || ltb k n) (keptBelow n ks (c / 2)) h)
+    (kept-inside n ks (c / 2) m (and-r (not (bit c 0) || ltb k n) (keptBelow n ks (c / 2)) h))
   where
-    go : (a b : Bool) → (not a || ltb k n) ≡ true → AllBelow n (openPlaces ks (c / 2) m) → AllBelow n (cond (a && b) (k ∷ openPlaces ks (c / 2) m) (openPlaces ks (c / 2) m))
+    go : (a b : Bool) → (not a || ltb k n) ≡ true → AllBelow n (openPlaces ks (c / 2) m)
+        → AllBelow n (cond (a && b) (k ∷ openPlaces ks (c / 2) m) (openPlaces ks (c / 2) m))
     go true true e i = (ltb-true k n e, i)
     go true false e i = i
     go false b e i = i
@@ -106,7 +109,8 @@ module _ (list : List ℕ) (n : ℕ) (z : Left) where
     own-some h = some-named (left (idsAt n list) c m) (λ e. h (own-count ∙ e))
 
     module _ (some : someLeft (left (idsAt n list) c m) ≡ true) where
-      found : (z .place < n) × ((octets 16 list (16 * z .place) ≡ firstOr (named (idsAt n list) (leftPlaces n c m))) × (z .place ≡ firstPlace (leftPlaces n c m)))
+      found : (z .place < n)
+          × ((octets 16 list (16 * z .place) ≡ firstOr (named (idsAt n list) (leftPlaces n c m))) × (z .place ≡ firstPlace (leftPlaces n c m)))
       found = first-named (leftPlaces n c m) own-is (places-inside 0 n n c m (omega arith)) (rw all-left some)
 
       pub own-place : z .place < n

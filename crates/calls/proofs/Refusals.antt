@@ -31,7 +31,8 @@ module _ (used header n len whole : ℕ) (is : whole ≡ min len 65535) where
 
     pub room-last : header ≤ whole - used → leb n (whole - used - header) ≡ roomFor used (header + n) len
     room-last h = go (which (leb n (whole - used - header))) where
-      go : (leb n (whole - used - header) ≡ true) ⊎ (leb n (whole - used - header) ≡ false) → leb n (whole - used - header) ≡ roomFor used (header + n) len
+      go : (leb n (whole - used - header) ≡ true) ⊎ (leb n (whole - used - header) ≡ false)
+          → leb n (whole - used - header) ≡ roomFor used (header + n) len
       go (inl e) = e ∙ sym (le-leb (used + (header + n)) (min len 65535) (omega (arith, leb-true n (whole - used - header) e)))
       go (inr e) = e ∙ sym (lt-leb (used + (header + n)) (min len 65535) (omega (arith, leb-false n (whole - used - header) e)))
 
@@ -111,7 +112,8 @@ module _ (r : Record) (kind : ℕ) (rows : List Row) (size len n : ℕ) (n-is : 
   write-on z x e = e ∙ first-on (stageRows r kind) (behind r rows size len) (stage-given r kind n n-is z)
 
 -- what has passed where it is not refused
-module _ (r : Record) (kind : ℕ) (rows : List Row) (size len n : ℕ) (n-is : n ≡ writeRefusal r kind rows size len) (z : n ≡ 0) (sure : without 0 (behind r rows size len) ≡ true) where
+module _ (r : Record) (kind : ℕ) (rows : List Row) (size len n : ℕ) (n-is : n ≡ writeRefusal r kind rows size len) (z : n ≡ 0)
+    (sure : without 0 (behind r rows size len) ≡ true) where
   passed : AllTrue (stageRows r kind ++ behind r rows size len)
   unfolding writeRefusal
   passed = call-given r (row 18 (mayWrite r kind) ∷ behind r rows size len) n n-is sure z
@@ -126,8 +128,10 @@ module _ (r : Record) (kind : ℕ) (rows : List Row) (size len n : ℕ) (n-is : 
   passed-room = leb-true _ _ (back-true (stageRows r kind ++ rows) (row 16 (roomFor (r .used) size len) ∷ []) passed .0)
 
 -- the tests before 16 decide whether a message is measured: where they pass, its length may stand for a number
-pub measured : (r : Record) (d : List ℕ) (kind : ℕ) (rows : List Row) (size length-of : ℕ) → (Inside r → AllTrue rows → length-of ≡ size) → (action : Outcome)
-    → decide (stageRows r kind ++ (rows ++ (fits r d size ∷ []))) r d action ≡ decide (stageRows r kind ++ (rows ++ (fits r d length-of ∷ []))) r d action
+pub measured : (r : Record) (d : List ℕ) (kind : ℕ) (rows : List Row) (size length-of : ℕ) → (Inside r → AllTrue rows → length-of ≡ size)
+    → (action : Outcome)
+    → decide (stageRows r kind ++ (rows ++ (fits r d size ∷ []))) r d action
+    ≡ decide (stageRows r kind ++ (rows ++ (fits r d length-of ∷ []))) r d action
 measured r d kind rows size length-of e action =
     decide-behind (stageRows r kind ++ rows) (fits r d size ∷ []) (fits r d length-of ∷ []) r d action
     (λ g. rw (e (limits-inside r (row 18 (mayWrite r kind) ∷ rows) g) (back-true (stageRows r kind) rows g)))

@@ -21,7 +21,8 @@ use Rattle.conversation.specs.State.{ownOf, replied}
 use Rattle.calls.specs.Calls.{Inside}
 
 -- of different schemes, one stands among those left where the bits of its place say so
-mem-left : (l : List Id) (c m : ℕ) (s : Id) → distinct l ≡ true → mem s (left l c m) ≡ (ltb (place l s) (length l) && (bit c (place l s) && not (bit m (place l s))))
+mem-left : (l : List Id) (c m : ℕ) (s : Id) → distinct l ≡ true
+    → mem s (left l c m) ≡ (ltb (place l s) (length l) && (bit c (place l s) && not (bit m (place l s))))
 unfolding mem left place distinct
 mem-left [] c m s d = refl
 mem-left (x ∷ l) c m s d = go (sameOctets s x) (bit c 0 && not (bit m 0)) refl refl (mem-left l (c / 2) (m / 2) s (parts .1)) where
@@ -31,7 +32,11 @@ mem-left (x ∷ l) c m s d = go (sameOctets s x) (bit c 0 && not (bit m 0)) refl
   absent : sameOctets s x ≡ true → ltb (place l s) (length l) ≡ false
   absent e = sym (mem-place s l) ∙ ap (λ (y : Id). mem y l) (same-eq s x e) ∙ not-true (mem x l) (parts .0)
 
-  go : (same : Bool) (kept : Bool) → sameOctets s x ≡ same → (bit c 0 && not (bit m 0)) ≡ kept → mem s (left l (c / 2) (m / 2)) ≡ (ltb (place l s) (length l) && (bit (c / 2) (place l s) && not (bit (m / 2) (place l s)))) → mem s (cond (bit c 0 && not (bit m 0)) (x ∷ left l (c / 2) (m / 2)) (left l (c / 2) (m / 2))) ≡ (ltb (cond (sameOctets s x) 0 (suc (place l s))) (suc (length l)) && (bit c (cond (sameOctets s x) 0 (suc (place l s))) && not (bit m (cond (sameOctets s x) 0 (suc (place l s))))))
+  go : (same : Bool) (kept : Bool) → sameOctets s x ≡ same → (bit c 0 && not (bit m 0)) ≡ kept
+      → mem s (left l (c / 2) (m / 2)) ≡ (ltb (place l s) (length l) && (bit (c / 2) (place l s) && not (bit (m / 2) (place l s))))
+      → mem s (cond (bit c 0 && not (bit m 0)) (x ∷ left l (c / 2) (m / 2)) (left l (c / 2) (m / 2)))
+      ≡ (ltb (cond (sameOctets s x) 0 (suc (place l s))) (suc (length l))
+      && (bit c (cond (sameOctets s x) 0 (suc (place l s))) && not (bit m (cond (sameOctets s x) 0 (suc (place l s))))))
   go true true e f ih = rw (f, e) (rw (f, lt-ltb 0 (suc (length l)) (omega arith)))
   go true false e f ih = rw (f, e) (rw f (ih ∙ rw (absent e, lt-ltb 0 (suc (length l)) (omega arith))))
   go false true e f ih = rw (f, e) (rw compare·suc-suc ih)

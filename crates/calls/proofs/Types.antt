@@ -8,7 +8,8 @@ use borrow.Author.Tests.{eq-eqb, ne-eqb}
 use Rattle.message.specs.declared.Kind.{Kind}
 use Rattle.conversation.specs.Turns.{typeOf}
 
-by-kind : (a : Bool) (kind : ℕ) → typeOf a kind ≡ cond (eqb kind 1) (cond a 1 0) (cond (eqb kind 2) (cond a 3 2) (cond (eqb kind 3) (cond a 4 5) (cond (eqb kind 4) 6 7)))
+by-kind : (a : Bool) (kind : ℕ)
+    → typeOf a kind ≡ cond (eqb kind 1) (cond a 1 0) (cond (eqb kind 2) (cond a 3 2) (cond (eqb kind 3) (cond a 4 5) (cond (eqb kind 4) 6 7)))
 unfolding typeOf
 by-kind true kind = refl
 by-kind false kind = refl
@@ -38,9 +39,11 @@ module _ (a : Bool) (kind : ℕ) where
 
       module _ (s : kind ≡ 3 → ⊥) where
         pub type-verify : kind ≡ 4 → (x : Kind) → x .0 ≡ 6 → x ≡ record { 0 = typeOf a kind }
-        type-verify e x h = is a kind 6 x (ap (λ (k : ℕ). record { 0 = k }) h) (by-kind a kind ∙ rw (ne-eqb _ _ n, ne-eqb _ _ m, ne-eqb _ _ s, eq-eqb _ _ e))
+        type-verify e x h =
+            is a kind 6 x (ap (λ (k : ℕ). record { 0 = k }) h) (by-kind a kind ∙ rw (ne-eqb _ _ n, ne-eqb _ _ m, ne-eqb _ _ s, eq-eqb _ _ e))
 
         pub type-alert : (kind ≡ 4 → ⊥) → (x : Kind) → x .0 ≡ 7 → x ≡ record { 0 = typeOf a kind }
-        type-alert e x h = is a kind 7 x (ap (λ (k : ℕ). record { 0 = k }) h) (by-kind a kind ∙ rw (ne-eqb _ _ n, ne-eqb _ _ m, ne-eqb _ _ s, ne-eqb _ _ e))
+        type-alert e x h =
+            is a kind 7 x (ap (λ (k : ℕ). record { 0 = k }) h) (by-kind a kind ∙ rw (ne-eqb _ _ n, ne-eqb _ _ m, ne-eqb _ _ s, ne-eqb _ _ e))
 
 pub ruleset types = (type-nego, type-metadata, type-exchange, type-verify, type-alert)

@@ -39,12 +39,14 @@ module _ (o : List ℕ) where
 pub ruleset randoms = (random-none, random-size, random-put, values-behind)
 
 module _ (c : Command) (r : Record) (d o : List ℕ) (x : Outcome) where
-  pub nego-offer : c .verb ≡ 1 → (v w : List ℕ) → v ≡ randomIn o → w ≡ drop 32 o → x ≡ offering r d (record { random = v; test = c .test; extensions = c .elements; values = w }) → x ≡ negoOf c r d o
+  pub nego-offer : c .verb ≡ 1 → (v w : List ℕ) → v ≡ randomIn o → w ≡ drop 32 o
+      → x ≡ offering r d (record { random = v; test = c .test; extensions = c .elements; values = w }) → x ≡ negoOf c r d o
   unfolding negoOf
   nego-offer h v w v-is w-is e = e ∙ rw (eq-eqb _ _ h, v-is, w-is)
 
   module _ (not-offer : c .verb ≡ 1 → ⊥) where
-    pub nego-reply : c .verb ≡ 2 → (m : ℕ) → m ≡ c .number % 65536 → (v w : List ℕ) → v ≡ randomIn o → w ≡ drop 32 o → x ≡ replying r d m (record { random = v; test = c .test; extensions = c .elements; values = w }) → x ≡ negoOf c r d o
+    pub nego-reply : c .verb ≡ 2 → (m : ℕ) → m ≡ c .number % 65536 → (v w : List ℕ) → v ≡ randomIn o → w ≡ drop 32 o
+        → x ≡ replying r d m (record { random = v; test = c .test; extensions = c .elements; values = w }) → x ≡ negoOf c r d o
     unfolding negoOf
     nego-reply h m m-is v w v-is w-is e = e ∙ rw (ne-eqb _ _ not-offer, eq-eqb _ _ h, m-is, v-is, w-is)
 
@@ -67,7 +69,8 @@ module _ (c : Command) (r : Record) (d o : List ℕ) (x : Outcome) where
       write-verify h z z-is e = e ∙ rw (ne-eqb _ _ not-metadata, ne-eqb _ _ not-exchange, eq-eqb _ _ h, z-is)
 
       module _ (not-verify : c .verb ≡ 5 → ⊥) where
-        pub write-alert : c .verb ≡ 6 → (z : ℤ) → z ≡ signed32 (c .number) → x ≡ speaking r d (alarm (record { code = z; alerts = c .elements; values = o })) → x ≡ writerOf c r d o
+        pub write-alert : c .verb ≡ 6 → (z : ℤ) → z ≡ signed32 (c .number)
+            → x ≡ speaking r d (alarm (record { code = z; alerts = c .elements; values = o })) → x ≡ writerOf c r d o
         unfolding writerOf
         write-alert h z z-is e = e ∙ rw (ne-eqb _ _ not-metadata, ne-eqb _ _ not-exchange, ne-eqb _ _ not-verify, eq-eqb _ _ h, z-is)
 
@@ -86,7 +89,8 @@ module _ (c : Command) (r : Record) (d o : List ℕ) (x : Outcome) where
       choose-verify h z z-is e = e ∙ rw (ne-eqb _ _ not-exchange, eq-eqb _ _ h, m-is, z-is)
 
       module _ (not-verify : c .verb ≡ 12 → ⊥) where
-        pub choose-alert : c .verb ≡ 13 → (z : ℤ) → z ≡ signed32 (c .number) → x ≡ choosing r d m (alarm (record { code = z; alerts = c .elements; values = o })) → x ≡ chooserOf c r d o
+        pub choose-alert : c .verb ≡ 13 → (z : ℤ) → z ≡ signed32 (c .number)
+            → x ≡ choosing r d m (alarm (record { code = z; alerts = c .elements; values = o })) → x ≡ chooserOf c r d o
         unfolding chooserOf
         choose-alert h z z-is e = e ∙ rw (ne-eqb _ _ not-exchange, ne-eqb _ _ not-verify, eq-eqb _ _ h, m-is, z-is)
 

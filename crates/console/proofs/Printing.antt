@@ -27,7 +27,8 @@ END = 18446744073709551615
 
 -- any lines that have room in a buffer, and are not too many for a number of 64 bits
 module _ (ls : List (List ℕ)) (few : length ls < END) (short : (k : ℕ) → length (getD ls k []) < 128)
-    (first : ℕ) (inside : first ≤ length ls) (d d' : List ℕ) (size : length d ≡ 65536) (r : Shown) (is : asWindow r d' ≡ windowOf ls first END d) where
+    (first : ℕ) (inside : first ≤ length ls) (d d' : List ℕ) (size : length d ≡ 65536) (r : Shown)
+    (is : asWindow r d' ≡ windowOf ls first END d) where
   -- a window lies in its buffer and in the lines
   pub within-buffer : r .octets ≤ 65536
   within-buffer = omega (arith, window-octets ls first END d d' r is)

@@ -41,7 +41,8 @@ deciding-ends w (c ∷ cs) = elim (which (decides (outcomeAt w (c .0) (c .1) .an
 ]
 
 -- where no call is refused with 12, the accepted calls are those that decide
-same-calls : (w : World) (cs : List (Bool × Call)) → ((x : Entry) → List·Memᴰ x (run w cs) → x .said .refusal ≡ 12 → ⊥) → decidingOf w cs ≡ acceptedOf w cs
+same-calls : (w : World) (cs : List (Bool × Call)) → ((x : Entry) → List·Memᴰ x (run w cs) → x .said .refusal ≡ 12 → ⊥)
+    → decidingOf w cs ≡ acceptedOf w cs
 same-calls w [] h = refl
 same-calls w (c ∷ cs) h =
     let n : eqb (outcomeAt w (c .0) (c .1) .answer .refusal) 12 ≡ false = ne-eqb _ 12 (h _ (List·Memᴰ·head refl)) in

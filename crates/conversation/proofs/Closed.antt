@@ -38,11 +38,14 @@ barred : (xs : List Row) (b : Bool) (ys : List Row) (r : Record) (d : List ℕ) 
     → decide (xs ++ (row 18 b ∷ ys)) r d action ≡ refused r d 18 0
 barred xs b ys r d action w f =
     decide-out (λ out. out ≡ refused r d 18 0) (xs ++ (row 18 b ∷ ys)) r d action
-    (λ n g. ap (λ (k : ℕ). refused r d k 0) (eqb-true n 18 (fails-each (λ k. eqb k 18) (xs ++ (row 18 b ∷ [])) n (each xs w) (fails-until xs (row 18 b) ys n f g))))
+    (λ n g. ap (λ (k : ℕ). refused r d k 0)
+    (eqb-true n 18 (fails-each (λ k. eqb k 18) (xs ++ (row 18 b ∷ [])) n (each xs w) (fails-until xs (row 18 b) ys n f g))))
     (λ g. no-true (sym f ∙ true-behind xs (row 18 b) ys g)) where
       each : (zs : List Row) → eachNumber (λ n. eqb n 18) zs ≡ true → eachNumber (λ n. eqb n 18) (zs ++ (row 18 b ∷ [])) ≡ true
       each [] h = refl
-      each (z ∷ zs) h = and-i (eqb (z .number) 18) (eachNumber (λ n. eqb n 18) (zs ++ (row 18 b ∷ []))) (and-l (eqb (z .number) 18) (eachNumber (λ n. eqb n 18) zs) h) (each zs (and-r (eqb (z .number) 18) (eachNumber (λ n. eqb n 18) zs) h))
+      each (z ∷ zs) h =
+          and-i (eqb (z .number) 18) (eachNumber (λ n. eqb n 18) (zs ++ (row 18 b ∷ [])))
+          (and-l (eqb (z .number) 18) (eachNumber (λ n. eqb n 18) zs) h) (each zs (and-r (eqb (z .number) 18) (eachNumber (λ n. eqb n 18) zs) h))
 
 module _ (e : End) (peer : List ℕ) where
   abbrev r : Record
@@ -55,7 +58,8 @@ module _ (e : End) (peer : List ℕ) where
 
   module _ (unshut : r .stage ≡ 4 → ⊥) where
     -- a call whose action leaves the record open
-    stays-open : {A : Type 0} (rows : List Row) (action : Outcome) → (action .answer .next .stage ≡ 4 → ⊥) → decide rows r d action .answer .next .stage ≡ 4 → A
+    stays-open : {A : Type 0} (rows : List Row) (action : Outcome) → (action .answer .next .stage ≡ 4 → ⊥)
+        → decide rows r d action .answer .next .stage ≡ 4 → A
     stays-open rows action h z =
         absurd (decide-out (λ out. out .answer .next .stage ≡ 4 → ⊥) rows r d action (λ n f. unshut) (λ g. h) z)
 
@@ -66,7 +70,8 @@ module _ (e : End) (peer : List ℕ) where
     read-closes : readingToken r d peer .answer .next .stage ≡ 4 → readingToken r d peer .answer .refusal ≡ 12
     unfolding readingToken
     read-closes =
-        decide-out (λ out. out .answer .next .stage ≡ 4 → out .answer .refusal ≡ 12) (limitRows r ++ tokenRows r (length peer)) r d (finish r d peer (judged r peer))
+        decide-out (λ out. out .answer .next .stage ≡ 4 → out .answer .refusal ≡ 12) (limitRows r ++ tokenRows r (length peer)) r d
+        (finish r d peer (judged r peer))
         (λ n f z. absurd (unshut z))
         (λ g. token (judged r peer) (true-behind (limitRows r) (row 18 (mayRead r)) (row 1 (leb (length peer) 65535) ∷ []) g)) where
           token : (j : Judged) → mayRead r ≡ true → finish r d peer j .answer .next .stage ≡ 4 → finish r d peer j .answer .refusal ≡ 12
@@ -80,7 +85,8 @@ module _ (e : End) (peer : List ℕ) where
     unfolding act offering replying writingMetadata speaking choosing
     closes (offer nego) z = stays-open (stageRows r NEGO ++ thenFits (offerRows r (nego .0)) r d (offered r (nego .0))) _ unshut z
     closes (reply m nego) z = stays-open (stageRows r NEGO ++ thenFits (replyRows r m (nego .0)) r d (replyMessage r m (nego .0))) _ unshut z
-    closes (metadata id value) z = stays-open (stageRows r METADATA ++ thenFits (metadataRows r (id .0) (length value)) r d (metadataMessage r (id .0) value)) _ unshut z
+    closes (metadata id value) z =
+        stays-open (stageRows r METADATA ++ thenFits (metadataRows r (id .0) (length value)) r d (metadataMessage r (id .0) value)) _ unshut z
     closes (speak s) z = stays-open (stageRows r (classIn s) ++ thenFits (namedRows r (speechFits s)) r d (spoken r s)) _ unshut z
     closes read z = (refl, read-closes z)
     closes (choose m s) z = stays-open (choiceTable r d m s) _ (λ y. omega arith) z
@@ -111,11 +117,15 @@ module _ (e : End) (peer : List ℕ) where
 
     answers-18 : (k : Call) → act e peer k ≡ refused r d 18 0
     unfolding act offering replying writingMetadata speaking readingToken choosing
-    answers-18 (offer nego) = barred (limitRows r) (mayWrite r NEGO) (thenFits (offerRows r (nego .0)) r d (offered r (nego .0))) r d _ refl (writes-none NEGO)
-    answers-18 (reply m nego) = barred (limitRows r) (mayWrite r NEGO) (thenFits (replyRows r m (nego .0)) r d (replyMessage r m (nego .0))) r d _ refl (writes-none NEGO)
+    answers-18 (offer nego) =
+        barred (limitRows r) (mayWrite r NEGO) (thenFits (offerRows r (nego .0)) r d (offered r (nego .0))) r d _ refl (writes-none NEGO)
+    answers-18 (reply m nego) =
+        barred (limitRows r) (mayWrite r NEGO) (thenFits (replyRows r m (nego .0)) r d (replyMessage r m (nego .0))) r d _ refl (writes-none NEGO)
     answers-18 (metadata id value) =
-        barred (limitRows r) (mayWrite r METADATA) (thenFits (metadataRows r (id .0) (length value)) r d (metadataMessage r (id .0) value)) r d _ refl (writes-none METADATA)
-    answers-18 (speak s) = barred (limitRows r) (mayWrite r (classIn s)) (thenFits (namedRows r (speechFits s)) r d (spoken r s)) r d _ refl (writes-none (classIn s))
+        barred (limitRows r) (mayWrite r METADATA) (thenFits (metadataRows r (id .0) (length value)) r d (metadataMessage r (id .0) value)) r d _ refl
+        (writes-none METADATA)
+    answers-18 (speak s) =
+        barred (limitRows r) (mayWrite r (classIn s)) (thenFits (namedRows r (speechFits s)) r d (spoken r s)) r d _ refl (writes-none (classIn s))
     answers-18 read = barred (limitRows r) (mayRead r) (row 1 (leb (length peer) 65535) ∷ []) r d _ refl reads-none
     answers-18 (choose m s) =
         decide-out (λ out. out ≡ refused r d 18 0) (choiceTable r d m s) r d _

@@ -20,5 +20,9 @@ use Rattle.conversation.specs.Worked.{plain, opened}
 use Rattle.conversation.specs.Turns as turns
 
 unfoldable pub computing : Unit {0}
-unfolding opened plain offsetOf itemOctets itemsFit itemsOf sumFrom smallFrom elementsFit ordinaryFrom le signed32 sameOctets sameId keepsRule shown shapeOf headOf elementsAt contentOf vectorsOf commonRows allKeepRule noneCritical contentRows bodyRows frontRows idsAt schemesIn orderRows nextRows chainOf put encoded mem place distinct setOf left has mentions ones openPlaces keptBelow turns.writing turns.reading turns.classOf turns.typeOf turns.afterOpening turns.afterFurther turns.after offering replying writingMetadata speaking schemeNow messagesAt schemeFits confirmedFor passed admit conversationOf judge judged commonAfter keptAfter finish readingToken choosing act
+unfolding opened plain offsetOf itemOctets itemsFit itemsOf sumFrom smallFrom elementsFit ordinaryFrom le signed32 sameOctets sameId keepsRule shown
+    shapeOf headOf elementsAt contentOf vectorsOf commonRows allKeepRule noneCritical contentRows bodyRows frontRows idsAt schemesIn orderRows
+    nextRows chainOf put encoded mem place distinct setOf left has mentions ones openPlaces keptBelow turns.writing turns.reading turns.classOf
+    turns.typeOf turns.afterOpening turns.afterFurther turns.after offering replying writingMetadata speaking schemeNow messagesAt schemeFits
+    confirmedFor passed admit conversationOf judge judged commonAfter keptAfter finish readingToken choosing act
 computing = tt

@@ -29,7 +29,9 @@ critical-closes r d h c rest s range o limits may short number talk =
     let stop : (passes t (r .sequence) (conversationOf r t) ≡ false) × (firstFailing (nextRows t (r .sequence) (conversationOf r t)) ≡ 12) =
     subst (λ (v : List ℕ). (passes t (r .sequence) v ≡ false) × (firstFailing (nextRows t (r .sequence) v) ≡ 12)) talk
     (subst (λ (q : ℕ). (passes t q (h .conversation) ≡ false) × (firstFailing (nextRows t q (h .conversation)) ≡ 12)) number k) in
-    let chain : chainFor r t ≡ cutAt 12 0 = rw (ne-eqb _ _ none) (turn-fail 0 (r .sequence) (conversationOf r t) t some (stop .0) ∙ ap (λ (n : ℕ). cutAt n 0) (stop .1)) in
+    let chain : chainFor r t ≡ cutAt 12 0 =
+    rw (ne-eqb _ _ none) (turn-fail 0 (r .sequence) (conversationOf r t) t some (stop .0) ∙ ap (λ (n : ℕ). cutAt n 0) (stop .1)) in
     let halts : judged r t ≡ halted 12 0 = ap (judge r t 0 (startOf r)) chain in
-    let rows : AllTrue (limitRows r ++ tokenRows r (length t)) = both-true (limitRows r) (tokenRows r (length t)) (first-none (limitRows r) refl limits) (may, (le-leb _ _ short, tt)) in
+    let rows : AllTrue (limitRows r ++ tokenRows r (length t)) =
+    both-true (limitRows r) (tokenRows r (length t)) (first-none (limitRows r) refl limits) (may, (le-leb _ _ short, tt)) in
     sym (decide-passed (limitRows r ++ tokenRows r (length t)) r d (finish r d t (judged r t)) rows) ∙ ap (finish r d t) halts

@@ -51,7 +51,8 @@ module _ (r : Record) (nego : NegoCall) (l : List Id) (sized : (s : Id) → List
       let sq : r .sequence ≤ 1023 = leb-true _ _ l10 in
       record {
         can = kind (r .acceptor) (and-i (eqb (length schemes % 16) 0) _ (eq-eqb _ _ (let z : length schemes % 16 ≡ 0 = omega arith in z))
-            (and-i (leb (length schemes) 1048560) _ (le-leb _ _ (let z : length schemes ≤ 1048560 = omega arith in z)) (handed (nego .0 .extensions) (nego .0 .values) (extensions .0) .fit)));
+            (and-i (leb (length schemes) 1048560) _ (le-leb _ _ (let z : length schemes ≤ 1048560 = omega arith in z))
+            (handed (nego .0 .extensions) (nego .0 .values) (extensions .0) .fit)));
         number = omega arith;
         id = talk;
         whole = nego .1 .random;
@@ -62,7 +63,10 @@ module _ (r : Record) (nego : NegoCall) (l : List Id) (sized : (s : Id) → List
 
   pub heads-written : (schemes : List ℕ) → schemes ≡ joinIds l → Heads (typeOf (r .acceptor) NEGO) l (messageOf r NEGO (negoIn (nego .0) schemes))
   heads-written schemes e rest =
-      let b = nego-begins (heading r NEGO) (record { random = nego .0 .random; schemes = schemes; extensions = itemsOf (nego .0 .extensions) (nego .0 .values) }) (written schemes e) rest in
+      let b =
+      nego-begins (heading r NEGO)
+      (record { random = nego .0 .random; schemes = schemes; extensions = itemsOf (nego .0 .extensions) (nego .0 .values) })
+      (written schemes e) rest in
       (b .0, b .1 ∙ ap idsOf e ∙ ids-joined l (all-sized l sized))
 
 module _ (o : Opening) where
@@ -75,21 +79,27 @@ module _ (o : Opening) where
   few : (l : List Id) → oneTo16 l ≡ true → length l ≤ 16
   few l e = leb-true _ _ (and-r (leb 1 (length l)) (leb (length l) 16) (and-l (leb 1 (length l) && leb (length l) 16) (distinct l) e))
 
-  heads-offer : (r : Record) (nego : NegoCall) → r .acceptor ≡ false → r .list ≡ padTo 256 (joinIds (o .initiator)) → r .count ≡ length (o .initiator) → r .conversation ≡ o .conversation .0 → AllTrue (limitRows r) → AllTrue (extensionRows (nego .0)) → Heads 0 (o .initiator) (offered r (nego .0))
+  heads-offer : (r : Record) (nego : NegoCall) → r .acceptor ≡ false → r .list ≡ padTo 256 (joinIds (o .initiator)) → r .count ≡ length (o .initiator)
+      → r .conversation ≡ o .conversation .0 → AllTrue (limitRows r) → AllTrue (extensionRows (nego .0))
+      → Heads 0 (o .initiator) (offered r (nego .0))
   unfolding typeOf
   heads-offer r nego role bytes count talk limits extensions =
       let n = length-joined (o .initiator) initiator-sized in
-      let e : take (16 * r .count) (r .list) ≡ joinIds (o .initiator) = rw (bytes, count) (take-at (joinIds (o .initiator)) _ (16 * length (o .initiator)) n) in
+      let e : take (16 * r .count) (r .list) ≡ joinIds (o .initiator) =
+      rw (bytes, count) (take-at (joinIds (o .initiator)) _ (16 * length (o .initiator)) n) in
       subst (λ (a : Bool). Heads (typeOf a NEGO) (o .initiator) (offered r (nego .0))) role
-      (heads-written r nego (o .initiator) initiator-sized (few (o .initiator) (o .initiator-ok)) (ap length talk ∙ o .conversation .1) limits extensions (take (16 * r .count) (r .list)) e)
+      (heads-written r nego (o .initiator) initiator-sized (few (o .initiator) (o .initiator-ok))
+      (ap length talk ∙ o .conversation .1) limits extensions (take (16 * r .count) (r .list)) e)
 
-  heads-reply : (r : Record) (m : ℕ) (nego : NegoCall) → r .acceptor ≡ true → ownOf r ≡ o .acceptor → length (r .conversation) ≡ 16 → AllTrue (limitRows r) → AllTrue (extensionRows (nego .0)) → Heads 1 (left (o .acceptor) (r .common) m) (replyMessage r m (nego .0))
+  heads-reply : (r : Record) (m : ℕ) (nego : NegoCall) → r .acceptor ≡ true → ownOf r ≡ o .acceptor → length (r .conversation) ≡ 16
+      → AllTrue (limitRows r) → AllTrue (extensionRows (nego .0)) → Heads 1 (left (o .acceptor) (r .common) m) (replyMessage r m (nego .0))
   unfolding typeOf
   heads-reply r m nego role own talk limits extensions =
       let k = left-sized (o .acceptor) (r .common) m acceptor-sized in
       let f = few (o .acceptor) (o .acceptor-ok) in
       subst (λ (a : Bool). Heads (typeOf a NEGO) (left (o .acceptor) (r .common) m) (replyMessage r m (nego .0))) role
-      (heads-written r nego (left (o .acceptor) (r .common) m) (k .0) (omega (arith, k .1)) talk limits extensions (joinIds (left (ownOf r) (r .common) m)) (rw own))
+      (heads-written r nego (left (o .acceptor) (r .common) m) (k .0) (omega (arith, k .1)) talk limits extensions
+      (joinIds (left (ownOf r) (r .common) m)) (rw own))
 
 -- 2. every run
 
@@ -124,7 +134,8 @@ fair-run o cs x m =
     cs (λ y n. asks o cs (y .acceptor) (y .call) (y .said) n) x m
 
 -- the first run: who chose, and by what
-chose-facts : (o : Opening) (cs : List (Bool × Call)) (x : Bool) (m : ℕ) (s : Speech) (a : Answer) → isAccepted a ≡ true → FairIn o cs x (choose m s) a
+chose-facts : (o : Opening) (cs : List (Bool × Call)) (x : Bool) (m : ℕ) (s : Speech) (a : Answer) → isAccepted a ≡ true
+    → FairIn o cs x (choose m s) a
     → (x ≡ false) × ((ma : ℕ) × (Replied o cs ma × (rule2 (o .acceptor) (o .initiator) ma m ≡ some (a .choice))))
 chose-facts o cs false m s a e h = let g = h .1 e in (refl, (g .0, (g .1 .0, g .1 .1 .0)))
 chose-facts o cs true m s a e h = no-true (rw h at e)
@@ -144,7 +155,9 @@ reply-by-marks o cs x m nego h call = go (x .acceptor) (rw call at (fair-run o c
 -- the acceptor's marks are one set
 pub replied-once : (o : Opening) (cs : List (Bool × Call)) (m n : ℕ) → Replied o cs m → Replied o cs n → m ≡ n
 replied-once o cs m n r s =
-    let e = same-kept (acceptedAt true withMarks) (run (world o) cs) _ _ (marks-once o cs true) (r .entry) (s .entry) (rw (r .accepted)) (rw (s .accepted)) in
+    let e =
+    same-kept (acceptedAt true withMarks) (run (world o) cs) _ _ (marks-once o cs true) (r .entry) (s .entry) (rw (r .accepted))
+    (rw (s .accepted)) in
     marks-of (ap (λ (y : Entry). y .call) e) where
       marks-of : {a b : ℕ} {x y : NegoCall} → reply a x ≡ reply b y → a ≡ b
       marks-of e = cc
@@ -157,7 +170,8 @@ none-refused o cs x m ma s h call l r none-left =
       | inl e ↦ e
       | inr e ↦
           let g = b .answers e in
-          let same : leftOver (o .acceptor) (o .initiator) (g .0) m ≡ [] = subst (λ (n : ℕ). leftOver (o .acceptor) (o .initiator) n m ≡ []) (replied-once o cs ma (g .0) r (g .1 .0)) none-left in
+          let same : leftOver (o .acceptor) (o .initiator) (g .0) m ≡ [] =
+          subst (λ (n : ℕ). leftOver (o .acceptor) (o .initiator) n m ≡ []) (replied-once o cs ma (g .0) r (g .1 .0)) none-left in
           absurd (Option·some-ne-none (x .said .choice) (sym (g .1 .1 .0) ∙ ap first same))
     ]
 
@@ -167,14 +181,17 @@ no-mem-nil s l e m = no-true (rw e at m)
 
 -- 3. a second run after a longer offer
 
-module _ (o : Opening) (cs : List (Bool × Call)) (o′ : Opening) (cs′ : List (Bool × Call)) (m ma : ℕ) (s : Speech) (a : Answer) (ok : isAccepted a ≡ true)
+module _ (o : Opening) (cs : List (Bool × Call)) (o′ : Opening) (cs′ : List (Bool × Call)) (m ma : ℕ) (s : Speech) (a : Answer)
+    (ok : isAccepted a ≡ true)
     (chosen : List·Memᴰ (record { acceptor = false; call = choose m s; said = a }) (run (world o) cs))
     (rep : Replied o cs ma) (before : rule2 (o .acceptor) (o .initiator) ma m ≡ some (a .choice))
     (up : Longer (o .acceptor) (o .initiator) (o′ .acceptor) (o′ .initiator)) (marks : MarksKept o cs o′ cs′) where
-  ini-marks : (m′ : ℕ) (s′ : Speech) → List·Memᴰ (false, choose m′ s′) cs′ → SameMarks (o .acceptor) (o .initiator) (o .initiator) m (o′ .initiator) m′
+  ini-marks : (m′ : ℕ) (s′ : Speech) → List·Memᴰ (false, choose m′ s′) cs′
+      → SameMarks (o .acceptor) (o .initiator) (o .initiator) m (o′ .initiator) m′
   ini-marks m′ s′ h = marks .initiator-marks m m′ s′ (record { answered = a; spoke = s; accepted = ok; entry = chosen }) h
 
-  acc-marks : (m′ : ℕ) (nego : NegoCall) → List·Memᴰ (true, reply m′ nego) cs′ → SameMarks (o .acceptor) (o .initiator) (o .acceptor) ma (o′ .acceptor) m′
+  acc-marks : (m′ : ℕ) (nego : NegoCall) → List·Memᴰ (true, reply m′ nego) cs′
+      → SameMarks (o .acceptor) (o .initiator) (o .acceptor) ma (o′ .acceptor) m′
   acc-marks m′ nego h = marks .acceptor-marks ma m′ nego rep h
 
   rep-marks : (m′ : ℕ) → Replied o′ cs′ m′ → SameMarks (o .acceptor) (o .initiator) (o .acceptor) ma (o′ .acceptor) m′
@@ -184,9 +201,12 @@ module _ (o : Opening) (cs : List (Bool × Call)) (o′ : Opening) (cs′ : List
   dist = ok-distinct (o′ .acceptor) (o′ .acceptor-ok)
 
   -- a choosing call has something left
-  some-left : (m′ ma′ : ℕ) (s′ : Speech) → List·Memᴰ (false, choose m′ s′) cs′ → Replied o′ cs′ ma′ → leftOver (o′ .acceptor) (o′ .initiator) ma′ m′ ≡ [] → ⊥
+  some-left : (m′ ma′ : ℕ) (s′ : Speech) → List·Memᴰ (false, choose m′ s′) cs′ → Replied o′ cs′ ma′
+      → leftOver (o′ .acceptor) (o′ .initiator) ma′ m′ ≡ [] → ⊥
   some-left m′ ma′ s′ h r e =
-      no-mem-nil (a .choice) _ e (still-usable (o .acceptor) (o .initiator) (o′ .acceptor) (o′ .initiator) up dist ma m (a .choice) before ma′ m′ (rep-marks ma′ r) (ini-marks m′ s′ h))
+      no-mem-nil (a .choice) _ e
+      (still-usable (o .acceptor) (o .initiator) (o′ .acceptor) (o′ .initiator) up dist ma m (a .choice) before ma′ m′ (rep-marks ma′ r)
+      (ini-marks m′ s′ h))
 
   no-17 : (x : Bool) (k : Call) (b : Answer) → List·Memᴰ (x, k) cs′ → FairIn o′ cs′ x k b → b .refusal ≡ 17 → ⊥
   no-17 false (offer nego) b h f = f
@@ -197,13 +217,15 @@ module _ (o : Opening) (cs : List (Bool × Call)) (o′ : Opening) (cs′ : List
   no-17 false (choose m′ s′) b h f = λ e. let g = f .0 e in some-left m′ (g .0) s′ h (g .1 .0) (g .1 .1)
   no-17 true (offer nego) b h f = f
   no-17 true (reply m′ nego) b h f =
-      λ e. no-mem-nil (a .choice) _ (f .refuses e) (still-common (o .acceptor) (o .initiator) (o′ .acceptor) (o′ .initiator) up dist ma m (a .choice) before m′ (acc-marks m′ nego h))
+      λ e. no-mem-nil (a .choice) _ (f .refuses e)
+      (still-common (o .acceptor) (o .initiator) (o′ .acceptor) (o′ .initiator) up dist ma m (a .choice) before m′ (acc-marks m′ nego h))
   no-17 true (metadata id value) b h f = f
   no-17 true (speak s) b h f = f
   no-17 true read b h f = f
   no-17 true (choose m′ s′) b h f = λ e. omega arith
 
-  choice-of : (x : Bool) (m′ : ℕ) (s′ : Speech) (b : Answer) → List·Memᴰ (x, choose m′ s′) cs′ → FairIn o′ cs′ x (choose m′ s′) b → isLawful b ≡ true → Choice o o′ cs′ m′ (a .choice) b
+  choice-of : (x : Bool) (m′ : ℕ) (s′ : Speech) (b : Answer) → List·Memᴰ (x, choose m′ s′) cs′ → FairIn o′ cs′ x (choose m′ s′) b → isLawful b ≡ true
+      → Choice o o′ cs′ m′ (a .choice) b
   choice-of false m′ s′ b h f l = elim (f .2 l) [
     | inl e ↦ absurd (no-17 false (choose m′ s′) b h f e)
     | inr e ↦ let g = f .1 e in record {
@@ -211,7 +233,9 @@ module _ (o : Opening) (cs : List (Bool × Call)) (o′ : Opening) (cs′ : List
       ma = g .0;
       replied = g .1 .0;
       chosen = g .1 .1 .0;
-      no-later = longer (o .acceptor) (o .initiator) (o′ .acceptor) (o′ .initiator) up dist ma m (a .choice) before (g .0) m′ (rep-marks (g .0) (g .1 .0)) (ini-marks m′ s′ h) (b .choice) (g .1 .1 .0);
+      no-later =
+          longer (o .acceptor) (o .initiator) (o′ .acceptor) (o′ .initiator) up dist ma m (a .choice) before (g .0) m′ (rep-marks (g .0) (g .1 .0))
+          (ini-marks m′ s′ h) (b .choice) (g .1 .1 .0);
     }
   ]
   choice-of true m′ s′ b h f l = no-true (rw f at l)
@@ -225,5 +249,6 @@ demand3 o cs o′ cs′ x m s hx call ok up marks y hy =
     let fy = fair-run o′ cs′ y hy in
     let cy : List·Memᴰ (y .acceptor, y .call) cs′ = run-calls (world o′) cs′ y hy in (
       no-17 o cs o′ cs′ m (g .0) s (x .said) ok chosen (g .1 .0) (g .1 .1) up marks (y .acceptor) (y .call) (y .said) cy fy,
-      λ m′ s′ k l. choice-of o cs o′ cs′ m (g .0) s (x .said) ok chosen (g .1 .0) (g .1 .1) up marks (y .acceptor) m′ s′ (y .said) (rw k at cy) (rw k at fy) l,
+      λ m′ s′ k l. choice-of o cs o′ cs′ m (g .0) s (x .said) ok chosen (g .1 .0) (g .1 .1) up marks (y .acceptor) m′ s′ (y .said) (rw k at cy)
+          (rw k at fy) l,
     )

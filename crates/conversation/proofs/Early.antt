@@ -44,8 +44,10 @@ distinct-at : (l : List Id) (j k : ℕ) → distinct l ≡ true → j < length l
 unfolding distinct
 distinct-at [] j k d a b e = absurd (omega arith)
 distinct-at (x ∷ l) zero zero d a b e = refl
-distinct-at (x ∷ l) zero (suc k) d a b e = no-true (let m : mem x l ≡ true = mem-at x l k (omega arith) (subst (λ (y : Id). sameOctets x y ≡ true) e (same-refl x)) in rw m at d)
-distinct-at (x ∷ l) (suc j) zero d a b e = no-true (let m : mem x l ≡ true = mem-at x l j (omega arith) (subst (λ (y : Id). sameOctets x y ≡ true) (sym e) (same-refl x)) in rw m at d)
+distinct-at (x ∷ l) zero (suc k) d a b e =
+    no-true (let m : mem x l ≡ true = mem-at x l k (omega arith) (subst (λ (y : Id). sameOctets x y ≡ true) e (same-refl x)) in rw m at d)
+distinct-at (x ∷ l) (suc j) zero d a b e =
+    no-true (let m : mem x l ≡ true = mem-at x l j (omega arith) (subst (λ (y : Id). sameOctets x y ≡ true) (sym e) (same-refl x)) in rw m at d)
 distinct-at (x ∷ l) (suc j) (suc k) d a b e = ap suc (distinct-at l j k (and-r (not (mem x l)) (distinct l) d) (omega arith) (omega arith) e)
 
 module _ (r : Record) (limits : AllTrue (limitRows r)) where
@@ -90,7 +92,9 @@ module _ (r : Record) (t : List ℕ) (f : eqb (reads r) FURTHER ≡ true) where
   judge-low n c (cutAt m a) k d s e = let z : _≡_ {A = ℕ} 0 1 = cc in absurd (omega arith)
   judge-low n c (message m ms) k d s e = go (admit r t c (m .octets)) refl where
     go : (a : Admitted) → admit r t c (m .octets) ≡ a → d .chosen < r .count
-    go (on c′) is = judge-keeps (λ x. x .chosen < r .count) r t (λ x y o p h. admit-fits x y o h .low) (n + 1) c′ ms k d (admit-fits c c′ (m .octets) is .low) (rw is at e)
+    go (on c′) is =
+        judge-keeps (λ x. x .chosen < r .count) r t (λ x y o p h. admit-fits x y o h .low) (n + 1) c′ ms k d (admit-fits c c′ (m .octets) is .low)
+        (rw is at e)
     go (stop j) is = let w : halted j (m .place) ≡ whole k d = rw is at e in let z : _≡_ {A = ℕ} 0 1 = cc in absurd (omega arith)
 
   chain-some : (xs : List ℕ) → Some (chainFor r xs)
@@ -117,7 +121,10 @@ module _ (r : Record) (t : List ℕ) (f : eqb (reads r) FURTHER ≡ true) where
         let few : r .count ≤ 16 = leb-true _ _ l2 in
         let some : c .chosen ≡ NONE → ⊥ = λ z. (let h = k .low′ in omega arith) in
         let g : isAt r (c .chosen) (schemeAt r (d .chosen)) ≡ true = rw (ne-eqb _ _ some) at (a .fits) in
-        record { low′ = a .low; same = same-eq _ _ (and-r (ltb (c .chosen) (r .count)) (sameOctets (schemeAt r (d .chosen)) (schemeAt r (c .chosen))) g) ∙ k .same }
+        record {
+          low′ = a .low;
+          same = same-eq _ _ (and-r (ltb (c .chosen) (r .count)) (sameOctets (schemeAt r (d .chosen)) (schemeAt r (c .chosen))) g) ∙ k .same;
+        }
 
     pub judged-kept : (n : ℕ) (c : Scan) → judged r t ≡ whole n c → schemeAt r (c .chosen) ≡ schemeAt r (r .chosen)
     unfolding judged
@@ -282,10 +289,12 @@ module _ (id : Id) where
     refusal : (k : Call) (n p : ℕ) → (n ≡ 0 → ⊥) → Step r k (refused r d n p .answer)
     refusal k n p z = record { inv = ok; stays = λ g. g; spends = λ a v. no-true (sym (ne-eqb n 0 z) ∙ a) }
 
-    step-by : (k : Call) (rows : List Row) (action : Outcome) → without 0 rows ≡ true → (AllTrue rows → Step r k (action .answer)) → Step r k (decide rows r d action .answer)
+    step-by : (k : Call) (rows : List Row) (action : Outcome) → without 0 rows ≡ true → (AllTrue rows → Step r k (action .answer))
+        → Step r k (decide rows r d action .answer)
     step-by k rows action z h = decide-out (λ out. Step r k (out .answer)) rows r d action (λ n g. refusal k n 0 (fails-other 0 rows n z g)) h
 
-    wrote-stays : (position n : ℕ) (w : WrittenAs) → (r .attested ≡ true → w .attested ≡ true) → (Early r → w .requested ≡ r .requested) → Gone r → Gone (wrote r position n w)
+    wrote-stays : (position n : ℕ) (w : WrittenAs) → (r .attested ≡ true → w .attested ≡ true) → (Early r → w .requested ≡ r .requested) → Gone r
+        → Gone (wrote r position n w)
     wrote-stays position n w hv ha (inl e) = inl (record {
       early = e .early;
       spent = hv (e .spent);
@@ -297,12 +306,15 @@ module _ (id : Id) where
     wrote-stays position n w hv ha (inr (inr s)) = inr (inr s)
 
     -- a NEGO or metadata
-    quiet : (kind n : ℕ) (w : WrittenAs) → ((p : ℕ) (v : Bool) → after 0 p v kind ≤ 1) → w .attested ≡ r .attested → w .requested ≡ r .requested → Inv (wrote r (placeAfter r kind) n w) × (Gone r → Gone (wrote r (placeAfter r kind) n w))
+    quiet : (kind n : ℕ) (w : WrittenAs) → ((p : ℕ) (v : Bool) → after 0 p v kind ≤ 1) → w .attested ≡ r .attested → w .requested ≡ r .requested
+        → Inv (wrote r (placeAfter r kind) n w) × (Gone r → Gone (wrote r (placeAfter r kind) n w))
     unfolding writing
     quiet kind n w low hv ha = (
       record {
         low = ok .low;
-        first = λ e st h. absurd (let h′ : 2 ≤ after 0 (r .position) (r .attested) kind = rw (e, st) at h in let l = low (r .position) (r .attested) in omega arith);
+        first =
+            λ e st h. absurd
+            (let h′ : 2 ≤ after 0 (r .position) (r .attested) kind = rw (e, st) at h in let l = low (r .position) (r .attested) in omega arith);
       },
       wrote-stays (placeAfter r kind) n w (λ v. hv ∙ v) (λ e. ha),
     )
@@ -332,7 +344,8 @@ module _ (id : Id) where
         let h′ : 2 ≤ after 0 (r .position) (r .attested) ALERT = rw (e, st) at h in absurd (omega (arith, alert-none (r .position) (r .attested)))
 
     -- a VERIFY by its writer
-    module _ (type : ℤ) (value : List ℕ) (position n : ℕ) (may : mayWrite r VERIFY ≡ true) (allowed : schemeAllowed r ≡ true) (is : id ≡ schemeAt r (schemeNow r)) where
+    module _ (type : ℤ) (value : List ℕ) (position n : ℕ) (may : mayWrite r VERIFY ≡ true) (allowed : schemeAllowed r ≡ true)
+        (is : id ≡ schemeAt r (schemeNow r)) where
       not-gone : Gone r → ⊥
       not-gone (inl e) = attested-bars r may (e .spent)
       not-gone (inr (inl s)) = elim (s .1) [ inl v ↦ attested-bars r may v | inr f ↦ f (is ∙ ap (schemeAt r) (later-now r (s .0))) ]
@@ -371,7 +384,8 @@ module _ (id : Id) where
             })
       ]
 
-    speech-spends : (s : Speech) (position n : ℕ) → mayWrite r (classIn s) ≡ true → schemeAllowed r ≡ true → isChecksum s && sameOctets id (schemeAt r (schemeNow r)) ≡ true → (Gone r → ⊥) × Gone (wrote r position n (spokenAs r s))
+    speech-spends : (s : Speech) (position n : ℕ) → mayWrite r (classIn s) ≡ true → schemeAllowed r ≡ true
+        → isChecksum s && sameOctets id (schemeAt r (schemeNow r)) ≡ true → (Gone r → ⊥) × Gone (wrote r position n (spokenAs r s))
     speech-spends (request value) position n may allowed v = no-true v
     speech-spends (alarm code) position n may allowed v = no-true v
     speech-spends (checksum type value) position n may allowed v =
@@ -386,15 +400,19 @@ module _ (id : Id) where
         (λ g. record {
           inv = record { low = ok .low; first = speech-first s };
           stays = wrote-stays (placeAfter r (classIn s)) (length (spoken r s)) (spokenAs r s) (still-attested r s) (speech-requested s);
-          spends = λ a v. speech-spends s (placeAfter r (classIn s)) (length (spoken r s)) (true-behind (limitRows r) (row 18 (mayWrite r (classIn s))) rest g)
-              (true-behind (stageRows r (classIn s) ++ (row 25 (speechFits s) ∷ [])) (row 15 (schemeAllowed r)) (fits r d (length (spoken r s)) ∷ []) g) v;
+          spends =
+              λ a v. speech-spends s (placeAfter r (classIn s)) (length (spoken r s))
+              (true-behind (limitRows r) (row 18 (mayWrite r (classIn s))) rest g)
+              (true-behind (stageRows r (classIn s) ++ (row 25 (speechFits s) ∷ [])) (row 15 (schemeAllowed r))
+              (fits r d (length (spoken r s)) ∷ []) g) v;
         })
 
     offers : (nego : NegoCall) → Step r (offer nego) (offering r d (nego .0) .answer)
     unfolding offering
     offers nego =
         step-by (offer nego) (stageRows r NEGO ++ thenFits (offerRows r (nego .0)) r d (offered r (nego .0))) _ refl
-        (λ g. let q = quiet NEGO (length (offered r (nego .0))) (unchanged r) nego-low refl refl in record { inv = q .0; stays = q .1; spends = λ a v. no-true v })
+        (λ g. let q = quiet NEGO (length (offered r (nego .0))) (unchanged r) nego-low refl refl in
+        record { inv = q .0; stays = q .1; spends = λ a v. no-true v })
 
     replies : (m : ℕ) (nego : NegoCall) → Step r (reply m nego) (replying r d m (nego .0) .answer)
     unfolding replying
@@ -402,15 +420,20 @@ module _ (id : Id) where
         step-by (reply m nego) (stageRows r NEGO ++ thenFits (replyRows r m (nego .0)) r d (replyMessage r m (nego .0))) _ refl
         (λ g.
         let w : WrittenAs = record { marks = m; metadata = r .metadata; requested = r .requested; attested = r .attested } in
-        let q = quiet NEGO (length (replyMessage r m (nego .0))) w nego-low refl refl in record { inv = q .0; stays = q .1; spends = λ a v. no-true v })
+        let q =
+        quiet NEGO (length (replyMessage r m (nego .0))) w nego-low refl refl in record { inv = q .0; stays = q .1; spends = λ a v. no-true v })
 
     tells : (scheme : Sized 16) (value : List ℕ) → Step r (metadata scheme value) (writingMetadata r d (scheme .0) value .answer)
     unfolding writingMetadata
     tells scheme value =
-        step-by (metadata scheme value) (stageRows r METADATA ++ thenFits (metadataRows r (scheme .0) (length value)) r d (metadataMessage r (scheme .0) value)) _ refl
+        step-by (metadata scheme value)
+        (stageRows r METADATA ++ thenFits (metadataRows r (scheme .0) (length value)) r d (metadataMessage r (scheme .0) value)) _ refl
         (λ g.
-        let w : WrittenAs = record { marks = r .marks; metadata = r .metadata + 2 ^ place (ownOf r) (scheme .0); requested = r .requested; attested = r .attested } in
-        let q = quiet METADATA (length (metadataMessage r (scheme .0) value)) w metadata-low refl refl in record { inv = q .0; stays = q .1; spends = λ a v. no-true v })
+        let w : WrittenAs =
+        record { marks = r .marks; metadata = r .metadata + 2 ^ place (ownOf r) (scheme .0); requested = r .requested; attested = r .attested } in
+        let q =
+        quiet METADATA (length (metadataMessage r (scheme .0) value)) w metadata-low refl refl in
+        record { inv = q .0; stays = q .1; spends = λ a v. no-true v })
 
     -- the choice: an early VERIFY is spent where it is for the chosen place, and else for another scheme
     module _ (m : ℕ) (limits : AllTrue (limitRows r)) (at : r .stage ≡ 2) (low : firstPlace (openTo r m) < r .count) where
@@ -425,7 +448,8 @@ module _ (id : Id) where
         ],
       ))
 
-      chose-spends : (s : Speech) (position n : ℕ) → mayWrite (chose r m) (classIn s) ≡ true → isChecksum s && sameOctets id (schemeAt (chose r m) (schemeNow (chose r m))) ≡ true
+      chose-spends : (s : Speech) (position n : ℕ) → mayWrite (chose r m) (classIn s) ≡ true
+          → isChecksum s && sameOctets id (schemeAt (chose r m) (schemeNow (chose r m))) ≡ true
           → (Gone r → ⊥) × Gone (wrote (chose r m) position n (spokenAs (chose r m) s))
       chose-spends (request value) position n may v = no-true v
       chose-spends (alarm code) position n may v = no-true v
@@ -444,7 +468,8 @@ module _ (id : Id) where
         step-by (choose m s) (choiceTable r d m s) _ refl
         (λ g.
         let p = choice-passed r d m s g in
-        let limits : AllTrue (limitRows r) = front-true (limitRows r) (thenFits (choiceRows r m (speechFits s) (classIn s)) (chose r m) d (spoken (chose r m) s)) g in
+        let limits : AllTrue (limitRows r) =
+        front-true (limitRows r) (thenFits (choiceRows r m (speechFits s) (classIn s)) (chose r m) d (spoken (chose r m) s)) g in
         let role : r .acceptor ≡ false = not-true _ (and-l (not (r .acceptor)) (eqb (r .stage) 2) (p .may)) in
         let at : r .stage ≡ 2 = eqb-true _ _ (and-r (not (r .acceptor)) (eqb (r .stage) 2) (p .may)) in
         let (l1, (l2, (l3, (l4, (l5, (l6, (l7, rest))))))) = limits in
@@ -502,7 +527,12 @@ module _ (id : Id) where
 
     halted-step : (n p : ℕ) → (n ≡ 0 → ⊥) → Step r read (refused (closedBy n r) d n p .answer)
     halted-step n p z = elim (which (eqb n 12)) [
-      | inl h ↦ rw h (record { inv = record { low = λ q. absurd (omega arith); first = λ a q. absurd (omega arith) }; stays = λ s. inr (inr refl); spends = λ a v. no-true v })
+      | inl h ↦ rw h
+          (record {
+            inv = record { low = λ q. absurd (omega arith); first = λ a q. absurd (omega arith) };
+            stays = λ s. inr (inr refl);
+            spends = λ a v. no-true v;
+          })
       | inr h ↦ rw h (refusal read n p z)
     ]
 
@@ -547,11 +577,15 @@ module _ (id : Id) where
 
   spends-at : (w : World) (x y : Bool) (k : Call) → Invs w → here w x y k ≡ true → (Gone (recordAt x w) → ⊥) × Gone (recordAt x (next w y k))
   spends-at w false false k h v =
-      let p = both (isAccepted (outcomeAt w false k .answer)) (verifies id (w .i .record-of) k) v in step (w .i) (w .a .turn) k (h .0) .spends (p .0) (p .1)
+      let p =
+      both (isAccepted (outcomeAt w false k .answer)) (verifies id (w .i .record-of) k) v in
+      step (w .i) (w .a .turn) k (h .0) .spends (p .0) (p .1)
   spends-at w false true k h v = no-true v
   spends-at w true false k h v = no-true v
   spends-at w true true k h v =
-      let p = both (isAccepted (outcomeAt w true k .answer)) (verifies id (w .a .record-of) k) v in step (w .a) (w .i .turn) k (h .1) .spends (p .0) (p .1)
+      let p =
+      both (isAccepted (outcomeAt w true k .answer)) (verifies id (w .a .record-of) k) v in
+      step (w .a) (w .i .turn) k (h .1) .spends (p .0) (p .1)
 
   none-behind : (w : World) (x : Bool) (cs : List (Bool × Call)) → Invs w → Gone (recordAt x w) → verifyCount w x id cs ≡ 0
   none-behind w x [] h s = refl
@@ -581,4 +615,7 @@ module _ (id : Id) where
   ]
 
 pub invs-start : (o : Opening) → Inv (world o .i .record-of) × Inv (world o .a .record-of)
-invs-start o = (record { low = λ z. absurd (omega arith); first = λ a s p. absurd (omega arith) }, record { low = λ z. absurd (omega arith); first = λ a s p. absurd (omega arith) })
+invs-start o = (
+  record { low = λ z. absurd (omega arith); first = λ a s p. absurd (omega arith) },
+  record { low = λ z. absurd (omega arith); first = λ a s p. absurd (omega arith) },
+)

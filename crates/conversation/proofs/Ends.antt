@@ -48,8 +48,10 @@ pub record Together (i a : ℕ) : Type 0 where
   later : i ≡ 3 → 1 ≤ a
 
 -- an INITIATOR_NEGO's table that passes gives 25 and 26
-extensions-true : (r : Record) (d : List ℕ) (g : NegoContent) → AllTrue (stageRows r NEGO ++ thenFits (offerRows r g) r d (offered r g)) → AllTrue (extensionRows g)
-extensions-true r d g t = let (is-initiator, (x25, (x26, rest))) = back-true (stageRows r NEGO) (thenFits (offerRows r g) r d (offered r g)) t in (x25, (x26, tt))
+extensions-true : (r : Record) (d : List ℕ) (g : NegoContent) → AllTrue (stageRows r NEGO ++ thenFits (offerRows r g) r d (offered r g))
+    → AllTrue (extensionRows g)
+extensions-true r d g t =
+    let (is-initiator, (x25, (x26, rest))) = back-true (stageRows r NEGO) (thenFits (offerRows r g) r d (offered r g)) t in (x25, (x26, tt))
 
 pub ok-distinct : (l : List Id) → oneTo16 l ≡ true → distinct l ≡ true
 ok-distinct l e = and-r (leb 1 (length l) && leb (length l) 16) (distinct l) e
@@ -59,8 +61,11 @@ some-first [] h = no-true h
 some-first (x ∷ l) h = refl
 
 module _ (o : Opening) (Q : ℕ → Type 0)
-    (heads-offer : (r : Record) (nego : NegoCall) → r .acceptor ≡ false → r .list ≡ padTo 256 (joinIds (o .initiator)) → r .count ≡ length (o .initiator) → r .conversation ≡ o .conversation .0 → AllTrue (limitRows r) → AllTrue (extensionRows (nego .0)) → Heads 0 (o .initiator) (offered r (nego .0)))
-    (heads-reply : (r : Record) (m : ℕ) (nego : NegoCall) → r .acceptor ≡ true → ownOf r ≡ o .acceptor → length (r .conversation) ≡ 16 → AllTrue (limitRows r) → AllTrue (extensionRows (nego .0)) → Heads 1 (left (o .acceptor) (r .common) m) (replyMessage r m (nego .0)))
+    (heads-offer : (r : Record) (nego : NegoCall) → r .acceptor ≡ false → r .list ≡ padTo 256 (joinIds (o .initiator))
+    → r .count ≡ length (o .initiator) → r .conversation ≡ o .conversation .0 → AllTrue (limitRows r) → AllTrue (extensionRows (nego .0))
+    → Heads 0 (o .initiator) (offered r (nego .0)))
+    (heads-reply : (r : Record) (m : ℕ) (nego : NegoCall) → r .acceptor ≡ true → ownOf r ≡ o .acceptor → length (r .conversation) ≡ 16
+    → AllTrue (limitRows r) → AllTrue (extensionRows (nego .0)) → Heads 1 (left (o .acceptor) (r .common) m) (replyMessage r m (nego .0)))
   where
     abbrev pub reply-of : ℕ → List Id
     reply-of m = replyOf (o .acceptor) (o .initiator) m
@@ -69,7 +74,8 @@ module _ (o : Opening) (Q : ℕ → Type 0)
     pub data IniAt (r : Record) (turn : List ℕ) : Type 0 where
       ini-fresh : r .stage ≡ 0 → r .position ≡ 0 → turn ≡ [] → IniAt r turn
       ini-open : r .stage ≡ 0 → 1 ≤ r .position → Heads 0 (o .initiator) turn → IniAt r turn
-      ini-choosing : r .stage ≡ 2 → turn ≡ [] → (ma : ℕ) → Q ma → r .kept ≡ padTo 16 (keptPlaces (o .initiator) (reply-of ma)) → r .common ≡ ones (length (keptPlaces (o .initiator) (reply-of ma))) → IniAt r turn
+      ini-choosing : r .stage ≡ 2 → turn ≡ [] → (ma : ℕ) → Q ma → r .kept ≡ padTo 16 (keptPlaces (o .initiator) (reply-of ma))
+          → r .common ≡ ones (length (keptPlaces (o .initiator) (reply-of ma))) → IniAt r turn
       ini-later : r .stage ≡ 3 → IniAt r turn
 
     pub record IniOk (e : End) : Type 0 where
@@ -83,7 +89,8 @@ module _ (o : Opening) (Q : ℕ → Type 0)
     -- the acceptor: nothing read; the first token read; a turn that begins with its NEGO, written with the marks ma; a later token read
     pub data AccAt (r : Record) (turn : List ℕ) : Type 0 where
       acc-fresh : r .stage ≡ 0 → turn ≡ [] → AccAt r turn
-      acc-read : r .stage ≡ 1 → r .position ≡ 0 → r .common ≡ commonSet (o .acceptor) (o .initiator) → length (r .conversation) ≡ 16 → turn ≡ [] → AccAt r turn
+      acc-read : r .stage ≡ 1 → r .position ≡ 0 → r .common ≡ commonSet (o .acceptor) (o .initiator) → length (r .conversation) ≡ 16 → turn ≡ []
+          → AccAt r turn
       acc-open : r .stage ≡ 1 → 1 ≤ r .position → (ma : ℕ) → Q ma → Heads 1 (reply-of ma) turn → AccAt r turn
       acc-later : r .stage ≡ 3 → AccAt r turn
 
@@ -102,7 +109,9 @@ module _ (o : Opening) (Q : ℕ → Type 0)
     abbrev pub ChooseSays : ℕ → Answer → Type 0
     ChooseSays m a =
         (a .refusal ≡ 17 → (ma : ℕ) × (Q ma × (leftOver (o .acceptor) (o .initiator) ma m ≡ [])))
-        × (isAccepted a ≡ true → (ma : ℕ) × (Q ma × ((rule2 (o .acceptor) (o .initiator) ma m ≡ some (a .choice)) × (a .left ≡ length (leftOver (o .acceptor) (o .initiator) ma m)))))
+        × (isAccepted a ≡ true → (ma : ℕ)
+        × (Q ma
+        × ((rule2 (o .acceptor) (o .initiator) ma m ≡ some (a .choice)) × (a .left ≡ length (leftOver (o .acceptor) (o .initiator) ma m)))))
         × (isLawful a ≡ true → (a .refusal ≡ 17) ⊎ (isAccepted a ≡ true))
 
     -- a call of the other end
@@ -158,24 +167,39 @@ module _ (o : Opening) (Q : ℕ → Type 0)
       IniGoal = Goal e IniOk beside
 
       -- a message after the NEGO
-      ini-more : (kind n : ℕ) (w : WrittenAs) (x : List ℕ) → NotFirst kind → mayWrite r kind ≡ true → IniAt r (e .turn) → IniAt (wrote r (placeAfter r kind) n w) (e .turn ++ x)
+      ini-more : (kind n : ℕ) (w : WrittenAs) (x : List ℕ) → NotFirst kind → mayWrite r kind ≡ true → IniAt r (e .turn)
+          → IniAt (wrote r (placeAfter r kind) n w) (e .turn ++ x)
       unfolding writing
       ini-more kind n w x nf h (ini-fresh st p t) =
-          absurd (no-after _ (nf 0 (r .attested) refl) (let h′ : not (eqb (after (writing false 0) 0 (r .attested) kind) 0) ≡ true = rw (ok .role, st, p) at h in h′))
+          absurd (no-after _ (nf 0 (r .attested) refl)
+          (let h′ : not (eqb (after (writing false 0) 0 (r .attested) kind) 0) ≡ true = rw (ok .role, st, p) at h in h′))
       ini-more kind n w x nf h (ini-open st p t) = ini-open st (positive (placeAfter r kind) h) (heads-more 0 (o .initiator) (e .turn) x t)
       ini-more kind n w x nf h (ini-choosing st t ma q ks c) =
-          absurd (no-after _ (none-written (r .position) (r .attested) kind) (let h′ : not (eqb (after (writing false 2) (r .position) (r .attested) kind) 0) ≡ true = rw (ok .role, st) at h in h′))
+          absurd (no-after _ (none-written (r .position) (r .attested) kind)
+          (let h′ : not (eqb (after (writing false 2) (r .position) (r .attested) kind) 0) ≡ true = rw (ok .role, st) at h in h′))
       ini-more kind n w x nf h (ini-later st) = ini-later st
 
-      ini-on : (kind : ℕ) (w : WrittenAs) (x d′ : List ℕ) → NotFirst kind → mayWrite r kind ≡ true → IniOk (record { record-of = wrote r (placeAfter r kind) (length x) w; transcript = d′; turn = e .turn ++ x })
-      ini-on kind w x d′ nf h = record { role = ok .role; own = ok .own; bytes = ok .bytes; count = ok .count; talk = ok .talk; at = ini-more kind (length x) w x nf h (ok .at) }
+      ini-on : (kind : ℕ) (w : WrittenAs) (x d′ : List ℕ) → NotFirst kind → mayWrite r kind ≡ true
+          → IniOk (record { record-of = wrote r (placeAfter r kind) (length x) w; transcript = d′; turn = e .turn ++ x })
+      ini-on kind w x d′ nf h =
+          record {
+            role = ok .role;
+            own = ok .own;
+            bytes = ok .bytes;
+            count = ok .count;
+            talk = ok .talk;
+            at = ini-more kind (length x) w x nf h (ok .at);
+          }
 
-      ini-nego : (nego : NegoCall) → mayWrite r NEGO ≡ true → AllTrue (limitRows r) → AllTrue (extensionRows (nego .0)) → IniAt r (e .turn) → IniAt (wrote r (placeAfter r NEGO) (length (offered r (nego .0))) (unchanged r)) (e .turn ++ offered r (nego .0))
+      ini-nego : (nego : NegoCall) → mayWrite r NEGO ≡ true → AllTrue (limitRows r) → AllTrue (extensionRows (nego .0)) → IniAt r (e .turn)
+          → IniAt (wrote r (placeAfter r NEGO) (length (offered r (nego .0))) (unchanged r)) (e .turn ++ offered r (nego .0))
       unfolding writing
-      ini-nego nego h l x (ini-fresh st p t) = ini-open st (positive (placeAfter r NEGO) h) (rw t (heads-offer r nego (ok .role) (ok .bytes) (ok .count) (ok .talk) l x))
+      ini-nego nego h l x (ini-fresh st p t) =
+          ini-open st (positive (placeAfter r NEGO) h) (rw t (heads-offer r nego (ok .role) (ok .bytes) (ok .count) (ok .talk) l x))
       ini-nego nego h l x (ini-open st p t) = absurd (let z = nego-start (writes r) (r .position) (r .attested) h in omega (arith, z .1))
       ini-nego nego h l x (ini-choosing st t ma q ks c) =
-          absurd (no-after _ (none-written (r .position) (r .attested) NEGO) (let h′ : not (eqb (after (writing false 2) (r .position) (r .attested) NEGO) 0) ≡ true = rw (ok .role, st) at h in h′))
+          absurd (no-after _ (none-written (r .position) (r .attested) NEGO)
+          (let h′ : not (eqb (after (writing false 2) (r .position) (r .attested) NEGO) 0) ≡ true = rw (ok .role, st) at h in h′))
       ini-nego nego h l x (ini-later st) =
           no-true (let z : leb (writing false 3) 1 ≡ true = rw (ok .role, st) at (nego-start (writes r) (r .position) (r .attested) h .0) in z)
 
@@ -186,7 +210,17 @@ module _ (o : Opening) (Q : ℕ → Type 0)
           decide-out (IniGoal (offer nego) no17) (stageRows r NEGO ++ more) r d (appended r d (placeAfter r NEGO) (offered r (nego .0)) (unchanged r))
           (stopped e IniOk beside ok tg (offer nego) (stageRows r NEGO ++ more) refl refl)
           (λ g. record {
-            then-ok = record { role = ok .role; own = ok .own; bytes = ok .bytes; count = ok .count; talk = ok .talk; at = ini-nego nego (true-behind (limitRows r) (row 18 (mayWrite r NEGO)) more g) (front-true (limitRows r) (row 18 (mayWrite r NEGO) ∷ more) g) (extensions-true r d (nego .0) g) (ok .at) };
+            then-ok =
+                record {
+                  role = ok .role;
+                  own = ok .own;
+                  bytes = ok .bytes;
+                  count = ok .count;
+                  talk = ok .talk;
+                  at =
+                      ini-nego nego (true-behind (limitRows r) (row 18 (mayWrite r NEGO)) more g)
+                      (front-true (limitRows r) (row 18 (mayWrite r NEGO) ∷ more) g) (extensions-true r d (nego .0) g) (ok .at);
+                };
             then-together = tg;
             fair = λ q. omega arith;
           })
@@ -194,7 +228,10 @@ module _ (o : Opening) (Q : ℕ → Type 0)
       ini-reply : (m : ℕ) (nego : NegoCall) → IniGoal (reply m nego) Barred (replying r d m (nego .0))
       unfolding replying
       ini-reply m nego =
-          let more : List Row = row 19 (below (r .count) m) ∷ (extensionRows (nego .0) ++ (row 17 (someLeft (left (ownOf r) (r .common) m)) ∷ fits r d (length (replyMessage r m (nego .0))) ∷ [])) in
+          let more : List Row =
+          row 19 (below (r .count) m)
+          ∷ (extensionRows (nego .0)
+          ++ (row 17 (someLeft (left (ownOf r) (r .common) m)) ∷ fits r d (length (replyMessage r m (nego .0))) ∷ [])) in
           decide-out (IniGoal (reply m nego) Barred) (stageRows r NEGO ++ (row 18 (r .acceptor) ∷ more)) r d _
           (λ n g.
           let h = fails-until (stageRows r NEGO) (row 18 (r .acceptor)) more n (ok .role) g in
@@ -211,7 +248,8 @@ module _ (o : Opening) (Q : ℕ → Type 0)
         go false true = refl
         go false false = refl
 
-      ini-reads : (n : ℕ) (c : Scan) → mayRead r ≡ true → judged r (f .turn) ≡ whole n c → IniAt r (e .turn) → AccAt (f .record-of) (f .turn) → IniAt (taken r (f .turn) n c) [] × Together (reads r + 1) (f .record-of .stage)
+      ini-reads : (n : ℕ) (c : Scan) → mayRead r ≡ true → judged r (f .turn) ≡ whole n c → IniAt r (e .turn) → AccAt (f .record-of) (f .turn)
+          → IniAt (taken r (f .turn) n c) [] × Together (reads r + 1) (f .record-of .stage)
       unfolding reading commonAfter keptAfter
       ini-reads n c h w (ini-fresh st p t) a = no-true (rw (ok .role, st, p) at h)
       ini-reads n c h w (ini-choosing st t ma q ks co) a = no-true (rw (ok .role, st) at h)
@@ -228,13 +266,17 @@ module _ (o : Opening) (Q : ℕ → Type 0)
             record { first-stage = λ z. absurd (omega arith); choosing′ = λ z. st′; later = λ z. absurd (omega arith) },
           )
 
-      ini-reads-on : (n : ℕ) (c : Scan) (d′ : List ℕ) → mayRead r ≡ true → judged r (f .turn) ≡ whole n c → IniOk (record { record-of = taken r (f .turn) n c; transcript = d′; turn = [] }) × beside (reads r + 1)
+      ini-reads-on : (n : ℕ) (c : Scan) (d′ : List ℕ) → mayRead r ≡ true → judged r (f .turn) ≡ whole n c
+          → IniOk (record { record-of = taken r (f .turn) n c; transcript = d′; turn = [] }) × beside (reads r + 1)
       ini-reads-on n c d′ h w =
-          let g = ini-reads n c h w (ok .at) (ok′ .at) in
-          (record { role = ok .role; own = ok .own; bytes = ok .bytes; count = ok .count; talk = ini-conversation (f .turn) ∙ ok .talk; at = g .0 }, g .1)
+          let g = ini-reads n c h w (ok .at) (ok′ .at) in (
+            record { role = ok .role; own = ok .own; bytes = ok .bytes; count = ok .count; talk = ini-conversation (f .turn) ∙ ok .talk; at = g .0 },
+            g .1,
+          )
 
       -- the choice
-      ini-chooses : (m : ℕ) → eqb (r .stage) 2 ≡ true → IniAt r (e .turn) → (ma : ℕ) × (Q ma × (named (ownOf r) (openTo r m) ≡ leftOver (o .acceptor) (o .initiator) ma m))
+      ini-chooses : (m : ℕ) → eqb (r .stage) 2 ≡ true → IniAt r (e .turn)
+          → (ma : ℕ) × (Q ma × (named (ownOf r) (openTo r m) ≡ leftOver (o .acceptor) (o .initiator) ma m))
       ini-chooses m h (ini-fresh st p t) = no-true (rw st at h)
       ini-chooses m h (ini-open st p t) = no-true (rw st at h)
       ini-chooses m h (ini-later st) = no-true (rw st at h)
@@ -270,8 +312,17 @@ module _ (o : Opening) (Q : ℕ → Type 0)
           let c = ini-chooses m h (ok .at) in
           record {
             then-ok = record { role = ok .role; own = ok .own; bytes = ok .bytes; count = ok .count; talk = ok .talk; at = ini-later refl };
-            then-together = record { first-stage = λ z. absurd (omega arith); choosing′ = λ z. absurd (omega arith); later = λ z. (let w = tg .choosing′ (eqb-true _ _ h) in omega arith) };
-            fair = ((λ z. absurd (omega arith)), (λ z. (c .0, (c .1 .0, (ap first (sym (c .1 .1)) ∙ some-first l (p .left), ap length (c .1 .1))))), (λ z. inr refl));
+            then-together =
+                record {
+                  first-stage = λ z. absurd (omega arith);
+                  choosing′ = λ z. absurd (omega arith);
+                  later = λ z. (let w = tg .choosing′ (eqb-true _ _ h) in omega arith);
+                };
+            fair = (
+              (λ z. absurd (omega arith)),
+              (λ z. (c .0, (c .1 .0, (ap first (sym (c .1 .1)) ∙ some-first l (p .left), ap length (c .1 .1))))),
+              (λ z. inr refl),
+            );
           })
 
       ini-step : (k : Call) → no12 (act e (f .turn) k .answer) → IniGoal k (IniSays k) (act e (f .turn) k)
@@ -298,16 +349,20 @@ module _ (o : Opening) (Q : ℕ → Type 0)
       abbrev AccGoal : (k : Call) (P : Answer → Type 0) → Outcome → Type 0
       AccGoal = Goal e AccOk along
 
-      acc-more : (kind n : ℕ) (w : WrittenAs) (x : List ℕ) → NotFirst kind → mayWrite s kind ≡ true → AccAt s (e .turn) → AccAt (wrote s (placeAfter s kind) n w) (e .turn ++ x)
+      acc-more : (kind n : ℕ) (w : WrittenAs) (x : List ℕ) → NotFirst kind → mayWrite s kind ≡ true → AccAt s (e .turn)
+          → AccAt (wrote s (placeAfter s kind) n w) (e .turn ++ x)
       unfolding writing
       acc-more kind n w x nf h (acc-fresh st t) =
-          absurd (no-after _ (none-written (s .position) (s .attested) kind) (let h′ : not (eqb (after (writing true 0) (s .position) (s .attested) kind) 0) ≡ true = rw (ok .role, st) at h in h′))
+          absurd (no-after _ (none-written (s .position) (s .attested) kind)
+          (let h′ : not (eqb (after (writing true 0) (s .position) (s .attested) kind) 0) ≡ true = rw (ok .role, st) at h in h′))
       acc-more kind n w x nf h (acc-read st p c lc t) =
-          absurd (no-after _ (nf 1 (s .attested) refl) (let h′ : not (eqb (after (writing true 1) 0 (s .attested) kind) 0) ≡ true = rw (ok .role, st, p) at h in h′))
+          absurd (no-after _ (nf 1 (s .attested) refl)
+          (let h′ : not (eqb (after (writing true 1) 0 (s .attested) kind) 0) ≡ true = rw (ok .role, st, p) at h in h′))
       acc-more kind n w x nf h (acc-open st p ma q t) = acc-open st (positive (placeAfter s kind) h) ma q (heads-more 1 (reply-of ma) (e .turn) x t)
       acc-more kind n w x nf h (acc-later st) = acc-later st
 
-      acc-on : (kind : ℕ) (w : WrittenAs) (x d′ : List ℕ) → NotFirst kind → mayWrite s kind ≡ true → AccOk (record { record-of = wrote s (placeAfter s kind) (length x) w; transcript = d′; turn = e .turn ++ x })
+      acc-on : (kind : ℕ) (w : WrittenAs) (x d′ : List ℕ) → NotFirst kind → mayWrite s kind ≡ true
+          → AccOk (record { record-of = wrote s (placeAfter s kind) (length x) w; transcript = d′; turn = e .turn ++ x })
       acc-on kind w x d′ nf h = record { role = ok .role; own = ok .own; at = acc-more kind (length x) w x nf h (ok .at) }
 
       acc-offer : (nego : NegoCall) → AccGoal (offer nego) no17 (offering s b (nego .0))
@@ -316,7 +371,8 @@ module _ (o : Opening) (Q : ℕ → Type 0)
           let more : List Row = extensionRows (nego .0) ++ (fits s b (length (offered s (nego .0))) ∷ []) in
           let no : not (s .acceptor) ≡ false = rw (ok .role) in
           decide-out (AccGoal (offer nego) no17) (stageRows s NEGO ++ (row 18 (not (s .acceptor)) ∷ more)) s b _
-          (λ n g. stopped e AccOk along ok tg (offer nego) (stageRows s NEGO ++ (row 18 (not (s .acceptor)) ∷ [])) refl refl n (fails-until (stageRows s NEGO) (row 18 (not (s .acceptor))) more n no g))
+          (λ n g. stopped e AccOk along ok tg (offer nego) (stageRows s NEGO ++ (row 18 (not (s .acceptor)) ∷ [])) refl refl n
+          (fails-until (stageRows s NEGO) (row 18 (not (s .acceptor))) more n no g))
           (λ g. no-true (sym no ∙ true-behind (stageRows s NEGO) (row 18 (not (s .acceptor))) more g))
 
       -- the acceptor's NEGO: the rows before 17
@@ -333,7 +389,8 @@ module _ (o : Opening) (Q : ℕ → Type 0)
       acc-lists : (m : ℕ) → mayWrite s NEGO ≡ true → AccAt s (e .turn) → Listing m
       unfolding writing
       acc-lists m h (acc-fresh st t) =
-          absurd (no-after _ (none-written (s .position) (s .attested) NEGO) (let h′ : not (eqb (after (writing true 0) (s .position) (s .attested) NEGO) 0) ≡ true = rw (ok .role, st) at h in h′))
+          absurd (no-after _ (none-written (s .position) (s .attested) NEGO)
+          (let h′ : not (eqb (after (writing true 0) (s .position) (s .attested) NEGO) 0) ≡ true = rw (ok .role, st) at h in h′))
       acc-lists m h (acc-read st p c lc t) = record {
         stage = st;
         lists = rw (ok .own, c) (left-keep (o .acceptor) (o .initiator) m (ok-distinct (o .acceptor) (o .acceptor-ok)));
@@ -370,31 +427,46 @@ module _ (o : Opening) (Q : ℕ → Type 0)
         goes-before x y v w h = no-true (rw (ne-eqb n 18 x, ne-eqb n 19 y, ne-eqb n 25 v, ne-eqb n 26 w) at h)
 
         lists : AllTrue before → l ≡ reply-of m
-        lists t = acc-lists m (true-behind (limitRows s) (row 18 (mayWrite s NEGO)) (row 18 (s .acceptor) ∷ row 19 (below (s .count) m) ∷ extensionRows (nego .0)) t) (ok .at) .lists
+        lists t =
+            acc-lists m
+            (true-behind (limitRows s) (row 18 (mayWrite s NEGO)) (row 18 (s .acceptor) ∷ row 19 (below (s .count) m) ∷ extensionRows (nego .0)) t)
+            (ok .at) .lists
 
         given : FirstFails n (row 17 (someLeft l) ∷ last) → l ≡ [] → n ≡ 17
         given (inl f) none = sym (f .1)
         given (inr f) none = no-true (sym (ap someLeft none) ∙ f .0)
 
-      acc-reply : (m : ℕ) (nego : NegoCall) → (isAccepted (replying s b m (nego .0) .answer) ≡ true → Q m) → AccGoal (reply m nego) (ReplyAnswer o m) (replying s b m (nego .0))
+      acc-reply : (m : ℕ) (nego : NegoCall) → (isAccepted (replying s b m (nego .0) .answer) ≡ true → Q m)
+          → AccGoal (reply m nego) (ReplyAnswer o m) (replying s b m (nego .0))
       unfolding replying
       acc-reply m nego =
           let l : List Id = left (ownOf s) (s .common) m in
           let last : List Row = fits s b (length (replyMessage s m (nego .0))) ∷ [] in
           let before : List Row = replyBefore m nego in
-          decide-out (λ out. (isAccepted (out .answer) ≡ true → Q m) → AccGoal (reply m nego) (ReplyAnswer o m) out) (before ++ (row 17 (someLeft l) ∷ last)) s b
-          (naming l (appended s b (placeAfter s NEGO) (replyMessage s m (nego .0)) (record { marks = m; metadata = s .metadata; requested = s .requested; attested = s .attested })))
-          (λ n g ask. refusal e AccOk along ok tg (reply m nego) (ReplyAnswer o m) n 0 (fails-other 0 (before ++ (row 17 (someLeft l) ∷ last)) n refl g) (reply-refused m nego n last refl refl g))
+          decide-out (λ out. (isAccepted (out .answer) ≡ true → Q m) → AccGoal (reply m nego) (ReplyAnswer o m) out)
+          (before ++ (row 17 (someLeft l) ∷ last)) s b
+          (naming l
+          (appended s b (placeAfter s NEGO) (replyMessage s m (nego .0))
+          (record { marks = m; metadata = s .metadata; requested = s .requested; attested = s .attested })))
+          (λ n g ask. refusal e AccOk along ok tg (reply m nego) (ReplyAnswer o m) n 0
+          (fails-other 0 (before ++ (row 17 (someLeft l) ∷ last)) n refl g) (reply-refused m nego n last refl refl g))
           (λ g ask.
           let more : List Row = row 18 (s .acceptor) ∷ row 19 (below (s .count) m) ∷ (extensionRows (nego .0) ++ (row 17 (someLeft l) ∷ last)) in
           let h = true-behind (limitRows s) (row 18 (mayWrite s NEGO)) more g in
           let (is-acceptor, (marks, (x25, (x26, behind)))) = back-true (stageRows s NEGO) more g in
           let some-left = true-behind before (row 17 (someLeft l)) last g in
           let a = acc-lists m h (ok .at) in
-          let hd : Heads 1 (left (o .acceptor) (s .common) m) (replyMessage s m (nego .0)) = heads-reply s m nego (ok .role) (ok .own) (a .talk) (front-true (limitRows s) (row 18 (mayWrite s NEGO) ∷ more) g) (x25, (x26, tt)) in
+          let hd : Heads 1 (left (o .acceptor) (s .common) m) (replyMessage s m (nego .0)) =
+          heads-reply s m nego (ok .role) (ok .own) (a .talk) (front-true (limitRows s) (row 18 (mayWrite s NEGO) ∷ more) g) (x25, (x26, tt)) in
           let same : left (o .acceptor) (s .common) m ≡ reply-of m = ap (λ (k : List Id). left k (s .common) m) (sym (ok .own)) ∙ a .lists in
           record {
-            then-ok = record { role = ok .role; own = ok .own; at = acc-open (a .stage) (positive (placeAfter s NEGO) h) m (ask refl) (rw (a .none-yet) (subst (λ (k : List Id). Heads 1 k (replyMessage s m (nego .0))) same hd)) };
+            then-ok =
+                record {
+                  role = ok .role;
+                  own = ok .own;
+                  at = acc-open (a .stage) (positive (placeAfter s NEGO) h) m (ask refl)
+                      (rw (a .none-yet) (subst (λ (k : List Id). Heads 1 k (replyMessage s m (nego .0))) same hd));
+                };
             then-together = tg;
             fair = record {
               refuses = λ z. absurd (omega arith);
@@ -414,7 +486,8 @@ module _ (o : Opening) (Q : ℕ → Type 0)
                 no-true (nego-start 2 0 v h′ .0)
 
       -- a token, read
-      acc-reads : (n : ℕ) (c : Scan) → mayRead s ≡ true → judged s (f .turn) ≡ whole n c → AccAt s (e .turn) → IniAt (f .record-of) (f .turn) → AccAt (taken s (f .turn) n c) [] × Together (f .record-of .stage) (reads s + 1)
+      acc-reads : (n : ℕ) (c : Scan) → mayRead s ≡ true → judged s (f .turn) ≡ whole n c → AccAt s (e .turn) → IniAt (f .record-of) (f .turn)
+          → AccAt (taken s (f .turn) n c) [] × Together (f .record-of .stage) (reads s + 1)
       unfolding reading commonAfter conversationOf
       acc-reads n c h w (acc-fresh st t) (ini-fresh st′ p′ t′) = absurd (empty-judged s n c (rw t′ at w))
       acc-reads n c h w (acc-fresh st t) (ini-choosing st′ t′ ma q ks co) = absurd (empty-judged s n c (rw t′ at w))
@@ -437,7 +510,8 @@ module _ (o : Opening) (Q : ℕ → Type 0)
           let is : reads s + 1 ≡ 3 = rw (ok .role, st) in
           (acc-later is, subst (λ (k : ℕ). Together (f .record-of .stage) k) (st ∙ sym is) tg)
 
-      acc-reads-on : (n : ℕ) (c : Scan) (d′ : List ℕ) → mayRead s ≡ true → judged s (f .turn) ≡ whole n c → AccOk (record { record-of = taken s (f .turn) n c; transcript = d′; turn = [] }) × along (reads s + 1)
+      acc-reads-on : (n : ℕ) (c : Scan) (d′ : List ℕ) → mayRead s ≡ true → judged s (f .turn) ≡ whole n c
+          → AccOk (record { record-of = taken s (f .turn) n c; transcript = d′; turn = [] }) × along (reads s + 1)
       acc-reads-on n c d′ h w = let g = acc-reads n c h w (ok .at) (ok′ .at) in (record { role = ok .role; own = ok .own; at = g .0 }, g .1)
 
       -- an acceptor never chooses
@@ -491,7 +565,8 @@ module _ (o : Opening) (Q : ℕ → Type 0)
     fair-18 false read a n = λ z. omega arith
     fair-18 false (choose m s) a n = ((λ z. absurd (omega arith)), (λ z. no-true (rw n at z)), (λ z. no-true (rw n at z)))
     fair-18 true (offer nego) a n = λ z. omega arith
-    fair-18 true (reply m nego) a n = record { refuses = λ z. absurd (omega arith); answers = λ z. no-true (rw n at z); none-left = λ z x y. absurd (x n) }
+    fair-18 true (reply m nego) a n =
+        record { refuses = λ z. absurd (omega arith); answers = λ z. no-true (rw n at z); none-left = λ z x y. absurd (x n) }
     fair-18 true (metadata id value) a n = λ z. omega arith
     fair-18 true (speak s) a n = λ z. omega arith
     fair-18 true read a n = λ z. omega arith
@@ -511,44 +586,69 @@ module _ (o : Opening) (Q : ℕ → Type 0)
       i-as : As (was .i) (w .i)
       a-as : As (was .a) (w .a)
 
-    moved-ok : (w : World) → Okay w → (x : Bool) (k : Call) → Ask x k (outcomeAt w x k .answer) → Okay (next w x k) × Fair x k (outcomeAt w x k .answer)
+    moved-ok : (w : World) → Okay w → (x : Bool) (k : Call) → Ask x k (outcomeAt w x k .answer)
+        → Okay (next w x k) × Fair x k (outcomeAt w x k .answer)
     moved-ok w h false k q = go (h .i-as) where
       go : As (h .was .i) (w .i) → Okay (next w false k) × Fair false k (outcomeAt w false k .answer)
       go (inr e) =
-          let c = stays-shut (h .was .i) (w .i) (w .a .turn) k e in
-          (record { was = h .was; ok = h .ok; i-as = inr (ap (moved (w .i) k) c ∙ e); a-as = h .a-as }, fair-18 false k _ (ap (λ (o : Outcome). o .answer .refusal) c))
+          let c = stays-shut (h .was .i) (w .i) (w .a .turn) k e in (
+            record { was = h .was; ok = h .ok; i-as = inr (ap (moved (w .i) k) c ∙ e); a-as = h .a-as },
+            fair-18 false k _
+                (ap (λ (o : Outcome). o .answer .refusal) c),
+          )
       go (inl e) =
           let t = as-turn (h .was .a) (w .a) (h .a-as) in
-          let same : act (w .i) (w .a .turn) k ≡ act (h .was .i) (h .was .a .turn) k = ap (λ (x : End). act x (w .a .turn) k) e ∙ ap (λ (p : List ℕ). act (h .was .i) p k) t in
-          let then : moved (w .i) k (act (w .i) (w .a .turn) k) ≡ moved (h .was .i) k (act (h .was .i) (h .was .a .turn) k) = ap (λ (x : End). moved x k (act (w .i) (w .a .turn) k)) e ∙ ap (moved (h .was .i) k) same in
+          let same : act (w .i) (w .a .turn) k ≡ act (h .was .i) (h .was .a .turn) k =
+          ap (λ (x : End). act x (w .a .turn) k) e ∙ ap (λ (p : List ℕ). act (h .was .i) p k) t in
+          let then : moved (w .i) k (act (w .i) (w .a .turn) k) ≡ moved (h .was .i) k (act (h .was .i) (h .was .a .turn) k) =
+          ap (λ (x : End). moved x k (act (w .i) (w .a .turn) k)) e ∙ ap (moved (h .was .i) k) same in
           elim (which (eqb (act (h .was .i) (h .was .a .turn) k .answer .refusal) 12)) [
             | inl n ↦ (
               record { was = h .was; ok = h .ok; i-as = inr (then ∙ shuts (h .was .i) (h .was .a .turn) k (eqb-true _ _ n)); a-as = h .a-as },
-              subst (λ (o : Outcome). Fair false k (o .answer)) (sym same) (fair-12 false k _ (only-reading-12 (h .was .i) (h .was .a .turn) k (eqb-true _ _ n)) (eqb-true _ _ n)),
+              subst (λ (o : Outcome). Fair false k (o .answer)) (sym same)
+                  (fair-12 false k _ (only-reading-12 (h .was .i) (h .was .a .turn) k (eqb-true _ _ n)) (eqb-true _ _ n)),
             )
             | inr n ↦
                 let g = ini-step (h .was .i) (h .was .a) (h .ok .ini-ok) (h .ok .acc-ok) (h .ok .stages) k (eqb-false _ _ n) in (
-                  record { was = next (h .was) false k; ok = record { ini-ok = g .then-ok; acc-ok = h .ok .acc-ok; stages = g .then-together }; i-as = inl then; a-as = h .a-as },
+                  record {
+                    was = next (h .was) false k;
+                    ok = record { ini-ok = g .then-ok; acc-ok = h .ok .acc-ok; stages = g .then-together };
+                    i-as = inl then;
+                    a-as = h .a-as;
+                  },
                   subst (λ (o : Outcome). Fair false k (o .answer)) (sym same) (g .fair),
                 )
           ]
     moved-ok w h true k q = go (h .a-as) where
       go : As (h .was .a) (w .a) → Okay (next w true k) × Fair true k (outcomeAt w true k .answer)
       go (inr e) =
-          let c = stays-shut (h .was .a) (w .a) (w .i .turn) k e in
-          (record { was = h .was; ok = h .ok; i-as = h .i-as; a-as = inr (ap (moved (w .a) k) c ∙ e) }, fair-18 true k _ (ap (λ (o : Outcome). o .answer .refusal) c))
+          let c = stays-shut (h .was .a) (w .a) (w .i .turn) k e in (
+            record { was = h .was; ok = h .ok; i-as = h .i-as; a-as = inr (ap (moved (w .a) k) c ∙ e) },
+            fair-18 true k _
+                (ap (λ (o : Outcome). o .answer .refusal) c),
+          )
       go (inl e) =
           let t = as-turn (h .was .i) (w .i) (h .i-as) in
-          let same : act (w .a) (w .i .turn) k ≡ act (h .was .a) (h .was .i .turn) k = ap (λ (x : End). act x (w .i .turn) k) e ∙ ap (λ (p : List ℕ). act (h .was .a) p k) t in
-          let then : moved (w .a) k (act (w .a) (w .i .turn) k) ≡ moved (h .was .a) k (act (h .was .a) (h .was .i .turn) k) = ap (λ (x : End). moved x k (act (w .a) (w .i .turn) k)) e ∙ ap (moved (h .was .a) k) same in
+          let same : act (w .a) (w .i .turn) k ≡ act (h .was .a) (h .was .i .turn) k =
+          ap (λ (x : End). act x (w .i .turn) k) e ∙ ap (λ (p : List ℕ). act (h .was .a) p k) t in
+          let then : moved (w .a) k (act (w .a) (w .i .turn) k) ≡ moved (h .was .a) k (act (h .was .a) (h .was .i .turn) k) =
+          ap (λ (x : End). moved x k (act (w .a) (w .i .turn) k)) e ∙ ap (moved (h .was .a) k) same in
           elim (which (eqb (act (h .was .a) (h .was .i .turn) k .answer .refusal) 12)) [
             | inl n ↦ (
               record { was = h .was; ok = h .ok; i-as = h .i-as; a-as = inr (then ∙ shuts (h .was .a) (h .was .i .turn) k (eqb-true _ _ n)) },
-              subst (λ (o : Outcome). Fair true k (o .answer)) (sym same) (fair-12 true k _ (only-reading-12 (h .was .a) (h .was .i .turn) k (eqb-true _ _ n)) (eqb-true _ _ n)),
+              subst (λ (o : Outcome). Fair true k (o .answer)) (sym same)
+                  (fair-12 true k _ (only-reading-12 (h .was .a) (h .was .i .turn) k (eqb-true _ _ n)) (eqb-true _ _ n)),
             )
             | inr n ↦
-                let g = acc-step (h .was .a) (h .was .i) (h .ok .acc-ok) (h .ok .ini-ok) (h .ok .stages) k (eqb-false _ _ n) (subst (λ (o : Outcome). AskAcc k (o .answer)) same q) in (
-                  record { was = next (h .was) true k; ok = record { ini-ok = h .ok .ini-ok; acc-ok = g .then-ok; stages = g .then-together }; i-as = h .i-as; a-as = inl then },
+                let g =
+                acc-step (h .was .a) (h .was .i) (h .ok .acc-ok) (h .ok .ini-ok) (h .ok .stages) k (eqb-false _ _ n)
+                (subst (λ (o : Outcome). AskAcc k (o .answer)) same q) in (
+                  record {
+                    was = next (h .was) true k;
+                    ok = record { ini-ok = h .ok .ini-ok; acc-ok = g .then-ok; stages = g .then-together };
+                    i-as = h .i-as;
+                    a-as = inl then;
+                  },
                   subst (λ (o : Outcome). Fair true k (o .answer)) (sym same) (g .fair),
                 )
           ]
@@ -563,7 +663,8 @@ module _ (o : Opening) (Q : ℕ → Type 0)
           | inr m′ ↦ run-fair (next w (c .0) (c .1)) (g .0) cs (λ y n. ask y (List·Memᴰ·tail n)) x m′
         ]
 
-    pub world-ok : ownOf (world o .i .record-of) ≡ o .initiator → ownOf (world o .a .record-of) ≡ o .acceptor → world o .i .record-of .count ≡ length (o .initiator) → Okay (world o)
+    pub world-ok : ownOf (world o .i .record-of) ≡ o .initiator → ownOf (world o .a .record-of) ≡ o .acceptor
+        → world o .i .record-of .count ≡ length (o .initiator) → Okay (world o)
     world-ok i a n = record {
       was = world o;
       ok = record {
@@ -589,14 +690,16 @@ sized-at [] h k low = absurd (omega arith)
 sized-at (x ∷ l) h zero low = h x (List·Memᴰ·head refl)
 sized-at (x ∷ l) h (suc k) low = sized-at l (λ s m. h s (List·Memᴰ·tail m)) k (omega arith)
 
-pub left-sized : (l : List Id) (c m : ℕ) → ((s : Id) → List·Memᴰ s l → length s ≡ 16) → ((s : Id) → List·Memᴰ s (left l c m) → length s ≡ 16) × (length (left l c m) ≤ length l)
+pub left-sized : (l : List Id) (c m : ℕ) → ((s : Id) → List·Memᴰ s l → length s ≡ 16)
+    → ((s : Id) → List·Memᴰ s (left l c m) → length s ≡ 16) × (length (left l c m) ≤ length l)
 unfolding left
 left-sized [] c m h = (h, omega arith)
 left-sized (x ∷ l) c m h =
     let i = left-sized l (c / 2) (m / 2) (λ s k. h s (List·Memᴰ·tail k)) in
     go (bit c 0 && not (bit m 0)) i where
       go : (b : Bool) → ((s : Id) → List·Memᴰ s (left l (c / 2) (m / 2)) → length s ≡ 16) × (length (left l (c / 2) (m / 2)) ≤ length l)
-          → ((s : Id) → List·Memᴰ s (cond b (x ∷ left l (c / 2) (m / 2)) (left l (c / 2) (m / 2))) → length s ≡ 16) × (length (cond b (x ∷ left l (c / 2) (m / 2)) (left l (c / 2) (m / 2))) ≤ length (x ∷ l))
+          → ((s : Id) → List·Memᴰ s (cond b (x ∷ left l (c / 2) (m / 2)) (left l (c / 2) (m / 2))) → length s ≡ 16)
+          × (length (cond b (x ∷ left l (c / 2) (m / 2)) (left l (c / 2) (m / 2))) ≤ length (x ∷ l))
       go true i = (
         λ s k. elim (List·Memᴰ·cases-cons k) [ inl e ↦ ap length e ∙ h x (List·Memᴰ·head refl) | inr k′ ↦ i .0 s k′ ],
         omega (arith, i .1),
@@ -611,11 +714,19 @@ unfolding idsAt
 cut-joined [] rest h = refl
 cut-joined (x ∷ l) rest h =
     let n : length x ≡ 16 = h x (mem-one x l) in
-    rw (append-assoc x (joinIds l) rest, take-at x (joinIds l ++ rest) 16 n, drop-at x (joinIds l ++ rest) 16 n, cut-joined l rest (λ s m. h s (List·Memᴰ·tail m)))
+    rw (
+      append-assoc x (joinIds l) rest,
+      take-at x (joinIds l ++ rest) 16 n,
+      drop-at x (joinIds l ++ rest) 16 n,
+      cut-joined l rest
+          (λ s m. h s (List·Memᴰ·tail m)),
+    )
 
 pub length-joined : (l : List Id) → ((s : Id) → List·Memᴰ s l → length s ≡ 16) → length (joinIds l) ≡ 16 * length l
 length-joined [] h = refl
-length-joined (x ∷ l) h = length-append x (joinIds l) ∙ (let n : length x ≡ 16 = h x (mem-one x l) in let i = length-joined l (λ s m. h s (List·Memᴰ·tail m)) in omega arith)
+length-joined (x ∷ l) h =
+    length-append x (joinIds l)
+    ∙ (let n : length x ≡ 16 = h x (mem-one x l) in let i = length-joined l (λ s m. h s (List·Memᴰ·tail m)) in omega arith)
 
 pub count-joined : (l : List Id) → ((s : Id) → List·Memᴰ s l → length s ≡ 16) → length (joinIds l) / 16 ≡ length l
 count-joined l h = let n = length-joined l h in omega arith

@@ -57,17 +57,24 @@ no-marks (x ∷ cs) h c i = elim (List·Memᴰ·cases-cons i) [
 no-bits : (own own′ : List Id) (m m′ : ℕ) (s : Id) → eqb m 0 ≡ true → eqb m′ 0 ≡ true → marked own′ m′ s ≡ marked own m s
 no-bits own own′ m m′ s e e′ = rw (eqb-true m 0 e, eqb-true m′ 0 e′) (simp bit-zero)
 
-none-kept : (o : Opening) (cs : List (Bool × Call)) (o′ : Opening) (cs′ : List (Bool × Call)) → noMarks cs ≡ true → noMarks cs′ ≡ true → MarksKept o cs o′ cs′
+none-kept : (o : Opening) (cs : List (Bool × Call)) (o′ : Opening) (cs′ : List (Bool × Call)) → noMarks cs ≡ true → noMarks cs′ ≡ true
+    → MarksKept o cs o′ cs′
 none-kept o cs o′ cs′ h h′ = record {
-  acceptor-marks = λ m m′ nego x j s a b. no-bits (o .acceptor) (o′ .acceptor) m m′ s (no-marks cs h (true, reply m (x .content)) (run-calls (world o) cs _ (x .entry))) (no-marks cs′ h′ (true, reply m′ nego) j);
-  initiator-marks = λ m m′ s′ x j s a b. no-bits (o .initiator) (o′ .initiator) m m′ s (no-marks cs h (false, choose m (x .spoke)) (run-calls (world o) cs _ (x .entry))) (no-marks cs′ h′ (false, choose m′ s′) j);
+  acceptor-marks =
+      λ m m′ nego x j s a b. no-bits (o .acceptor) (o′ .acceptor) m m′ s
+      (no-marks cs h (true, reply m (x .content)) (run-calls (world o) cs _ (x .entry))) (no-marks cs′ h′ (true, reply m′ nego) j);
+  initiator-marks =
+      λ m m′ s′ x j s a b. no-bits (o .initiator) (o′ .initiator) m m′ s
+      (no-marks cs h (false, choose m (x .spoke)) (run-calls (world o) cs _ (x .entry))) (no-marks cs′ h′ (false, choose m′ s′) j);
 }
 
 offered : Longer (opened .acceptor) (opened .initiator) (longerLists .acceptor) (longerLists .initiator)
 unfolding opened longerLists mem sameOctets
 offered = record {
   in-order = gained (kept (gained (kept (kept (gained none-left)))));
-  gains = λ s m. elim (which (sameOctets s (scheme 3))) [ inl e ↦ rw (same-eq s (scheme 3) e) | inr e ↦ elim (which (sameOctets s (scheme 2))) [ inl f ↦ rw f | inr f ↦ no-true (rw (e, f) at m) ] ];
+  gains =
+      λ s m. elim (which (sameOctets s (scheme 3)))
+      [ inl e ↦ rw (same-eq s (scheme 3) e) | inr e ↦ elim (which (sameOctets s (scheme 2))) [ inl f ↦ rw f | inr f ↦ no-true (rw (e, f) at m) ] ];
 }
 
 -- the first run's last call is the choice
@@ -98,7 +105,9 @@ pub longer-run : LongerRun
 longer-run y h =
     let c = first-choice in
     subst (λ (id : Id). NotLost opened longerLists (negotiation 0 0) id y) (ap (λ (a : Says). a .choice) c)
-    (demand3 opened (negotiation 0 0) longerLists (negotiation 0 0) chosen 0 (request []) (at-fifth (run (world opened) (negotiation 0 0)) none-such refl) refl (ap (λ (a : Says). eqb (a .number) 0) c) offered (none-kept opened (negotiation 0 0) longerLists (negotiation 0 0) refl refl) y h)
+    (demand3 opened (negotiation 0 0) longerLists (negotiation 0 0) chosen 0 (request [])
+    (at-fifth (run (world opened) (negotiation 0 0)) none-such refl) refl (ap (λ (a : Says). eqb (a .number) 0) c) offered
+    (none-kept opened (negotiation 0 0) longerLists (negotiation 0 0) refl refl) y h)
 
 -- the second run, computed
 pub choices : LongerChoice

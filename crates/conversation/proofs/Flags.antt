@@ -52,7 +52,8 @@ module _ (id : Id) where
     has-refused : (k : Call) (j p : ℕ) → (j ≡ 0 → ⊥) → Then r k n (refused r d j p)
     has-refused k j p z = rw (ne-eqb j 0 z) has
 
-    has-by : (k : Call) (rows : List Row) (action : Outcome) → without 0 rows ≡ true → (AllTrue rows → Then r k n action) → Then r k n (decide rows r d action)
+    has-by : (k : Call) (rows : List Row) (action : Outcome) → without 0 rows ≡ true → (AllTrue rows → Then r k n action)
+        → Then r k n (decide rows r d action)
     has-by k rows action z h = decide-out (Then r k n) rows r d action (λ j g. has-refused k j 0 (fails-other 0 rows j z g)) h
 
     -- a message that leaves flag and AP_REQUEST
@@ -67,7 +68,9 @@ module _ (id : Id) where
     unfolding writing
     requested-flag v = go (r .acceptor) refl where
       go : (a : Bool) → r .acceptor ≡ a → requestedBy r ≡ r .requested
-      go true q = elim (which (eqb (r .stage) 1)) [ inl h ↦ rw (q, h) | inr h ↦ elim (which (eqb (r .stage) 3)) [ inl g ↦ rw (q, h, g) | inr g ↦ rw (q, h, g) ] ]
+      go true q =
+          elim (which (eqb (r .stage) 1))
+          [ inl h ↦ rw (q, h) | inr h ↦ elim (which (eqb (r .stage) 3)) [ inl g ↦ rw (q, h, g) | inr g ↦ rw (q, h, g) ] ]
       go false q = elim (which (eqb (r .stage) 0)) [
         | inl h ↦ rw (q, h) (sym (has .zero-first q (eqb-true _ _ h) v))
         | inr h ↦ elim (which (eqb (r .stage) 3)) [ inl g ↦ rw (q, h, g) | inr g ↦ rw (q, h, g) ]
@@ -90,7 +93,8 @@ module _ (id : Id) where
             first-now r q st ∙ (rw st (sym zero))
       ]
 
-    has-speech : (s : Speech) (position size : ℕ) → mayWrite r (classIn s) ≡ true → Has (wrote r position size (spokenAs r s)) (more (isChecksum s && sameOctets id (schemeAt r (schemeNow r))) n)
+    has-speech : (s : Speech) (position size : ℕ) → mayWrite r (classIn s) ≡ true
+        → Has (wrote r position size (spokenAs r s)) (more (isChecksum s && sameOctets id (schemeAt r (schemeNow r))) n)
     unfolding writing
     has-speech (alarm code) position size may = has-same position size (spokenAs r (alarm code)) refl refl
     has-speech (request value) position size may = record {
@@ -100,7 +104,8 @@ module _ (id : Id) where
     }
     has-speech (checksum type value) position size may = record {
       had = λ z v q.
-          let s : sameOctets id (schemeAt r (schemeNow r)) ≡ true = subst (λ (l : Id). sameOctets id l ≡ true) (q ∙ ap (schemeAt r) (sym (flag-now may))) (same-refl id) in
+          let s : sameOctets id (schemeAt r (schemeNow r)) ≡ true =
+          subst (λ (l : Id). sameOctets id l ≡ true) (q ∙ ap (schemeAt r) (sym (flag-now may))) (same-refl id) in
           rw s (omega arith);
       zero-first = λ e st v. ok .first e st (let p : r .position ≡ 2 = verify-at (r .position) (r .attested) (rw (e, st) at may) in omega arith);
       none-first = λ e st v. writes-some r VERIFY may (rw (e, st));
@@ -116,13 +121,17 @@ module _ (id : Id) where
     unfolding replying
     has-reply m nego =
         has-by (reply m nego) (stageRows r NEGO ++ thenFits (replyRows r m (nego .0)) r d (replyMessage r m (nego .0))) _ refl
-        (λ g. has-same (placeAfter r NEGO) (length (replyMessage r m (nego .0))) (record { marks = m; metadata = r .metadata; requested = r .requested; attested = r .attested }) refl refl)
+        (λ g. has-same (placeAfter r NEGO) (length (replyMessage r m (nego .0)))
+        (record { marks = m; metadata = r .metadata; requested = r .requested; attested = r .attested }) refl refl)
 
     has-metadata : (scheme : Sized 16) (value : List ℕ) → Then r (metadata scheme value) n (writingMetadata r d (scheme .0) value)
     unfolding writingMetadata
     has-metadata scheme value =
-        has-by (metadata scheme value) (stageRows r METADATA ++ thenFits (metadataRows r (scheme .0) (length value)) r d (metadataMessage r (scheme .0) value)) _ refl
-        (λ g. has-same (placeAfter r METADATA) (length (metadataMessage r (scheme .0) value)) (record { marks = r .marks; metadata = r .metadata + 2 ^ place (ownOf r) (scheme .0); requested = r .requested; attested = r .attested }) refl refl)
+        has-by (metadata scheme value)
+        (stageRows r METADATA ++ thenFits (metadataRows r (scheme .0) (length value)) r d (metadataMessage r (scheme .0) value)) _ refl
+        (λ g. has-same (placeAfter r METADATA) (length (metadataMessage r (scheme .0) value))
+        (record { marks = r .marks; metadata = r .metadata + 2 ^ place (ownOf r) (scheme .0); requested = r .requested; attested = r .attested })
+        refl refl)
 
     has-speak : (s : Speech) → Then r (speak s) n (speaking r d s)
     unfolding speaking
@@ -137,7 +146,9 @@ module _ (id : Id) where
         let p = both (r .attested) (eqb k (r .requested)) v in
         has .had b (p .0) (q ∙ ap (schemeAt r) (eqb-true _ _ (p .1) ∙ sym (let z : eqb (r .stage) 3 ≡ false = ne-eqb _ _ a in rw z)))
 
-    has-chose : (m : ℕ) (s : Speech) (position size : ℕ) → r .stage ≡ 2 → Has (wrote (chose r m) position size (spokenAs (chose r m) s)) (more (isChecksum s && sameOctets id (schemeAt (chose r m) (schemeNow (chose r m)))) n)
+    has-chose : (m : ℕ) (s : Speech) (position size : ℕ) → r .stage ≡ 2
+        → Has (wrote (chose r m) position size (spokenAs (chose r m) s))
+        (more (isChecksum s && sameOctets id (schemeAt (chose r m) (schemeNow (chose r m)))) n)
     has-chose m (request value) position size at = record {
       had = λ z v q. early-flag (firstPlace (openTo r m)) (λ y. omega arith) (λ y. omega arith) v q;
       zero-first = λ e st v. absurd (omega arith);
@@ -150,7 +161,8 @@ module _ (id : Id) where
     }
     has-chose m (checksum type value) position size at = record {
       had = λ z v q.
-          let s : sameOctets id (schemeAt (chose r m) (schemeNow (chose r m))) ≡ true = subst (λ (l : Id). sameOctets id l ≡ true) (q ∙ ap (schemeAt r) (sym (now-chosen r m))) (same-refl id) in
+          let s : sameOctets id (schemeAt (chose r m) (schemeNow (chose r m))) ≡ true =
+          subst (λ (l : Id). sameOctets id l ≡ true) (q ∙ ap (schemeAt r) (sym (now-chosen r m))) (same-refl id) in
           rw s (omega arith);
       zero-first = λ e st v. absurd (omega arith);
       none-first = λ e st v. omega arith;
@@ -173,7 +185,8 @@ module _ (id : Id) where
           has .had (λ y. omega arith) (rw st at v) (q′ ∙ judged-kept r t (eq-eqb _ _ f) limits (ok .low st) j c w ∙ ap (schemeAt r) (rw st))
 
       -- by the role and the stage
-      flag-taken : (a : Bool) → r .acceptor ≡ a → (reads r + 1 ≡ 4 → ⊥) → countsAfter r c ≡ true → id ≡ schemeAt r (cond (eqb (reads r + 1) 3) (c .chosen) (c .requested)) → 1 ≤ n
+      flag-taken : (a : Bool) → r .acceptor ≡ a → (reads r + 1 ≡ 4 → ⊥) → countsAfter r c ≡ true
+          → id ≡ schemeAt r (cond (eqb (reads r + 1) 3) (c .chosen) (c .requested)) → 1 ≤ n
       unfolding reading
       flag-taken true e z v q = elim (which (eqb (r .stage) 0)) [
         | inl h ↦ absurd (has .none-first e (eqb-true _ _ h) (let st : r .stage ≡ 0 = eqb-true _ _ h in rw st at v))
@@ -207,11 +220,17 @@ module _ (id : Id) where
         has-by read rows (finish r d t (judged r t)) refl (λ g. token (front-true (limitRows r) (tokenRows r (length t)) g) (judged r t) refl) where
           token : AllTrue (limitRows r) → (j : Judged) → judged r t ≡ j → Then r read n (finish r d t j)
           token limits (halted j p) w = unfold finish in (let z = judged-number r t j p w .0 in rw (ne-eqb j 0 z) (elim (which (eqb j 12)) [
-            | inl h ↦ rw h (record { had = λ z v q. absurd (z refl); zero-first = λ e st v. absurd (omega arith); none-first = λ e st v. omega arith })
+            | inl h ↦ rw h
+                (record { had = λ z v q. absurd (z refl); zero-first = λ e st v. absurd (omega arith); none-first = λ e st v. omega arith })
             | inr h ↦ rw h has
           ]))
           token limits (whole j c) w = unfold finish in elim (which (leb (r .used + length t) (room d))) [
-            | inl b ↦ rw b (record { had = flag-taken t limits j c w (r .acceptor) refl; zero-first = λ e st v. absurd (omega arith); none-first = λ e st v. omega arith })
+            | inl b ↦ rw b
+                (record {
+                  had = flag-taken t limits j c w (r .acceptor) refl;
+                  zero-first = λ e st v. absurd (omega arith);
+                  none-first = λ e st v. omega arith;
+                })
             | inr b ↦ rw b has
           ]
 
@@ -224,17 +243,22 @@ module _ (id : Id) where
   has-step e peer read h n p = has-read (e .record-of) (e .transcript) h n p peer
   has-step e peer (choose m s) h n p = has-choose (e .record-of) (e .transcript) h n p m s
 
-  has-next : (w : World) (x y : Bool) (k : Call) → Invs id w → (n : ℕ) → Has (recordAt x w) n → Has (recordAt x (next w y k)) (more (here id w x y k) n)
+  has-next : (w : World) (x y : Bool) (k : Call) → Invs id w → (n : ℕ) → Has (recordAt x w) n
+      → Has (recordAt x (next w y k)) (more (here id w x y k) n)
   has-next w false false k h n p = has-step (w .i) (w .a .turn) k (h .0) n p
   has-next w false true k h n p = p
   has-next w true false k h n p = p
   has-next w true true k h n p = has-step (w .a) (w .i .turn) k (h .1) n p
 
-  pub has-behind : (w : World) (x : Bool) (cs : List (Bool × Call)) → Invs id w → (n : ℕ) → Has (recordAt x w) n → Has (recordAt x (ends w cs)) (n + verifyCount w x id cs)
+  pub has-behind : (w : World) (x : Bool) (cs : List (Bool × Call)) → Invs id w → (n : ℕ) → Has (recordAt x w) n
+      → Has (recordAt x (ends w cs)) (n + verifyCount w x id cs)
   has-behind w x [] h n p = subst (Has (recordAt x w)) (let z : n ≡ n + 0 = omega arith in z) p
   has-behind w x (c ∷ cs) h n p =
-      let i = has-behind (next w (c .0) (c .1)) x cs (invs-kept id w (c .0) (c .1) h) (more (here id w x (c .0) (c .1)) n) (has-next w x (c .0) (c .1) h n p) in
-      subst (Has (recordAt x (ends (next w (c .0) (c .1)) cs))) (sums (here id w x (c .0) (c .1)) (verifyCount (next w (c .0) (c .1)) x id cs)) i where
+      let i =
+      has-behind (next w (c .0) (c .1)) x cs (invs-kept id w (c .0) (c .1) h) (more (here id w x (c .0) (c .1)) n)
+      (has-next w x (c .0) (c .1) h n p) in
+      subst (Has (recordAt x (ends (next w (c .0) (c .1)) cs)))
+      (sums (here id w x (c .0) (c .1)) (verifyCount (next w (c .0) (c .1)) x id cs)) i where
         sums : (b : Bool) (k : ℕ) → more b n + k ≡ n + cond b (suc k) k
         sums true k = omega arith
         sums false k = refl

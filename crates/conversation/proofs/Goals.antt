@@ -100,13 +100,17 @@ module _ (e : End) (Inv : End → Type 0) (Tog : ℕ → Type 0) where
     refusal k P n p z h = record { then-ok = rw (ne-eqb n 0 z) ok; then-together = tg; fair = h }
 
     -- a refusal by a table that has no 17
-    pub stopped : (k : Call) (rows : List Row) → without 0 rows ≡ true → without 17 rows ≡ true → (n : ℕ) → FirstFails n rows → Goal k no17 (refused r d n 0)
+    pub stopped : (k : Call) (rows : List Row) → without 0 rows ≡ true → without 17 rows ≡ true → (n : ℕ) → FirstFails n rows
+        → Goal k no17 (refused r d n 0)
     stopped k rows z s n g = refusal k no17 n 0 (fails-other 0 rows n z g) (λ q. fails-other 17 rows n s g q)
 
     -- a message that begins no turn
-    module _ (more : (kind : ℕ) (w : WrittenAs) (x d′ : List ℕ) → NotFirst kind → mayWrite r kind ≡ true → Inv (record { record-of = wrote r (placeAfter r kind) (length x) w; transcript = d′; turn = e .turn ++ x })) where
+    module _
+        (more : (kind : ℕ) (w : WrittenAs) (x d′ : List ℕ) → NotFirst kind → mayWrite r kind ≡ true
+        → Inv (record { record-of = wrote r (placeAfter r kind) (length x) w; transcript = d′; turn = e .turn ++ x })) where
       write : (k : Call) (kind : ℕ) (rows : List Row) (x : List ℕ) (w : WrittenAs) → NotFirst kind → turnAfter e k ≡ e .turn ++ x
-          → without 0 (thenFits rows r d x) ≡ true → without 17 (thenFits rows r d x) ≡ true → Goal k no17 (decide (stageRows r kind ++ thenFits rows r d x) r d (appended r d (placeAfter r kind) x w))
+          → without 0 (thenFits rows r d x) ≡ true → without 17 (thenFits rows r d x) ≡ true
+          → Goal k no17 (decide (stageRows r kind ++ thenFits rows r d x) r d (appended r d (placeAfter r kind) x w))
       write k kind rows x w nf t z s =
           let table : List Row = stageRows r kind ++ thenFits rows r d x in
           decide-out (Goal k no17) table r d (appended r d (placeAfter r kind) x w) (stopped k table z s)
@@ -119,14 +123,17 @@ module _ (e : End) (Inv : End → Type 0) (Tog : ℕ → Type 0) where
       pub metadata-goal : (id : Sized 16) (value : List ℕ) → Goal (metadata id value) no17 (writingMetadata r d (id .0) value)
       unfolding writingMetadata
       metadata-goal id value =
-          write (metadata id value) METADATA (metadataRows r (id .0) (length value)) (metadataMessage r (id .0) value) _ metadata-not-first refl refl refl
+          write (metadata id value) METADATA (metadataRows r (id .0) (length value))
+          (metadataMessage r (id .0) value) _ metadata-not-first refl refl refl
 
       pub speak-goal : (s : Speech) → Goal (speak s) no17 (speaking r d s)
       unfolding speaking
       speak-goal s = write (speak s) (classIn s) (namedRows r (speechFits s)) (spoken r s) (spokenAs r s) (speech-not-first s) refl refl refl
 
     -- a reading of the other end's turn so far
-    module _ (peer : List ℕ) (reads-on : (n : ℕ) (c : Scan) (d′ : List ℕ) → mayRead r ≡ true → judged r peer ≡ whole n c → Inv (record { record-of = taken r peer n c; transcript = d′; turn = [] }) × Tog (reads r + 1)) where
+    module _ (peer : List ℕ)
+        (reads-on : (n : ℕ) (c : Scan) (d′ : List ℕ) → mayRead r ≡ true → judged r peer ≡ whole n c
+        → Inv (record { record-of = taken r peer n c; transcript = d′; turn = [] }) × Tog (reads r + 1)) where
       -- one that is not refused with 12 leaves the record open
       pub read-goal : no12 (readingToken r d peer .answer) → Goal read no17 (readingToken r d peer)
       unfolding readingToken
@@ -136,8 +143,10 @@ module _ (e : End) (Inv : End → Type 0) (Tog : ℕ → Type 0) where
           (λ n g ask. stopped read rows refl refl n g)
           (λ g. token (judged r peer) refl (true-behind (limitRows r) (row 18 (mayRead r)) (row 1 (leb (length peer) 65535) ∷ []) g)) where
             token : (j : Judged) → judged r peer ≡ j → mayRead r ≡ true → no12 (finish r d peer j .answer) → Goal read no17 (finish r d peer j)
-            token (halted n p) w h ask = unfold finish in (let z = judged-number r peer n p w in rw (ne-eqb n 12 ask) (refusal read no17 n p (z .0) (z .1 .0)))
+            token (halted n p) w h ask =
+                unfold finish in (let z = judged-number r peer n p w in rw (ne-eqb n 12 ask) (refusal read no17 n p (z .0) (z .1 .0)))
             token (whole n c) w h ask = unfold finish in elim (which (leb (r .used + length peer) (room d))) [
               | inr b ↦ rw b (refusal read no17 16 0 (λ z. omega arith) (λ z. omega arith))
-              | inl b ↦ rw b (let g = reads-on n c (put d (r .used) peer) h w in record { then-ok = g .0; then-together = g .1; fair = λ z. omega arith })
+              | inl b ↦ rw b
+                  (let g = reads-on n c (put d (r .used) peer) h w in record { then-ok = g .0; then-together = g .1; fair = λ z. omega arith })
             ]

@@ -65,7 +65,8 @@ module _ (r : Record) (t : List ℕ) (c d : Scan) (m : List ℕ) (e : admit r t 
   abbrev spent : Bool
   spent = confirmedFor r c id′
 
-  parts : (not (eqb (after (reads r) (c .position) spent kind) 0) ≡ true) × ((schemeFits r t c kind id′ ≡ true) × (passed r c kind (after (reads r) (c .position) spent kind) id′ ≡ d))
+  parts : (not (eqb (after (reads r) (c .position) spent kind) 0) ≡ true)
+      × ((schemeFits r t c kind id′ ≡ true) × (passed r c kind (after (reads r) (c .position) spent kind) id′ ≡ d))
   unfolding admit
   parts =
       let a = not-stop (not (eqb (after (reads r) (c .position) spent kind) 0)) 14 _ d e in
@@ -128,8 +129,10 @@ module _ (id : Id) where
   sum-keep : (x : List ℕ) (l : List (List ℕ)) (n : ℕ) → n + one x + length (keep (verifyFor id) l) ≡ n + length (keep (verifyFor id) (x ∷ l))
   sum-keep x l n = elim (which (verifyFor id x)) [ inl b ↦ rw b (omega arith) | inr b ↦ rw b (omega arith) ]
 
-  pub judge-sums : (P : Scan → ℕ → Type 0) (r : Record) (t : List ℕ) → ((c d : Scan) (m : List ℕ) (n : ℕ) → P c n → admit r t c m ≡ on d → P d (n + one m))
-      → (k : ℕ) (c : Scan) (ch : Chain) (j : ℕ) (d : Scan) (n : ℕ) → P c n → judge r t k c ch ≡ whole j d → P d (n + length (keep (verifyFor id) (messagesIn ch)))
+  pub judge-sums : (P : Scan → ℕ → Type 0) (r : Record) (t : List ℕ)
+      → ((c d : Scan) (m : List ℕ) (n : ℕ) → P c n → admit r t c m ≡ on d → P d (n + one m))
+      → (k : ℕ) (c : Scan) (ch : Chain) (j : ℕ) (d : Scan) (n : ℕ) → P c n → judge r t k c ch ≡ whole j d
+      → P d (n + length (keep (verifyFor id) (messagesIn ch)))
   unfolding judge messagesIn
   judge-sums P r t f k c end j d n p e =
       let z : c ≡ d = cc in
@@ -137,16 +140,19 @@ module _ (id : Id) where
       subst (λ (x : Scan). P x (n + 0)) z (subst (P c) y p)
   judge-sums P r t f k c (cutAt m a) j d n p e = let z : _≡_ {A = ℕ} 0 1 = cc in absurd (omega arith)
   judge-sums P r t f k c (message m ms) j d n p e = go (admit r t c (m .octets)) refl (λ c′ n′. judge-sums P r t f (k + 1) c′ ms j d n′) where
-    go : (a : Admitted) → admit r t c (m .octets) ≡ a → ((c′ : Scan) (n′ : ℕ) → P c′ n′ → judge r t (k + 1) c′ ms ≡ whole j d → P d (n′ + length (keep (verifyFor id) (messagesIn ms))))
+    go : (a : Admitted) → admit r t c (m .octets) ≡ a
+        → ((c′ : Scan) (n′ : ℕ) → P c′ n′ → judge r t (k + 1) c′ ms ≡ whole j d → P d (n′ + length (keep (verifyFor id) (messagesIn ms))))
         → P d (n + length (keep (verifyFor id) (m .octets ∷ messagesIn ms)))
     go (on c′) is ih = subst (P d) (sum-keep (m .octets) (messagesIn ms) n) (ih c′ (n + one (m .octets)) (f c c′ (m .octets) n p is) (rw is at e))
     go (stop j′) is ih = let w : halted j′ (m .place) ≡ whole j d = rw is at e in let z : _≡_ {A = ℕ} 0 1 = cc in absurd (omega arith)
 
   -- what a message counts
-  other-one : (r : Record) (t : List ℕ) (c d : Scan) (m : List ℕ) (e : admit r t c m ≡ on d) → eqb (classOf (not (r .acceptor)) (headOf m .kind)) VERIFY ≡ false → one m ≡ 0
+  other-one : (r : Record) (t : List ℕ) (c d : Scan) (m : List ℕ) (e : admit r t c m ≡ on d)
+      → eqb (classOf (not (r .acceptor)) (headOf m .kind)) VERIFY ≡ false → one m ≡ 0
   other-one r t c d m e v = let no : isVerify m ≡ false = verify-is r t c d m e ∙ v in rw no
 
-  verify-one : (r : Record) (t : List ℕ) (c d : Scan) (m : List ℕ) (e : admit r t c m ≡ on d) → eqb (classOf (not (r .acceptor)) (headOf m .kind)) VERIFY ≡ true → one m ≡ cond (sameOctets id (schemeIn m)) 1 0
+  verify-one : (r : Record) (t : List ℕ) (c d : Scan) (m : List ℕ) (e : admit r t c m ≡ on d)
+      → eqb (classOf (not (r .acceptor)) (headOf m .kind)) VERIFY ≡ true → one m ≡ cond (sameOctets id (schemeIn m)) 1 0
   verify-one r t c d m e v = let yes : isVerify m ≡ true = verify-is r t c d m e ∙ v in rw yes
 
   -- 3. a later token
@@ -171,10 +177,15 @@ module _ (id : Id) where
         let g : furtherFits r (c .chosen) (schemeIn m) ≡ true = rw (k .0, k .1, f) at (fitting r t c d m e) in
         let own : mem (schemeIn m) (ownOf r) ≡ true = further-mem r (c .chosen) (schemeIn m) g in
         let at : place (ownOf r) (schemeIn m) ≡ d .chosen = sym (rw f) ∙ chosen-then r t c d m e in
-        record { low = subst (λ (n : ℕ). n < r .count) at (place-own r (schemeIn m) own); scheme = ap (schemeAt r) (sym at) ∙ getD-place (ownOf r) (schemeIn m) own; fits = g }
+        record {
+          low = subst (λ (n : ℕ). n < r .count) at (place-own r (schemeIn m) own);
+          scheme = ap (schemeAt r) (sym at) ∙ getD-place (ownOf r) (schemeIn m) own;
+          fits = g;
+        }
 
     -- after a message, where the flag said before it how many of its scheme there were
-    then-later : (c d : Scan) (m : List ℕ) (n : ℕ) (e : admit r t c m ≡ on d) → n ≤ 1 → (id ≡ schemeIn m → n ≡ cond (confirmedFor r c (schemeIn m)) 1 0) → Later d (n + one m)
+    then-later : (c d : Scan) (m : List ℕ) (n : ℕ) (e : admit r t c m ≡ on d) → n ≤ 1
+        → (id ≡ schemeIn m → n ≡ cond (confirmedFor r c (schemeIn m)) 1 0) → Later d (n + one m)
     then-later c d m n e most says = go (which (eqb (kind r t c d m e) VERIFY)) where
       x : Names c d m
       x = names c d m e
@@ -182,7 +193,9 @@ module _ (id : Id) where
       go : (eqb (kind r t c d m e) VERIFY ≡ true) ⊎ (eqb (kind r t c d m e) VERIFY ≡ false) → Later d (n + one m)
       go (inr v) =
           let zero : one m ≡ 0 = other-one r t c d m e v in
-          let same : confirmedFor r c (schemeIn m) ≡ d .confirmed = sym (or-false (confirmedFor r c (schemeIn m))) ∙ ap (λ (b : Bool). confirmedFor r c (schemeIn m) || b) (sym v) ∙ heard-then r t c d m e in
+          let same : confirmedFor r c (schemeIn m) ≡ d .confirmed =
+          sym (or-false (confirmedFor r c (schemeIn m))) ∙ ap (λ (b : Bool). confirmedFor r c (schemeIn m) || b) (sym v)
+          ∙ heard-then r t c d m e in
           let is : n ≡ n + one m = omega arith in
           record {
             low = x .low;
@@ -200,10 +213,18 @@ module _ (id : Id) where
             | inl q ↦
                 let none : n ≡ 0 = says (same-eq _ _ q) ∙ rw fresh in
                 let one-is : one m ≡ 1 = counts ∙ rw q in
-                record { low = x .low; most = omega arith; says = λ z. (let w : n + one m ≡ 1 = omega arith in w) ∙ ap (λ (b : Bool). cond b 1 0) confirmed }
+                record {
+                  low = x .low;
+                  most = omega arith;
+                  says = λ z. (let w : n + one m ≡ 1 = omega arith in w) ∙ ap (λ (b : Bool). cond b 1 0) confirmed;
+                }
             | inr q ↦
                 let none : one m ≡ 0 = counts ∙ rw q in
-                record { low = x .low; most = omega arith; says = λ z. no-true (sym q ∙ subst (λ (i : Id). sameOctets id i ≡ true) (z ∙ x .scheme) (same-refl id)) }
+                record {
+                  low = x .low;
+                  most = omega arith;
+                  says = λ z. no-true (sym q ∙ subst (λ (i : Id). sameOctets id i ≡ true) (z ∙ x .scheme) (same-refl id));
+                }
           ]
 
     module _ (limits : AllTrue (limitRows r)) where
@@ -218,13 +239,17 @@ module _ (id : Id) where
       unfolding confirmedFor
       later-step c d m n h e =
           let none : eqb (c .chosen) NONE ≡ false = not-none (c .chosen) (h .low) in
-          let same : confirmedFor r c (schemeIn m) ≡ c .confirmed = ap (λ (b : Bool). cond b (c .confirmed && (isAt r (r .requested) (schemeIn m) && mem (schemeIn m) (replied r))) (c .confirmed)) (ap (λ (b : Bool). eqb (r .stage) 1 && b) none ∙ and-false (eqb (r .stage) 1)) in
+          let same : confirmedFor r c (schemeIn m) ≡ c .confirmed =
+          ap (λ (b : Bool). cond b (c .confirmed && (isAt r (r .requested) (schemeIn m) && mem (schemeIn m) (replied r))) (c .confirmed))
+          (ap (λ (b : Bool). eqb (r .stage) 1 && b) none ∙ and-false (eqb (r .stage) 1)) in
           let g : isAt r (c .chosen) (schemeIn m) ≡ true = rw none at (names c d m e .fits) in
-          let is : schemeIn m ≡ schemeAt r (c .chosen) = same-eq _ _ (and-r (ltb (c .chosen) (r .count)) (sameOctets (schemeIn m) (schemeAt r (c .chosen))) g) in
+          let is : schemeIn m ≡ schemeAt r (c .chosen) =
+          same-eq _ _ (and-r (ltb (c .chosen) (r .count)) (sameOctets (schemeIn m) (schemeAt r (c .chosen))) g) in
           then-later c d m n e (h .most) (λ z. h .says (z ∙ is) ∙ ap (λ (b : Bool). cond b 1 0) (sym same))
 
       -- the acceptor's first later token: the first message fixes the choice
-      module _ (st : r .stage ≡ 1) (n₀ : ℕ) (most : n₀ ≤ 1) (early : mem id (ownOf r) ≡ true → n₀ ≡ cond (r .confirmed && isAt r (r .requested) id) 1 0) where
+      module _ (st : r .stage ≡ 1) (n₀ : ℕ) (most : n₀ ≤ 1)
+          (early : mem id (ownOf r) ≡ true → n₀ ≡ cond (r .confirmed && isAt r (r .requested) id) 1 0) where
         abbrev pub Chooses : Scan → ℕ → Type 0
         Chooses c n = ((c .chosen ≡ NONE) × ((c .confirmed ≡ r .confirmed) × (n ≡ n₀))) ⊎ Later c n
 
@@ -232,17 +257,21 @@ module _ (id : Id) where
         chooses-step c d m n (inr h) e = inr (later-step c d m n h e)
         chooses-step c d m n (inl (none, (same, is))) e = inr (then-later c d m n e (omega arith) says) where
           in-reply : mem (schemeIn m) (replied r) ≡ true
-          in-reply = let g : r .acceptor && mem (schemeIn m) (replied r) ≡ true = rw none at (names c d m e .fits) in and-r (r .acceptor) (mem (schemeIn m) (replied r)) g
+          in-reply =
+              let g : r .acceptor && mem (schemeIn m) (replied r) ≡ true =
+              rw none at (names c d m e .fits) in and-r (r .acceptor) (mem (schemeIn m) (replied r)) g
 
           flag : confirmedFor r c (schemeIn m) ≡ r .confirmed && isAt r (r .requested) (schemeIn m)
-          flag = unfold confirmedFor in rw (st, none, same, in-reply) (ap (λ (b : Bool). r .confirmed && b) (and-true (isAt r (r .requested) (schemeIn m)))) where
-            and-true : (b : Bool) → b && true ≡ b
-            and-true true = refl
-            and-true false = refl
+          flag = unfold confirmedFor in
+              rw (st, none, same, in-reply) (ap (λ (b : Bool). r .confirmed && b) (and-true (isAt r (r .requested) (schemeIn m)))) where
+                and-true : (b : Bool) → b && true ≡ b
+                and-true true = refl
+                and-true false = refl
 
           says : id ≡ schemeIn m → n ≡ cond (confirmedFor r c (schemeIn m)) 1 0
           says z =
-              let own : mem id (ownOf r) ≡ true = subst (λ (i : Id). mem i (ownOf r) ≡ true) (sym z) (further-mem r (c .chosen) (schemeIn m) (names c d m e .fits)) in
+              let own : mem id (ownOf r) ≡ true =
+              subst (λ (i : Id). mem i (ownOf r) ≡ true) (sym z) (further-mem r (c .chosen) (schemeIn m) (names c d m e .fits)) in
               is ∙ early own ∙ ap (λ (i : Id). cond (r .confirmed && isAt r (r .requested) i) 1 0) z ∙ ap (λ (b : Bool). cond b 1 0) (sym flag)
 
   -- 4. the first token and the reply: a VERIFY stands at place 2, and nothing after it
@@ -295,7 +324,8 @@ module _ (id : Id) where
 
   module _ (r : Record) (t : List ℕ) (o : leb (reads r) 1 ≡ true) (other : eqb (r .stage) 1 ≡ false) (Link : Scan → Type 0)
       (link : (c d : Scan) (m : List ℕ) → Link c → (e : admit r t c m ≡ on d) → eqb (kind r t c d m e) VERIFY ≡ false → Link d)
-      (linked : (c d : Scan) (m : List ℕ) → Link c → (e : admit r t c m ≡ on d) → c .position ≡ 2 → eqb (kind r t c d m e) VERIFY ≡ true → mem id (ownOf r) ≡ true → sameOctets id (schemeIn m) ≡ isAt r (d .requested) id) where
+      (linked : (c d : Scan) (m : List ℕ) → Link c → (e : admit r t c m ≡ on d) → c .position ≡ 2 → eqb (kind r t c d m e) VERIFY ≡ true
+      → mem id (ownOf r) ≡ true → sameOctets id (schemeIn m) ≡ isAt r (d .requested) id) where
     pub record Waits (c : Scan) (n : ℕ) : Type 0 where
       pub quiet : c .confirmed ≡ false
       pub zero : n ≡ 0
@@ -343,7 +373,8 @@ module _ (id : Id) where
     | inl q ↦
         let own′ : mem s (ownOf r) ≡ true = subst (λ (i : Id). mem i (ownOf r) ≡ true) (same-eq id s q) own in
         let same : schemeAt r (place (ownOf r) s) ≡ s = getD-place (ownOf r) s own′ in
-        let yes : isAt r (place (ownOf r) s) id ≡ true = rw (lt-ltb _ _ (place-own r s own′)) (subst (λ (i : Id). sameOctets id i ≡ true) (sym same) q) in
+        let yes : isAt r (place (ownOf r) s) id ≡ true =
+        rw (lt-ltb _ _ (place-own r s own′)) (subst (λ (i : Id). sameOctets id i ≡ true) (sym same) q) in
         q ∙ sym yes
     | inr q ↦ q ∙ sym (elim (which (ltb (place (ownOf r) s) (r .count))) [
       | inl h ↦
@@ -369,17 +400,26 @@ module _ (id : Id) where
 
       pub first-link : (c d : Scan) (m : List ℕ) → FirstLink c → (e : admit r t c m ≡ on d) → eqb (kind r t c d m e) VERIFY ≡ false → FirstLink d
       first-link c d m w e v p =
-          let ex : eqb (kind r t c d m e) EXCHANGE ≡ true = opens-asks (reads r) o (c .position) (spent r t c d m e) (kind r t c d m e) v (position-then r t c d m e ∙ p) in
+          let ex : eqb (kind r t c d m e) EXCHANGE ≡ true =
+          opens-asks (reads r) o (c .position) (spent r t c d m e) (kind r t c d m e) v (position-then r t c d m e ∙ p) in
           let three : kind r t c d m e ≡ 3 = eqb-true _ _ ex in
-          let fits = exchange-fits c d m e (omega arith) in
-          (schemeIn m, (and-l (startsWith (listedBy t) (schemeIn m)) (eqb (reads r) 0 || isAt r (r .requested) (schemeIn m)) fits, sym (requested-then r t c d m e) ∙ rw (ex, first)))
+          let fits = exchange-fits c d m e (omega arith) in (
+            schemeIn m,
+            (
+              and-l (startsWith (listedBy t) (schemeIn m)) (eqb (reads r) 0 || isAt r (r .requested) (schemeIn m)) fits,
+              sym
+                  (requested-then r t c d m e) ∙ rw (ex, first),
+            ),
+          )
 
-      pub first-linked : (c d : Scan) (m : List ℕ) → FirstLink c → (e : admit r t c m ≡ on d) → c .position ≡ 2 → eqb (kind r t c d m e) VERIFY ≡ true → mem id (ownOf r) ≡ true → sameOctets id (schemeIn m) ≡ isAt r (d .requested) id
+      pub first-linked : (c d : Scan) (m : List ℕ) → FirstLink c → (e : admit r t c m ≡ on d) → c .position ≡ 2 → eqb (kind r t c d m e) VERIFY ≡ true
+          → mem id (ownOf r) ≡ true → sameOctets id (schemeIn m) ≡ isAt r (d .requested) id
       first-linked c d m w e p v own =
           let x = w p in
           let four : kind r t c d m e ≡ 4 = eqb-true _ _ v in
           let fits = exchange-fits c d m e (omega arith) in
-          let starts : startsWith (listedBy t) (schemeIn m) ≡ true = and-l (startsWith (listedBy t) (schemeIn m)) (eqb (reads r) 0 || isAt r (r .requested) (schemeIn m)) fits in
+          let starts : startsWith (listedBy t) (schemeIn m) ≡ true =
+          and-l (startsWith (listedBy t) (schemeIn m)) (eqb (reads r) 0 || isAt r (r .requested) (schemeIn m)) fits in
           let same : x .0 ≡ schemeIn m = starts-same (listedBy t) (x .0) (schemeIn m) (x .1 .0) starts in
           let not-three : kind r t c d m e ≡ 3 → ⊥ = λ z. omega arith in
           let kept : c .requested ≡ d .requested = sym (rw (ne-eqb _ _ not-three)) ∙ requested-then r t c d m e in
@@ -397,11 +437,15 @@ module _ (id : Id) where
       pub answer-link : (c d : Scan) (m : List ℕ) → AnswerLink c → (e : admit r t c m ≡ on d) → eqb (kind r t c d m e) VERIFY ≡ false → AnswerLink d
       answer-link c d m w e v = sym (kept-requested c d m e) ∙ w
 
-      pub answer-linked : (c d : Scan) (m : List ℕ) → AnswerLink c → (e : admit r t c m ≡ on d) → c .position ≡ 2 → eqb (kind r t c d m e) VERIFY ≡ true → mem id (ownOf r) ≡ true → sameOctets id (schemeIn m) ≡ isAt r (d .requested) id
+      pub answer-linked : (c d : Scan) (m : List ℕ) → AnswerLink c → (e : admit r t c m ≡ on d) → c .position ≡ 2
+          → eqb (kind r t c d m e) VERIFY ≡ true → mem id (ownOf r) ≡ true → sameOctets id (schemeIn m) ≡ isAt r (d .requested) id
       answer-linked c d m w e p v own =
           let four : kind r t c d m e ≡ 4 = eqb-true _ _ v in
-          let fits = and-r (startsWith (listedBy t) (schemeIn m)) (eqb (reads r) 0 || isAt r (r .requested) (schemeIn m)) (exchange-fits c d m e (omega arith)) in
+          let fits =
+          and-r (startsWith (listedBy t) (schemeIn m)) (eqb (reads r) 0 || isAt r (r .requested) (schemeIn m))
+          (exchange-fits c d m e (omega arith)) in
           let here : isAt r (r .requested) (schemeIn m) ≡ true = rw answer at fits in
           let low = and-l (ltb (r .requested) (r .count)) (sameOctets (schemeIn m) (schemeAt r (r .requested))) here in
-          let is : schemeIn m ≡ schemeAt r (r .requested) = same-eq _ _ (and-r (ltb (r .requested) (r .count)) (sameOctets (schemeIn m) (schemeAt r (r .requested))) here) in
+          let is : schemeIn m ≡ schemeAt r (r .requested) =
+          same-eq _ _ (and-r (ltb (r .requested) (r .count)) (sameOctets (schemeIn m) (schemeAt r (r .requested))) here) in
           ap (sameOctets id) is ∙ sym (rw low) ∙ ap (λ (k : ℕ). isAt r k id) (sym w ∙ kept-requested c d m e)

@@ -1,4 +1,5 @@
--- Of what an end reads in a run at most one is a VERIFY for a scheme, and after the choice the record's flag says whether the one for the chosen scheme is read.
+-- Of what an end reads in a run at most one is a VERIFY for a scheme, and after the choice the record's flag says whether the one for the chosen scheme is
+-- read.
 -- Assumes nothing.
 use Prim.Native.Nat.{ℕ, _+_, _^_, _≤_, _<_}
 use mathlib.Core.Path.{_≡_, refl, sym, ap, subst, _∙_}
@@ -47,12 +48,15 @@ module _ (id : Id) where
     later : r .stage ≡ 3 → id ≡ schemeAt r (r .chosen) → n ≡ cond (r .confirmed) 1 0
 
   -- 2. what is written leaves it
-  wrote-says : (r : Record) (n position size : ℕ) (w : WrittenAs) → ((r .stage ≡ 0 → ⊥) → w .requested ≡ r .requested) → Says r n → Says (wrote r position size w) n
+  wrote-says : (r : Record) (n position size : ℕ) (w : WrittenAs) → ((r .stage ≡ 0 → ⊥) → w .requested ≡ r .requested) → Says r n
+      → Says (wrote r position size w) n
   wrote-says r n position size w same s = record {
     most = s .most;
     start = s .start;
     unchosen = s .unchosen;
-    early = λ st own. s .early st own ∙ ap (λ (k : ℕ). cond (r .confirmed && isAt r k id) 1 0) (sym (same (λ z. elim st [ inl a ↦ omega arith | inr a ↦ omega arith ])));
+    early =
+        λ st own. s .early st own ∙ ap (λ (k : ℕ). cond (r .confirmed && isAt r k id) 1 0)
+        (sym (same (λ z. elim st [ inl a ↦ omega arith | inr a ↦ omega arith ])));
     later = s .later;
   }
 
@@ -75,7 +79,8 @@ module _ (id : Id) where
       | inl q ↦
           let is : k ≡ r .requested = eqb-true _ _ q in
           let low′ : r .requested < r .count = subst (λ (j : ℕ). j < r .count) is low in
-          let same : sameOctets id (schemeAt r (r .requested)) ≡ true = subst (λ (i : Id). sameOctets id i ≡ true) (z ∙ ap (schemeAt r) is) (same-refl id) in
+          let same : sameOctets id (schemeAt r (r .requested)) ≡ true =
+          subst (λ (i : Id). sameOctets id i ≡ true) (z ∙ ap (schemeAt r) is) (same-refl id) in
           rw (lt-ltb _ _ low′) (same ∙ sym q)
       | inr q ↦ elim (which (ltb (r .requested) (r .count))) [
         | inr h ↦ rw h (sym q)
@@ -93,26 +98,33 @@ module _ (id : Id) where
       unchosen = λ a z. absurd (omega arith);
       early = λ st own. elim st [ inl a ↦ absurd (omega arith) | inr a ↦ absurd (omega arith) ];
       later = λ st z.
-          let own : mem id (ownOf r) ≡ true = mem-at id (ownOf r) k (subst (λ (j : ℕ). k < j) (sym (own-length r)) low) (subst (λ (i : Id). sameOctets id i ≡ true) z (same-refl id)) in
+          let own : mem id (ownOf r) ≡ true =
+          mem-at id (ownOf r) k (subst (λ (j : ℕ). k < j) (sym (own-length r)) low)
+          (subst (λ (i : Id). sameOctets id i ≡ true) z (same-refl id)) in
           s .early (inr at) own ∙ ap (λ (b : Bool). cond (r .confirmed && b) 1 0) (at-choice z);
     }
 
   -- 4. a token
-  module _ (r : Record) (t : List ℕ) (n : ℕ) (limits : AllTrue (limitRows r)) (ok : Inv r) (s : Says r n) (j : ℕ) (c : Scan) (w : judged r t ≡ whole j c) where
+  module _ (r : Record) (t : List ℕ) (n : ℕ) (limits : AllTrue (limitRows r)) (ok : Inv r) (s : Says r n) (j : ℕ) (c : Scan)
+      (w : judged r t ≡ whole j c) where
     abbrev count : ℕ
     count = n + length (keep (verifyFor id) (messagesIn (chainFor r t)))
 
-    sums : (P : Scan → ℕ → Type 0) → ((x y : Scan) (m : List ℕ) (i : ℕ) → P x i → admit r t x m ≡ on y → P y (i + cond (verifyFor id m) 1 0)) → P (startOf r) n → P c count
+    sums : (P : Scan → ℕ → Type 0) → ((x y : Scan) (m : List ℕ) (i : ℕ) → P x i → admit r t x m ≡ on y → P y (i + cond (verifyFor id m) 1 0))
+        → P (startOf r) n → P c count
     unfolding judged
     sums P f p = judge-sums id P r t f 0 (startOf r) (chainFor r t) j c n p w
 
     -- no scheme is chosen before the later tokens
     none-chosen : eqb (reads r) 2 ≡ false → r .chosen ≡ NONE → c .chosen ≡ NONE
     unfolding judged
-    none-chosen f z = judge-keeps (λ x. x .chosen ≡ NONE) r t (λ x y m p h. sym (sym (rw f) ∙ chosen-then r t x y m h) ∙ p) 0 (startOf r) (chainFor r t) j c z w
+    none-chosen f z =
+        judge-keeps (λ x. x .chosen ≡ NONE) r t (λ x y m p h. sym (sym (rw f) ∙ chosen-then r t x y m h) ∙ p) 0 (startOf r) (chainFor r t) j c z w
 
     early-says : reads r ≤ 1 → (r .acceptor ≡ true → c .chosen ≡ NONE)
-        → ((c .confirmed ≡ false) × (count ≡ 0)) ⊎ ((c .confirmed ≡ true) × ((count ≤ 1) × (mem id (ownOf r) ≡ true → count ≡ cond (isAt r (c .requested) id) 1 0))) → Says (taken r t j c) count
+        → ((c .confirmed ≡ false) × (count ≡ 0))
+        ⊎ ((c .confirmed ≡ true) × ((count ≤ 1) × (mem id (ownOf r) ≡ true → count ≡ cond (isAt r (c .requested) id) 1 0)))
+        → Says (taken r t j c) count
     early-says low none (inl (quiet, zero)) = record {
       most = omega arith;
       start = λ z. absurd (omega arith);
@@ -146,9 +158,12 @@ module _ (id : Id) where
         let o : leb (reads r) 1 ≡ true = rw f in
         let other : eqb (r .stage) 1 ≡ false = rw st in
         let b = s .start st in
-        let x = sums (Opens id r t o other (FirstLink id r t o f) (first-link id r t o f) (first-linked id r t o f)) (opens-step id r t o other (FirstLink id r t o f) (first-link id r t o f) (first-linked id r t o f))
+        let x =
+        sums (Opens id r t o other (FirstLink id r t o f) (first-link id r t o f) (first-linked id r t o f))
+        (opens-step id r t o other (FirstLink id r t o f) (first-link id r t o f) (first-linked id r t o f))
         (inl (record { quiet = b .0; zero = b .1; chain = λ z. absurd (omega arith) })) in
-        early-says (omega arith) (λ a. none-chosen (rw f) (s .unchosen role (omega arith))) (elim x [ inl y ↦ inl (y .quiet, y .zero) | inr y ↦ inr (y .confirmed, (y .most, y .says)) ])
+        early-says (omega arith) (λ a. none-chosen (rw f) (s .unchosen role (omega arith)))
+        (elim x [ inl y ↦ inl (y .quiet, y .zero) | inr y ↦ inr (y .confirmed, (y .most, y .says)) ])
 
     answer-token : r .acceptor ≡ false → r .stage ≡ 0 → Says (taken r t j c) count
     unfolding reading
@@ -157,23 +172,29 @@ module _ (id : Id) where
         let o : leb (reads r) 1 ≡ true = rw f in
         let other : eqb (r .stage) 1 ≡ false = rw st in
         let b = s .start st in
-        let x = sums (Opens id r t o other (AnswerLink id r t o f) (answer-link id r t o f) (answer-linked id r t o f)) (opens-step id r t o other (AnswerLink id r t o f) (answer-link id r t o f) (answer-linked id r t o f))
+        let x =
+        sums (Opens id r t o other (AnswerLink id r t o f) (answer-link id r t o f) (answer-linked id r t o f))
+        (opens-step id r t o other (AnswerLink id r t o f) (answer-link id r t o f) (answer-linked id r t o f))
         (inl (record { quiet = b .0; zero = b .1; chain = refl })) in
-        early-says (omega arith) (λ a. no-true (sym role ∙ a)) (elim x [ inl y ↦ inl (y .quiet, y .zero) | inr y ↦ inr (y .confirmed, (y .most, y .says)) ])
+        early-says (omega arith) (λ a. no-true (sym role ∙ a))
+        (elim x [ inl y ↦ inl (y .quiet, y .zero) | inr y ↦ inr (y .confirmed, (y .most, y .says)) ])
 
     -- the acceptor's first later token
     fixing-token : r .acceptor ≡ true → r .stage ≡ 1 → Says (taken r t j c) count
     unfolding reading
     fixing-token role st =
         let f : eqb (reads r) 2 ≡ true = rw (role, st) in
-        let x = sums (Chooses id r t f limits st n (s .most) (s .early (inl st))) (chooses-step id r t f limits st n (s .most) (s .early (inl st))) (inl (s .unchosen role (omega arith), (refl, refl))) in
+        let x =
+        sums (Chooses id r t f limits st n (s .most) (s .early (inl st))) (chooses-step id r t f limits st n (s .most) (s .early (inl st)))
+        (inl (s .unchosen role (omega arith), (refl, refl))) in
         let low : c .chosen < r .count = judged-low r t f j c w in
         let (l1, (l2, rest)) = limits in
         let few : r .count ≤ 16 = leb-true _ _ l2 in
         later-says f (elim x [ inl y ↦ absurd (let z = y .0 in omega arith) | inr y ↦ y ])
 
     later-token : r .stage ≡ 3 → eqb (reads r) 2 ≡ true → Says (taken r t j c) count
-    later-token st f = later-says f (sums (Later id r t f) (later-step id r t f limits) (record { low = ok .low st; most = s .most; says = s .later st }))
+    later-token st f =
+        later-says f (sums (Later id r t f) (later-step id r t f limits) (record { low = ok .low st; most = s .most; says = s .later st }))
 
     token-says : mayRead r ≡ true → Says (taken r t j c) count
     token-says may = go (r .acceptor) refl where
@@ -234,15 +255,20 @@ module _ (id : Id) where
         let (l1, (l2, (l3, (l4, (l5, (l6, (l7, rest))))))) = p .limits in
         chose-says r m n (p .limits) at (chosen-below r m (rw role at l7) (p .left)) s v _ _)
 
-    reads-one : Says (readingToken r d peer .answer .next) (n + length (keep (verifyFor id) (cond (isAccepted (readingToken r d peer .answer)) (messagesIn (chainFor r peer)) [])))
+    reads-one : Says (readingToken r d peer .answer .next)
+        (n + length (keep (verifyFor id) (cond (isAccepted (readingToken r d peer .answer)) (messagesIn (chainFor r peer)) [])))
     unfolding readingToken
     reads-one =
         let rows : List Row = limitRows r ++ tokenRows r (length peer) in
-        decide-out (λ out. Says (out .answer .next) (n + length (keep (verifyFor id) (cond (isAccepted (out .answer)) (messagesIn (chainFor r peer)) [])))) rows r d (finish r d peer (judged r peer))
+        decide-out
+        (λ out. Says (out .answer .next) (n + length (keep (verifyFor id) (cond (isAccepted (out .answer)) (messagesIn (chainFor r peer)) []))))
+        rows r d (finish r d peer (judged r peer))
         (λ k f. rw (ne-eqb k 0 (fails-other 0 rows k refl f)) (more r n s))
-        (λ g. token (front-true (limitRows r) (tokenRows r (length peer)) g) (true-behind (limitRows r) (row 18 (mayRead r)) (row 1 (leb (length peer) 65535) ∷ []) g) (judged r peer) refl) where
+        (λ g. token (front-true (limitRows r) (tokenRows r (length peer)) g)
+        (true-behind (limitRows r) (row 18 (mayRead r)) (row 1 (leb (length peer) 65535) ∷ []) g) (judged r peer) refl) where
           token : AllTrue (limitRows r) → mayRead r ≡ true → (j : Judged) → judged r peer ≡ j
-              → Says (finish r d peer j .answer .next) (n + length (keep (verifyFor id) (cond (isAccepted (finish r d peer j .answer)) (messagesIn (chainFor r peer)) [])))
+              → Says (finish r d peer j .answer .next)
+              (n + length (keep (verifyFor id) (cond (isAccepted (finish r d peer j .answer)) (messagesIn (chainFor r peer)) [])))
           token limits may (halted k p) w = unfold finish in (let z = judged-number r peer k p w .0 in rw (ne-eqb k 0 z) (elim (which (eqb k 12)) [
             | inl h ↦ rw h (more _ n (closed-says _ n refl (s .most)))
             | inr h ↦ rw h (more r n s)
@@ -254,43 +280,73 @@ module _ (id : Id) where
 
     call-says : (k : Call) → Says (act e peer k .answer .next) (n + length (keep (verifyFor id) (addedBy isReading e peer k)))
     unfolding act offering replying writingMetadata speaking
-    call-says (offer nego) = more _ n (says-by (stageRows r NEGO ++ thenFits (offerRows r (nego .0)) r d (offered r (nego .0))) _ (λ g. wrote-says r n _ _ (unchanged r) (λ z. refl) s))
+    call-says (offer nego) =
+        more _ n
+        (says-by (stageRows r NEGO ++ thenFits (offerRows r (nego .0)) r d (offered r (nego .0))) _
+        (λ g. wrote-says r n _ _ (unchanged r) (λ z. refl) s))
     call-says (reply m nego) =
         more _ n (says-by (stageRows r NEGO ++ thenFits (replyRows r m (nego .0)) r d (replyMessage r m (nego .0))) _
         (λ g. wrote-says r n _ _ (record { marks = m; metadata = r .metadata; requested = r .requested; attested = r .attested }) (λ z. refl) s))
     call-says (metadata scheme value) =
         more _ n (says-by (stageRows r METADATA ++ thenFits (metadataRows r (scheme .0) (length value)) r d (metadataMessage r (scheme .0) value)) _
-        (λ g. wrote-says r n _ _ (record { marks = r .marks; metadata = r .metadata + 2 ^ place (ownOf r) (scheme .0); requested = r .requested; attested = r .attested }) (λ z. refl) s))
-    call-says (speak v) = more _ n (says-by (stageRows r (classIn v) ++ thenFits (namedRows r (speechFits v)) r d (spoken r v)) _ (λ g. wrote-says r n _ _ (spokenAs r v) (speech-requested r v) s))
+        (λ g. wrote-says r n _ _
+        (record { marks = r .marks; metadata = r .metadata + 2 ^ place (ownOf r) (scheme .0); requested = r .requested; attested = r .attested })
+        (λ z. refl) s))
+    call-says (speak v) =
+        more _ n
+        (says-by (stageRows r (classIn v) ++ thenFits (namedRows r (speechFits v)) r d (spoken r v)) _
+        (λ g. wrote-says r n _ _ (spokenAs r v) (speech-requested r v) s))
     call-says read = reads-one
     call-says (choose m v) = more _ n (chooses m v)
 
   -- 6. a run
-  says-next : (w : World) (x y : Bool) (k : Call) → Invs id w → (n : ℕ) → Says (recordAt x w) n → Says (recordAt x (next w y k)) (n + length (keep (verifyFor id) (addedAt isReading x w y k)))
+  says-next : (w : World) (x y : Bool) (k : Call) → Invs id w → (n : ℕ) → Says (recordAt x w) n
+      → Says (recordAt x (next w y k)) (n + length (keep (verifyFor id) (addedAt isReading x w y k)))
   says-next w false false k h n s = call-says (w .i) (w .a .turn) n (h .0) s k
   says-next w false true k h n s = more (w .i .record-of) n s
   says-next w true false k h n s = more (w .a .record-of) n s
   says-next w true true k h n s = call-says (w .a) (w .i .turn) n (h .1) s k
 
-  says-behind : (w : World) (x : Bool) (cs : List (Bool × Call)) → Invs id w → (n : ℕ) → Says (recordAt x w) n → Says (recordAt x (ends w cs)) (n + length (keep (verifyFor id) (addedIn isReading x w cs)))
+  says-behind : (w : World) (x : Bool) (cs : List (Bool × Call)) → Invs id w → (n : ℕ) → Says (recordAt x w) n
+      → Says (recordAt x (ends w cs)) (n + length (keep (verifyFor id) (addedIn isReading x w cs)))
   says-behind w x [] h n s = more (recordAt x w) n s
   says-behind w x (c ∷ cs) h n s =
       let here : List (List ℕ) = addedAt isReading x w (c .0) (c .1) in
       let there : List (List ℕ) = addedIn isReading x (next w (c .0) (c .1)) cs in
-      let i = says-behind (next w (c .0) (c .1)) x cs (invs-kept id w (c .0) (c .1) h) (n + length (keep (verifyFor id) here)) (says-next w x (c .0) (c .1) h n s) in
-      let apart : length (keep (verifyFor id) (here ++ there)) ≡ length (keep (verifyFor id) here) + length (keep (verifyFor id) there) = ap length (keep-append (verifyFor id) here there) ∙ length-append (keep (verifyFor id) here) (keep (verifyFor id) there) in
-      let is : n + length (keep (verifyFor id) here) + length (keep (verifyFor id) there) ≡ n + length (keep (verifyFor id) (here ++ there)) = omega arith in
+      let i =
+      says-behind (next w (c .0) (c .1)) x cs (invs-kept id w (c .0) (c .1) h) (n + length (keep (verifyFor id) here))
+      (says-next w x (c .0) (c .1) h n s) in
+      let apart : length (keep (verifyFor id) (here ++ there)) ≡ length (keep (verifyFor id) here) + length (keep (verifyFor id) there) =
+      ap length (keep-append (verifyFor id) here there) ∙ length-append (keep (verifyFor id) here) (keep (verifyFor id) there) in
+      let is : n + length (keep (verifyFor id) here) + length (keep (verifyFor id) there) ≡ n + length (keep (verifyFor id) (here ++ there)) =
+      omega arith in
       subst (Says (recordAt x (ends (next w (c .0) (c .1)) cs))) is i
 
   says-start : (o : Opening) (x : Bool) → Says (recordAt x (world o)) 0
-  says-start o false = record { most = omega arith; start = λ z. (refl, refl); unchosen = λ a z. refl; early = λ st own. elim st [ inl a ↦ absurd (omega arith) | inr a ↦ absurd (omega arith) ]; later = λ st z. absurd (omega arith) }
-  says-start o true = record { most = omega arith; start = λ z. (refl, refl); unchosen = λ a z. refl; early = λ st own. elim st [ inl a ↦ absurd (omega arith) | inr a ↦ absurd (omega arith) ]; later = λ st z. absurd (omega arith) }
+  says-start o false =
+      record {
+        most = omega arith;
+        start = λ z. (refl, refl);
+        unchosen = λ a z. refl;
+        early = λ st own. elim st [ inl a ↦ absurd (omega arith) | inr a ↦ absurd (omega arith) ];
+        later = λ st z. absurd (omega arith);
+      }
+  says-start o true =
+      record {
+        most = omega arith;
+        start = λ z. (refl, refl);
+        unchosen = λ a z. refl;
+        early = λ st own. elim st [ inl a ↦ absurd (omega arith) | inr a ↦ absurd (omega arith) ];
+        later = λ st z. absurd (omega arith);
+      }
 
 -- 7. the two claims
 
-from-opening : (o : Opening) (cs : List (Bool × Call)) (x : Bool) (id : Id) → Says id (recordAt x (ends (world o) cs)) (length (keep (verifyFor id) (readIn x (world o) cs)))
+from-opening : (o : Opening) (cs : List (Bool × Call)) (x : Bool) (id : Id)
+    → Says id (recordAt x (ends (world o) cs)) (length (keep (verifyFor id) (readIn x (world o) cs)))
 from-opening o cs x id =
-    let z : 0 + length (keep (verifyFor id) (readIn x (world o) cs)) ≡ length (keep (verifyFor id) (readIn x (world o) cs)) = zero-add (length (keep (verifyFor id) (readIn x (world o) cs))) in
+    let z : 0 + length (keep (verifyFor id) (readIn x (world o) cs)) ≡ length (keep (verifyFor id) (readIn x (world o) cs)) =
+    zero-add (length (keep (verifyFor id) (readIn x (world o) cs))) in
     subst (Says id (recordAt x (ends (world o) cs))) z (says-behind id (world o) x cs (invs-start o) 0 (says-start id o x))
 
 pub heard-once : HeardOnce

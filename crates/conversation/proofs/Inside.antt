@@ -45,7 +45,8 @@ mem-left : (id : Id) (l : List Id) (c m : ℕ) → mem id (left l c m) ≡ true 
 unfolding left mem
 mem-left id [] c m h = h
 mem-left id (x ∷ l) c m h = go (bit c 0 && not (bit m 0)) (mem-left id l (c / 2) (m / 2)) h where
-  go : (b : Bool) → (mem id (left l (c / 2) (m / 2)) ≡ true → mem id l ≡ true) → mem id (cond b (x ∷ left l (c / 2) (m / 2)) (left l (c / 2) (m / 2))) ≡ true → mem id (x ∷ l) ≡ true
+  go : (b : Bool) → (mem id (left l (c / 2) (m / 2)) ≡ true → mem id l ≡ true)
+      → mem id (cond b (x ∷ left l (c / 2) (m / 2)) (left l (c / 2) (m / 2))) ≡ true → mem id (x ∷ l) ≡ true
   go false ih g = mem-tail id x l (ih g)
   go true ih g = elim (which (sameOctets id x)) [ inl e ↦ rw e | inr e ↦ rw e (ih (rw e at g)) ]
 
@@ -92,7 +93,9 @@ module _ (r : Record) where
   now-below h = elim (which (eqb (writes r) ANSWER)) [
     | inl a ↦
         let first : eqb (writes r) FIRST ≡ false = (let w : writes r ≡ 1 = eqb-true _ _ a in rw w) in
-        rw (first, a) (ltb-true (r .requested) (r .count) (and-l (ltb (r .requested) (r .count)) (startsWith (replied r) (schemeAt r (r .requested))) (rw a at h)))
+        rw (first, a)
+        (ltb-true (r .requested) (r .count)
+        (and-l (ltb (r .requested) (r .count)) (startsWith (replied r) (schemeAt r (r .requested))) (rw a at h)))
     | inr a ↦ rw a (ltb-true (cond (eqb (writes r) FIRST) 0 (r .chosen)) (r .count) (rw a at h))
   ]
 
@@ -111,7 +114,8 @@ module _ (r : Record) where
     go false e = at-mem id chosen e
 
   -- neither a NEGO nor metadata is a message of a later token
-  pub further-kind : (token position : ℕ) (v : Bool) (kind : ℕ) → eqb token FURTHER ≡ true → not (eqb (after token position v kind) 0) ≡ true → (eqb kind NEGO ≡ false) × (eqb kind METADATA ≡ false)
+  pub further-kind : (token position : ℕ) (v : Bool) (kind : ℕ) → eqb token FURTHER ≡ true → not (eqb (after token position v kind) 0) ≡ true
+      → (eqb kind NEGO ≡ false) × (eqb kind METADATA ≡ false)
   unfolding after afterFurther
   further-kind token position v kind f h = (
     elim (which (eqb kind NEGO)) [ inl e ↦ no-true (rw (eqb-true token FURTHER f, eqb-true kind NEGO e) at h) | inr e ↦ e ],
@@ -142,7 +146,8 @@ first-below r m h = go (openTo r m) (open-below (r .count) (r .kept) (r .common)
   go (k ∷ ks) f = unfold leftOf in low-chosen r k (f (λ z. omega arith))
 
 -- where a scheme is left, it is one of the list: so 15 never comes up
-pub chosen-below : (r : Record) (m : ℕ) → keptBelow (r .count) (r .kept) (r .common) ≡ true → someLeft (named (ownOf r) (openTo r m)) ≡ true → firstPlace (openTo r m) < r .count
+pub chosen-below : (r : Record) (m : ℕ) → keptBelow (r .count) (r .kept) (r .common) ≡ true → someLeft (named (ownOf r) (openTo r m)) ≡ true
+    → firstPlace (openTo r m) < r .count
 chosen-below r m h = go (openTo r m) (open-below (r .count) (r .kept) (r .common) m h) where
   go : (ks : List ℕ) → ((leftOf ks .left ≡ 0 → ⊥) → leftOf ks .place < r .count) → someLeft (named (ownOf r) ks) ≡ true → firstPlace ks < r .count
   go [] f s = no-true s
@@ -156,17 +161,20 @@ now-chosen r m = go (r .acceptor) where
   go true = refl
   go false = refl
 
-pub scheme-chosen : (r : Record) (m : ℕ) → someLeft (named (ownOf r) (openTo r m)) ≡ true → schemeAt r (schemeNow (chose r m)) ≡ firstOr (named (ownOf r) (openTo r m))
+pub scheme-chosen : (r : Record) (m : ℕ) → someLeft (named (ownOf r) (openTo r m)) ≡ true
+    → schemeAt r (schemeNow (chose r m)) ≡ firstOr (named (ownOf r) (openTo r m))
 scheme-chosen r m h = ap (schemeAt r) (now-chosen r m) ∙ go (openTo r m) h where
   go : (ks : List ℕ) → someLeft (named (ownOf r) ks) ≡ true → schemeAt r (firstPlace ks) ≡ firstOr (named (ownOf r) ks)
   go [] s = no-true s
   go (k ∷ ks) s = refl
 
-pub chosen-allowed : (r : Record) (m : ℕ) → keptBelow (r .count) (r .kept) (r .common) ≡ true → someLeft (named (ownOf r) (openTo r m)) ≡ true → schemeAllowed (chose r m) ≡ true
-chosen-allowed r m kept some = rw (no-answer (r .acceptor)) (ap (λ (k : ℕ). ltb k (r .count)) (now-chosen r m) ∙ lt-ltb _ _ (chosen-below r m kept some)) where
-  no-answer : (a : Bool) → eqb (writing a 3) ANSWER ≡ false
-  no-answer true = unfold writing in refl
-  no-answer false = unfold writing in refl
+pub chosen-allowed : (r : Record) (m : ℕ) → keptBelow (r .count) (r .kept) (r .common) ≡ true → someLeft (named (ownOf r) (openTo r m)) ≡ true
+    → schemeAllowed (chose r m) ≡ true
+chosen-allowed r m kept some =
+    rw (no-answer (r .acceptor)) (ap (λ (k : ℕ). ltb k (r .count)) (now-chosen r m) ∙ lt-ltb _ _ (chosen-below r m kept some)) where
+      no-answer : (a : Bool) → eqb (writing a 3) ANSWER ≡ false
+      no-answer true = unfold writing in refl
+      no-answer false = unfold writing in refl
 
 -- 6. the common set and the kept places that a reading leaves
 
@@ -186,19 +194,28 @@ module _ (r : Record) (t : List ℕ) where
   pub common-then : below (r .count) (r .common) ≡ true → below (r .count) (commonAfter r t) ≡ true
   unfolding commonAfter
   common-then h = elim (which (eqb (reads r) FIRST)) [
-    | inl e ↦ rw e (subst (λ (n : ℕ). below n (commonSet (ownOf r) (listedBy t)) ≡ true) (own-length r) (lt-ltb _ _ (set-bound (λ s. mem s (listedBy t)) (ownOf r))))
+    | inl e ↦ rw e
+        (subst (λ (n : ℕ). below n (commonSet (ownOf r) (listedBy t)) ≡ true) (own-length r)
+        (lt-ltb _ _ (set-bound (λ s. mem s (listedBy t)) (ownOf r))))
     | inr e ↦ elim (which (eqb (reads r) ANSWER)) [
-      | inl g ↦ rw (e, g) (ones-few _ (r .count) (subst (λ (n : ℕ). length (keptPlaces (ownOf r) (listedBy t)) ≤ n) (own-length r) (kept-few (ownOf r) (listedBy t))))
+      | inl g ↦ rw (e, g)
+          (ones-few _ (r .count) (subst (λ (n : ℕ). length (keptPlaces (ownOf r) (listedBy t)) ≤ n) (own-length r) (kept-few (ownOf r) (listedBy t))))
       | inr g ↦ rw (e, g) h
     ]
   ]
 
-  pub places-then : (r .acceptor || keptBelow (r .count) (r .kept) (r .common)) ≡ true → (r .acceptor || keptBelow (r .count) (keptAfter r t) (commonAfter r t)) ≡ true
+  pub places-then : (r .acceptor || keptBelow (r .count) (r .kept) (r .common)) ≡ true
+      → (r .acceptor || keptBelow (r .count) (keptAfter r t) (commonAfter r t)) ≡ true
   unfolding commonAfter keptAfter
   places-then h = elim (which (eqb (reads r) FIRST)) [
     | inl e ↦ rw (first-acceptor (r .acceptor) (r .stage) e)
     | inr e ↦ elim (which (eqb (reads r) ANSWER)) [
-      | inl g ↦ rw (e, g) (or-right (r .acceptor) (subst (λ (n : ℕ). keptBelow n (padTo 16 (keptPlaces (ownOf r) (listedBy t))) (ones (length (keptPlaces (ownOf r) (listedBy t)))) ≡ true) (own-length r) (kept-below (ownOf r) (listedBy t) (ones (length (keptPlaces (ownOf r) (listedBy t)))) (omega (arith, ones-pow (length (keptPlaces (ownOf r) (listedBy t))))))))
+      | inl g ↦ rw (e, g)
+          (or-right (r .acceptor)
+          (subst (λ (n : ℕ). keptBelow n (padTo 16 (keptPlaces (ownOf r) (listedBy t))) (ones (length (keptPlaces (ownOf r) (listedBy t)))) ≡ true)
+          (own-length r)
+          (kept-below (ownOf r) (listedBy t) (ones (length (keptPlaces (ownOf r) (listedBy t))))
+          (omega (arith, ones-pow (length (keptPlaces (ownOf r) (listedBy t))))))))
       | inr g ↦ rw (e, g) h
     ]
   ]
@@ -206,7 +223,8 @@ module _ (r : Record) (t : List ℕ) where
 -- 7. the limits after each kind of call
 
 module _ (r : Record) (limits : AllTrue (limitRows r)) where
-  pub limits-wrote : (position size : ℕ) (w : WrittenAs) → below (r .count) (w .marks) ≡ true → below (r .count) (w .metadata) ≡ true → 64 ≤ size → r .used + size ≤ 65535 → AllTrue (limitRows (wrote r position size w))
+  pub limits-wrote : (position size : ℕ) (w : WrittenAs) → below (r .count) (w .marks) ≡ true → below (r .count) (w .metadata) ≡ true → 64 ≤ size
+      → r .used + size ≤ 65535 → AllTrue (limitRows (wrote r position size w))
   limits-wrote position size w marks told long room =
       let (l1, (l2, (l3, (l4, (l5, (l6, (l7, (l8, (l9, (l10, (l11, rest))))))))))) = limits in
       let sixty : 64 * r .sequence ≤ r .used = leb-true _ _ l11 in
@@ -214,13 +232,31 @@ module _ (r : Record) (limits : AllTrue (limitRows r)) where
       let enough : 64 * (r .sequence + 1) ≤ r .used + size = omega arith in
       (l1, (l2, (l3, (marks, (l5, (told, (l7, (l8, (le-leb _ _ room, (le-leb _ _ numbers, (le-leb _ _ enough, tt)))))))))))
 
-  pub limits-taken : (t : List ℕ) (n : ℕ) (c : Scan) → ChosenBelow r (c .chosen) → 64 * n ≤ length t → r .used + length t ≤ 65535 → AllTrue (limitRows (taken r t n c))
+  pub limits-taken : (t : List ℕ) (n : ℕ) (c : Scan) → ChosenBelow r (c .chosen) → 64 * n ≤ length t → r .used + length t ≤ 65535
+      → AllTrue (limitRows (taken r t n c))
   limits-taken t n c chosen long room =
       let (l1, (l2, (l3, (l4, (l5, (l6, (l7, (l8, (l9, (l10, (l11, rest))))))))))) = limits in
       let sixty : 64 * r .sequence ≤ r .used = leb-true _ _ l11 in
       let numbers : r .sequence + n ≤ 1023 = omega arith in
-      let enough : 64 * (r .sequence + n) ≤ r .used + length t = omega arith in
-      (l1, (l2, (l3, (l4, (common-then r t l5, (lt-ltb 0 (2 ^ r .count) (pow-pos (r .count)), (places-then r t l7, (chosen, (le-leb _ _ room, (le-leb _ _ numbers, (le-leb _ _ enough, tt)))))))))))
+      let enough : 64 * (r .sequence + n) ≤ r .used + length t = omega arith in (
+        l1,
+        (
+          l2,
+          (
+            l3,
+            (
+              l4,
+              (
+                common-then r t l5,
+                (
+                  lt-ltb 0 (2 ^ r .count) (pow-pos (r .count)),
+                  (places-then r t l7, (chosen, (le-leb _ _ room, (le-leb _ _ numbers, (le-leb _ _ enough, tt))))),
+                ),
+              ),
+            ),
+          ),
+        ),
+      )
 
   pub limits-chose : (m : ℕ) → r .acceptor ≡ false → below (r .count) m ≡ true → AllTrue (limitRows (chose r m))
   limits-chose m role marks =

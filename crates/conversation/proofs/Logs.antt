@@ -69,8 +69,12 @@ small false h g = g
 
 pub type-known : (a : Bool) (kind : ℕ) → typeOf a kind ≤ 7
 unfolding typeOf
-type-known true kind = small (eqb kind 1) (omega arith) (small (eqb kind 2) (omega arith) (small (eqb kind 3) (omega arith) (small (eqb kind 4) (omega arith) (omega arith))))
-type-known false kind = small (eqb kind 1) (omega arith) (small (eqb kind 2) (omega arith) (small (eqb kind 3) (omega arith) (small (eqb kind 4) (omega arith) (omega arith))))
+type-known true kind =
+    small (eqb kind 1) (omega arith)
+    (small (eqb kind 2) (omega arith) (small (eqb kind 3) (omega arith) (small (eqb kind 4) (omega arith) (omega arith))))
+type-known false kind =
+    small (eqb kind 1) (omega arith)
+    (small (eqb kind 2) (omega arith) (small (eqb kind 3) (omega arith) (small (eqb kind 4) (omega arith) (omega arith))))
 
 -- what is said names one scheme, and leaves marks and metadata as they were
 pub whole-speech : (s : Speech) (id : List ℕ) → length id ≡ 16 → Whole (contentsIn id s)
@@ -116,7 +120,8 @@ module _ (r : Record) (d said : List ℕ) (le lf : List (List ℕ)) (ok : Sound 
         plain = written-plain (heading r kind) c (type-known (r .acceptor) kind) (omega arith) (ok .talk) ids (omega arith);
       }
 
-  writes-message : (kind position : ℕ) (c : Contents) (w : WrittenAs) → Whole c → below (r .count) (w .marks) ≡ true → below (r .count) (w .metadata) ≡ true → leb (r .used + length (messageOf r kind c)) (room d) ≡ true → Wrote position (messageOf r kind c) w
+  writes-message : (kind position : ℕ) (c : Contents) (w : WrittenAs) → Whole c → below (r .count) (w .marks) ≡ true
+      → below (r .count) (w .metadata) ≡ true → leb (r .used + length (messageOf r kind c)) (room d) ≡ true → Wrote position (messageOf r kind c) w
   writes-message kind position c w ids marks told fit =
       let x : List ℕ = messageOf r kind c in
       let (inside, short) = room-kept (r .used) (length x) d fit in
@@ -148,7 +153,8 @@ module _ (r : Record) (d said : List ℕ) (le lf : List (List ℕ)) (ok : Sound 
 
 -- 2. a call at the end e, beside the end f
 
-module _ (e f : End) (le lf : List (List ℕ)) (ok : Sound (e .record-of) (e .transcript) le) (ok′ : Sound (f .record-of) (f .transcript) lf) (here : InStep (e .turn) le lf) (there : InStep (f .turn) lf le) where
+module _ (e f : End) (le lf : List (List ℕ)) (ok : Sound (e .record-of) (e .transcript) le) (ok′ : Sound (f .record-of) (f .transcript) lf)
+    (here : InStep (e .turn) le lf) (there : InStep (f .turn) lf le) where
   abbrev r : Record
   r = e .record-of
 
@@ -163,7 +169,14 @@ module _ (e f : End) (le lf : List (List ℕ)) (ok : Sound (e .record-of) (e .tr
     unclosed : AllPlain lf → Not12 (out .answer .refusal)
 
   stays : (k : Call) (n p : ℕ) → (n ≡ 0 → ⊥) → Not12 n → Goal k (refused r d n p)
-  stays k n p z w = record { sound = rw (ne-eqb n 0 z) ok; here-then = rw (ne-eqb n 0 z) here; there-then = rw (ne-eqb n 0 z) there; plain = λ t p. rw (ne-eqb n 0 z) p; unclosed = λ p. w }
+  stays k n p z w =
+      record {
+        sound = rw (ne-eqb n 0 z) ok;
+        here-then = rw (ne-eqb n 0 z) here;
+        there-then = rw (ne-eqb n 0 z) there;
+        plain = λ t p. rw (ne-eqb n 0 z) p;
+        unclosed = λ p. w;
+      }
 
   stopped : (k : Call) (rows : List Row) → without 0 rows ≡ true → without 12 rows ≡ true → (n : ℕ) → FirstFails n rows → Goal k (refused r d n 0)
   stopped k rows z w n g = stays k n 0 (fails-other 0 rows n z g) (fails-other 12 rows n w g)
@@ -187,7 +200,8 @@ module _ (e f : End) (le lf : List (List ℕ)) (ok : Sound (e .record-of) (e .tr
     plain : isTest k ≡ false → PlainAs r kind c
 
   -- the log after a message that is written
-  more-plain : (kind : ℕ) (c : Contents) → Whole c → leb (r .used + length (messageOf r kind c)) (room d) ≡ true → PlainAs r kind c → AllPlain le → AllPlain (le ++ (messageOf r kind c ∷ []))
+  more-plain : (kind : ℕ) (c : Contents) → Whole c → leb (r .used + length (messageOf r kind c)) (room d) ≡ true → PlainAs r kind c → AllPlain le
+      → AllPlain (le ++ (messageOf r kind c ∷ []))
   more-plain kind c ids fit p u = plain-more le (messageOf r kind c ∷ []) u (message-written r d (e .turn) le lf ok here kind c ids fit .plain p, tt)
 
   writes-call : (k : Call) (kind : ℕ) (rows : List Row) (c : Contents) (w : WrittenAs)
@@ -253,7 +267,9 @@ module _ (e f : End) (le lf : List (List ℕ)) (ok : Sound (e .record-of) (e .tr
         sound = a .sound;
         here-then = a .turn;
         there-then = more-there (x ∷ []);
-        plain = λ t u. more-plain NEGO c (nego .1 .random) fit (plain-nego r d arrays-here (ok .limits) nego (x25, (x26, tt)) t (joinIds l) (left-whole r d arrays-here (ok .limits) m) fit) u;
+        plain =
+            λ t u. more-plain NEGO c (nego .1 .random) fit
+            (plain-nego r d arrays-here (ok .limits) nego (x25, (x26, tt)) t (joinIds l) (left-whole r d arrays-here (ok .limits) m) fit) u;
         unclosed = λ p q. omega arith;
       })
 
@@ -261,17 +277,23 @@ module _ (e f : End) (le lf : List (List ℕ)) (ok : Sound (e .record-of) (e .tr
   unfolding writingMetadata
   tells id value =
       writes-call (metadata id value) METADATA (metadataRows r (id .0) (length value)) (ofExchange (record { scheme = id .0; value = value }))
-      (record { marks = r .marks; metadata = r .metadata + 2 ^ place (ownOf r) (id .0); requested = r .requested; attested = r .attested }) refl refl refl refl
+      (record { marks = r .marks; metadata = r .metadata + 2 ^ place (ownOf r) (id .0); requested = r .requested; attested = r .attested }) refl refl
+      refl refl
       (λ g. record {
         whole = id .1;
         marks = marks-here;
-        metadata = told-below r (id .0) (true-behind (stageRows r METADATA ++ (row 19 (leb 1 (length value)) ∷ [])) (row 15 (metadataAllowed r (id .0))) (fits r d (length (metadataMessage r (id .0) value)) ∷ []) g) told-here;
+        metadata =
+            told-below r (id .0)
+            (true-behind (stageRows r METADATA ++ (row 19 (leb 1 (length value)) ∷ [])) (row 15 (metadataAllowed r (id .0)))
+            (fits r d (length (metadataMessage r (id .0) value)) ∷ []) g) told-here;
         plain = λ t. plain-kind (r .acceptor) METADATA _ refl;
       })
 
   -- the rule's scheme has 16 octets
-  now-whole : (kind : ℕ) (fit : Bool) (more : List Row) → AllTrue (stageRows r kind ++ (row 25 fit ∷ row 15 (schemeAllowed r) ∷ more)) → length (schemeAt r (schemeNow r)) ≡ 16
-  now-whole kind fit more g = ok .ids (schemeNow r) (now-below r (true-behind (stageRows r kind ++ (row 25 fit ∷ [])) (row 15 (schemeAllowed r)) more g))
+  now-whole : (kind : ℕ) (fit : Bool) (more : List Row) → AllTrue (stageRows r kind ++ (row 25 fit ∷ row 15 (schemeAllowed r) ∷ more))
+      → length (schemeAt r (schemeNow r)) ≡ 16
+  now-whole kind fit more g =
+      ok .ids (schemeNow r) (now-below r (true-behind (stageRows r kind ++ (row 25 fit ∷ [])) (row 15 (schemeAllowed r)) more g))
 
   speaks : (s : Speech) → Goal (speak s) (speaking r d s)
   unfolding speaking
@@ -295,12 +317,15 @@ module _ (e f : End) (le lf : List (List ℕ)) (ok : Sound (e .record-of) (e .tr
   -- the token is the other end's turn, and starts where both logs end
   all-there : (n : ℕ) → Taken r t n → lf ≡ le ++ ms
   all-there n k =
-      let own : FramedFrom (0 + length (there .shared)) (there .own) = framed-behind 0 (there .shared) (there .own) (subst (FramedFrom 0) (there .parts) (ok′ .framed)) in
+      let own : FramedFrom (0 + length (there .shared)) (there .own) =
+      framed-behind 0 (there .shared) (there .own) (subst (FramedFrom 0) (there .parts) (ok′ .framed)) in
       let joins : join ms ≡ join (there .own) = k .joins ∙ sym (there .written) in
       let some : 0 < length (join (there .own)) = subst (λ (l : List ℕ). 0 < length l) (sym (there .written)) (k .some) in
       let start : r .sequence ≡ 0 + length (there .shared) = same-start (r .sequence) _ ms (there .own) (k .framed) own joins some in
       let same : ms ≡ there .own = same-messages (r .sequence) (0 + length (there .shared)) ms (there .own) (k .framed) own joins in
-      let none : there .beyond ≡ [] = empty (there .beyond) (let a = ok .sequence in let b = ap length (there .begins) in omega (arith, length-append (there .shared) (there .beyond))) in
+      let none : there .beyond ≡ [] =
+      empty (there .beyond)
+      (let a = ok .sequence in let b = ap length (there .begins) in omega (arith, length-append (there .shared) (there .beyond))) in
       let all : le ≡ there .shared = there .begins ∙ ap (λ (l : List (List ℕ)). there .shared ++ l) none ∙ append-nil (there .shared) in
       there .parts ∙ ap (λ (l : List (List ℕ)). l ++ there .own) (sym all) ∙ ap (λ (l : List (List ℕ)). le ++ l) (sym same) where
         empty : (l : List (List ℕ)) → length l ≡ 0 → l ≡ []
@@ -320,7 +345,8 @@ module _ (e f : End) (le lf : List (List ℕ)) (ok : Sound (e .record-of) (e .tr
       let (l1, (l2, (l3, (l4, (l5, (l6, (l7, (l8, rest)))))))) = ok .limits in
       judge-keeps (λ s. ChosenBelow r (s .chosen)) r t (λ a b m p h. admit-chosen r t a b m p h) 0 (startOf r) (chainFor r t) n c l8 w
 
-  reads-token : (n : ℕ) (c : Scan) → judged r t ≡ whole n c → leb (r .used + length t) (room d) ≡ true → Sound (taken r t n c) (put d (r .used) t) (le ++ ms)
+  reads-token : (n : ℕ) (c : Scan) → judged r t ≡ whole n c → leb (r .used + length t) (room d) ≡ true
+      → Sound (taken r t n c) (put d (r .used) t) (le ++ ms)
   reads-token n c w fit =
       let k = token-taken r t n c w in
       let (inside, short) = room-kept (r .used) (length t) d fit in
@@ -337,7 +363,9 @@ module _ (e f : End) (le lf : List (List ℕ)) (ok : Sound (e .record-of) (e .tr
         framed = framed-more 0 le ms (ok .framed) (subst (λ (j : ℕ). FramedFrom j ms) q (k .framed));
         used = let z = length-append (join le) (join ms) in let y = ap length (join-append le ms) in omega arith;
         sequence = let z = length-append le ms in omega arith;
-        transcript = put-end d (r .used) t (used-inside r d (e .turn) le lf ok here) ∙ ap (λ (l : List ℕ). l ++ t) (ok .transcript) ∙ ap (λ (l : List ℕ). join le ++ l) (sym (k .joins)) ∙ sym (join-append le ms);
+        transcript =
+            put-end d (r .used) t (used-inside r d (e .turn) le lf ok here) ∙ ap (λ (l : List ℕ). l ++ t) (ok .transcript)
+            ∙ ap (λ (l : List ℕ). join le ++ l) (sym (k .joins)) ∙ sym (join-append le ms);
       }
 
   -- after it, the two logs are the same
@@ -354,7 +382,17 @@ module _ (e f : End) (le lf : List (List ℕ)) (ok : Sound (e .record-of) (e .tr
   -- no limit looks at the stage
   shut-sound : (n : ℕ) → Sound (closedBy n r) d le
   shut-sound n = elim (which (eqb n 12)) [
-    | inl h ↦ rw h (record { limits = ok .limits; ids = ok .ids; talk = ok .talk; list = ok .list; framed = ok .framed; used = ok .used; sequence = ok .sequence; transcript = ok .transcript })
+    | inl h ↦ rw h
+        (record {
+          limits = ok .limits;
+          ids = ok .ids;
+          talk = ok .talk;
+          list = ok .list;
+          framed = ok .framed;
+          used = ok .used;
+          sequence = ok .sequence;
+          transcript = ok .transcript;
+        })
     | inr h ↦ rw h ok
   ]
 
@@ -373,12 +411,21 @@ module _ (e f : End) (le lf : List (List ℕ)) (ok : Sound (e .record-of) (e .tr
               here-then = rw y here;
               there-then = rw y there;
               plain = λ x u. rw y u;
-              unclosed = λ u. turn-12 r t (0 + length (there .shared)) (there .own) (framed-behind 0 (there .shared) (there .own) (subst (FramedFrom 0) (there .parts) (ok′ .framed)))
+              unclosed =
+                  λ u. turn-12 r t (0 + length (there .shared)) (there .own)
+                  (framed-behind 0 (there .shared) (there .own) (subst (FramedFrom 0) (there .parts) (ok′ .framed)))
                   (plain-behind (there .shared) (there .own) (subst AllPlain (there .parts) u)) (there .written) n p w;
             })
         token (whole n c) w = unfold finish in elim (which (leb (r .used + length t) (room d))) [
           | inr b ↦ rw b (stays read 16 0 (λ z. omega arith) (λ z. omega arith))
-          | inl b ↦ rw b (record { sound = reads-token n c w b; here-then = read-here n c w; there-then = more-there ms; plain = λ x u. plain-more le ms u (token-taken r t n c w .plain); unclosed = λ u z. omega arith })
+          | inl b ↦ rw b
+              (record {
+                sound = reads-token n c w b;
+                here-then = read-here n c w;
+                there-then = more-there ms;
+                plain = λ x u. plain-more le ms u (token-taken r t n c w .plain);
+                unclosed = λ u z. omega arith;
+              })
         ]
 
   -- 4. the choice
@@ -388,13 +435,15 @@ module _ (e f : End) (le lf : List (List ℕ)) (ok : Sound (e .record-of) (e .tr
   chooses m s =
       let q : Record = chose r m in
       let x : List ℕ = spoken q s in
-      decide-out (Goal (choose m s)) (choiceTable r d m s) r d (naming (named (ownOf r) (openTo r m)) (appended q d (placeAfter q (classIn s)) x (spokenAs q s)))
+      decide-out (Goal (choose m s)) (choiceTable r d m s) r d
+      (naming (named (ownOf r) (openTo r m)) (appended q d (placeAfter q (classIn s)) x (spokenAs q s)))
       (stopped (choose m s) (choiceTable r d m s) refl refl)
       (λ g.
       let p = choice-passed r d m s g in
       let role : r .acceptor ≡ false = not-true _ (and-l (not (r .acceptor)) (eqb (r .stage) 2) (p .may)) in
       let (l1, (l2, (l3, (l4, (l5, (l6, (l7, rest))))))) = ok .limits in
-      let whole : length (schemeAt q (schemeNow q)) ≡ 16 = ap (λ (k : ℕ). length (schemeAt q k)) (now-chosen r m) ∙ ok .ids _ (chosen-below r m (rw role at l7) (p .left)) in
+      let whole : length (schemeAt q (schemeNow q)) ≡ 16 =
+      ap (λ (k : ℕ). length (schemeAt q k)) (now-chosen r m) ∙ ok .ids _ (chosen-below r m (rw role at l7) (p .left)) in
       let between : Sound q d le = record {
         limits = limits-chose r (ok .limits) m role (p .marks);
         ids = ok .ids;
@@ -412,7 +461,12 @@ module _ (e f : End) (le lf : List (List ℕ)) (ok : Sound (e .record-of) (e .tr
         sound = a .sound;
         here-then = a .turn;
         there-then = more-there (x ∷ []);
-        plain = λ t u. plain-more le (x ∷ []) u (message-written q d (e .turn) le lf between here (classIn s) c (whole-speech s _ whole) (p .fitting) .plain (plain-kind (q .acceptor) (classIn s) _ (speech-plain s)), tt);
+        plain =
+            λ t u. plain-more le (x ∷ []) u (
+              message-written q d (e .turn) le lf between here (classIn s) c (whole-speech s _ whole) (p .fitting) .plain
+                  (plain-kind (q .acceptor) (classIn s) _ (speech-plain s)),
+              tt,
+            );
         unclosed = λ u z. omega arith;
       })
 
@@ -442,10 +496,18 @@ record Next (w : World) (l : Logs) (x : Bool) (k : Call) : Type 0 where
 goes-on : (w : World) (l : Logs) → Both w l → (x : Bool) (k : Call) → Next w l x k
 goes-on w l b false k =
     let g = goal (w .i) (w .a) (l .i) (l .a) (b .i) (b .a) (b .i-steps) (b .a-steps) k in
-    record { both = record { i = g .sound; a = b .a; i-steps = g .here-then; a-steps = g .there-then }; plain = λ t u v. (g .plain t u, v); unclosed = λ u v. g .unclosed v }
+    record {
+      both = record { i = g .sound; a = b .a; i-steps = g .here-then; a-steps = g .there-then };
+      plain = λ t u v. (g .plain t u, v);
+      unclosed = λ u v. g .unclosed v;
+    }
 goes-on w l b true k =
     let g = goal (w .a) (w .i) (l .a) (l .i) (b .a) (b .i) (b .a-steps) (b .i-steps) k in
-    record { both = record { i = b .i; a = g .sound; i-steps = g .there-then; a-steps = g .here-then }; plain = λ t u v. (u, g .plain t v); unclosed = λ u v. g .unclosed u }
+    record {
+      both = record { i = b .i; a = g .sound; i-steps = g .there-then; a-steps = g .here-then };
+      plain = λ t u v. (u, g .plain t v);
+      unclosed = λ u v. g .unclosed u;
+    }
 
 pub both-next : (w : World) (l : Logs) → Both w l → (x : Bool) (k : Call) → Both (next w x k) (nextLogs w x k l)
 both-next w l b x k = goes-on w l b x k .both
@@ -454,7 +516,8 @@ both-behind : (w : World) (l : Logs) → Both w l → (cs : List (Bool × Call))
 both-behind w l b [] = b
 both-behind w l b (c ∷ cs) = both-behind (next w (c .0) (c .1)) (nextLogs w (c .0) (c .1) l) (both-next w l b (c .0) (c .1)) cs
 
-run-12 : (w : World) (l : Logs) → Both w l → AllPlain (l .i) → AllPlain (l .a) → (cs : List (Bool × Call)) → NoTest cs → (x : Entry) → List·Memᴰ x (run w cs) → Not12 (x .said .refusal)
+run-12 : (w : World) (l : Logs) → Both w l → AllPlain (l .i) → AllPlain (l .a) → (cs : List (Bool × Call)) → NoTest cs → (x : Entry)
+    → List·Memᴰ x (run w cs) → Not12 (x .said .refusal)
 run-12 w l b u v [] t x m = absurd (List·Memᴰ·not-nil m)
 run-12 w l b u v (c ∷ cs) t x m =
     let n = goes-on w l b (c .0) (c .1) in
@@ -465,7 +528,8 @@ run-12 w l b u v (c ∷ cs) t x m =
     ]
 
 -- a fresh record
-sound-fresh : (a : Bool) (l : List Id) (v d : List ℕ) → ((s : Id) → List·Memᴰ s l → length s ≡ 16) → oneTo16 l ≡ true → length v ≡ 16 → Sound (fresh a (joinIds l) v) d []
+sound-fresh : (a : Bool) (l : List Id) (v d : List ℕ) → ((s : Id) → List·Memᴰ s l → length s ≡ 16) → oneTo16 l ≡ true → length v ≡ 16
+    → Sound (fresh a (joinIds l) v) d []
 unfolding keptBelow
 sound-fresh a l v d sized ok talk =
     let n = count-joined l sized in
@@ -484,7 +548,9 @@ sound-fresh a l v d sized ok talk =
       );
       ids = λ k low. ap (λ (i : List Id). length (getD i k [])) own ∙ sized-at l sized k (subst (λ (j : ℕ). k < j) n low);
       talk = talk;
-      list = length-append (joinIds l) (replicate (256 - length (joinIds l)) 0) ∙ rw (length-replicate {A = ℕ} (256 - length (joinIds l)) 0) (let k = leb-true (length l) 16 (and-r (leb 1 (length l)) (leb (length l) 16) few) in omega (arith, length-joined l sized));
+      list = length-append (joinIds l) (replicate (256 - length (joinIds l)) 0)
+          ∙ rw (length-replicate {A = ℕ} (256 - length (joinIds l)) 0)
+          (let k = leb-true (length l) 16 (and-r (leb 1 (length l)) (leb (length l) 16) few) in omega (arith, length-joined l sized));
       framed = tt;
       used = refl;
       sequence = refl;
@@ -509,7 +575,8 @@ counted r d log s = record {
 
 pub both-opened : (o : Opening) → Both (world o) (record { i = []; a = [] })
 both-opened o = record {
-  i = sound-fresh false (o .initiator) (o .conversation .0) (o .initiator-buffer) (each-whole (o .initiator) (o .initiator-whole)) (o .initiator-ok) (o .conversation .1);
+  i = sound-fresh false (o .initiator) (o .conversation .0) (o .initiator-buffer) (each-whole (o .initiator) (o .initiator-whole)) (o .initiator-ok)
+      (o .conversation .1);
   a = sound-fresh true (o .acceptor) zeroId (o .acceptor-buffer) (each-whole (o .acceptor) (o .acceptor-whole)) (o .acceptor-ok) refl;
   i-steps = record { shared = []; own = []; beyond = []; parts = refl; written = refl; begins = refl };
   a-steps = record { shared = []; own = []; beyond = []; parts = refl; written = refl; begins = refl };

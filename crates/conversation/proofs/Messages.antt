@@ -128,8 +128,17 @@ least (ofExchange p) = omega arith
 least (ofVerify k) = omega arith
 least (ofAlert p) = omega arith
 
-module _ (h : Heading) (c : Contents) (known : h .kind .0 ≤ 7) (number : h .sequence < 4294967296) (id : length (h .conversation) ≡ 16) (w : Whole c) (short : length (encoded h c) ≤ 65535) where
-  head-written : (rest : List ℕ) → headOf (encoded h c ++ rest) ≡ record { signature = SIGNATURE; kind = h .kind .0; sequence = h .sequence; header = headerOf (shapeOf (h .kind .0)); length = sizeOf c; conversation = h .conversation }
+module _ (h : Heading) (c : Contents) (known : h .kind .0 ≤ 7) (number : h .sequence < 4294967296) (id : length (h .conversation) ≡ 16) (w : Whole c)
+    (short : length (encoded h c) ≤ 65535) where
+  head-written : (rest : List ℕ) → headOf (encoded h c ++ rest)
+      ≡ record {
+        signature = SIGNATURE;
+        kind = h .kind .0;
+        sequence = h .sequence;
+        header = headerOf (shapeOf (h .kind .0));
+        length = sizeOf c;
+        conversation = h .conversation;
+      }
   unfolding encoded
   head-written rest =
       let n : length (encoded h c) ≡ sizeOf c = length-encoded h id c w in
@@ -188,9 +197,11 @@ next-12 s q v = refl
 
 passed-plain : (q : ℕ) (v m : List ℕ) → Message q v m → criticalOk (contentOf (shapeOf (headOf m .kind)) m) ≡ true
 passed-plain q v m e =
-    let all : AllTrue (before-12 m q v ++ (row 12 (critical-row m) ∷ behind-12 m)) = subst AllTrue (next-12 m q v) (given (nextRows m q v) (e .pass)) in
+    let all : AllTrue (before-12 m q v ++ (row 12 (critical-row m) ∷ behind-12 m)) =
+    subst AllTrue (next-12 m q v) (given (nextRows m q v) (e .pass)) in
     let is : front m ≡ m = ap (λ (k : ℕ). take k m) (e .exact) ∙ take-length m in
-    subst (λ (f : List ℕ). criticalOk (contentOf (shapeOf (headOf m .kind)) f) ≡ true) is (true-behind (before-12 m q v) (row 12 (critical-row m)) (behind-12 m) all)
+    subst (λ (f : List ℕ). criticalOk (contentOf (shapeOf (headOf m .kind)) f) ≡ true) is
+    (true-behind (before-12 m q v) (row 12 (critical-row m)) (behind-12 m) all)
 
 pub numbered-framed : (q : ℕ) (v : List ℕ) (ms : List (List ℕ)) → Numbered q v ms → FramedFrom q ms
 numbered-framed q v [] e = tt
@@ -225,7 +236,9 @@ unfolding chainOf messagesIn
 cut-whole [] k place q v h = record { joins = sym (drop-nil k); numbered = tt }
 cut-whole (x ∷ xs) (suc k) place q v h = cut-whole xs k place q v h
 cut-whole (x ∷ xs) zero place q v h = go (which (passes (x ∷ xs) q v)) (cut-whole xs (size (x ∷ xs) - 1) (place + size (x ∷ xs)) (q + 1) v) h where
-  go : (passes (x ∷ xs) q v ≡ true) ⊎ (passes (x ∷ xs) q v ≡ false) → (Ends (chainOf xs (size (x ∷ xs) - 1) (place + size (x ∷ xs)) (q + 1) v) → Cut (drop (size (x ∷ xs) - 1) xs) (q + 1) v (messagesIn (chainOf xs (size (x ∷ xs) - 1) (place + size (x ∷ xs)) (q + 1) v)))
+  go : (passes (x ∷ xs) q v ≡ true) ⊎ (passes (x ∷ xs) q v ≡ false)
+      → (Ends (chainOf xs (size (x ∷ xs) - 1) (place + size (x ∷ xs)) (q + 1) v)
+      → Cut (drop (size (x ∷ xs) - 1) xs) (q + 1) v (messagesIn (chainOf xs (size (x ∷ xs) - 1) (place + size (x ∷ xs)) (q + 1) v)))
       → Ends (chainOf (x ∷ xs) 0 place q v) → Cut (x ∷ xs) q v (messagesIn (chainOf (x ∷ xs) 0 place q v))
   go (inl e) ih g =
       let z = passes-sized (x ∷ xs) q v e in
@@ -246,7 +259,8 @@ unfolding judge messagesIn
 judge-counts r t n c end k d e = let z : n ≡ k = cc in record { ends = tt; count = omega arith }
 judge-counts r t n c (cutAt m a) k d e = let z : _≡_ {A = ℕ} 0 1 = cc in absurd (omega arith)
 judge-counts r t n c (message m ms) k d e = go (admit r t c (m .octets)) refl (λ c′. judge-counts r t (n + 1) c′ ms k d) where
-  go : (a : Admitted) → admit r t c (m .octets) ≡ a → ((c′ : Scan) → judge r t (n + 1) c′ ms ≡ whole k d → Counts k (n + 1) ms) → Counts k n (message m ms)
+  go : (a : Admitted) → admit r t c (m .octets) ≡ a → ((c′ : Scan) → judge r t (n + 1) c′ ms ≡ whole k d → Counts k (n + 1) ms)
+      → Counts k n (message m ms)
   go (on c′) is ih = let i = ih c′ (rw is at e) in record { ends = i .ends; count = let h = i .count in omega arith }
   go (stop j) is ih = let w : halted j (m .place) ≡ whole k d = rw is at e in let z : _≡_ {A = ℕ} 0 1 = cc in absurd (omega arith)
 
@@ -280,8 +294,12 @@ token-taken r (x ∷ t) n c e =
     record {
       some = omega arith;
       joins = ap (λ (h : Chain). join (messagesIn h)) is ∙ g .joins;
-      framed = subst (λ (h : Chain). FramedFrom (r .sequence) (messagesIn h)) (sym is) (numbered-framed (r .sequence) v (messagesIn (chainOf (x ∷ t) 0 0 (r .sequence) v)) (g .numbered));
-      plain = subst (λ (h : Chain). AllPlain (messagesIn h)) (sym is) (numbered-plain (r .sequence) v (messagesIn (chainOf (x ∷ t) 0 0 (r .sequence) v)) (g .numbered));
+      framed =
+          subst (λ (h : Chain). FramedFrom (r .sequence) (messagesIn h)) (sym is)
+          (numbered-framed (r .sequence) v (messagesIn (chainOf (x ∷ t) 0 0 (r .sequence) v)) (g .numbered));
+      plain =
+          subst (λ (h : Chain). AllPlain (messagesIn h)) (sym is)
+          (numbered-plain (r .sequence) v (messagesIn (chainOf (x ∷ t) 0 0 (r .sequence) v)) (g .numbered));
       count = let h = k .count in omega arith;
     }
 
@@ -305,20 +323,27 @@ never-12 m rest p q v f u n g e =
 chain-12 : (p : ℕ) (ms : List (List ℕ)) → FramedFrom p ms → AllPlain ms → (place q : ℕ) (v : List ℕ) → Numbers Not12 (chainOf (join ms) 0 place q v)
 chain-12 p [] f u place q v = unfold chainOf in tt
 chain-12 p (m ∷ ms) f u place q v = go (which (passes (m ++ join ms) q v)) (chain-12 (p + 1) ms (f .1) (u .1) (place + length m) (q + 1) v) where
-  go : (passes (m ++ join ms) q v ≡ true) ⊎ (passes (m ++ join ms) q v ≡ false) → Numbers Not12 (chainOf (join ms) 0 (place + length m) (q + 1) v) → Numbers Not12 (chainOf (m ++ join ms) 0 place q v)
+  go : (passes (m ++ join ms) q v ≡ true) ⊎ (passes (m ++ join ms) q v ≡ false) → Numbers Not12 (chainOf (join ms) 0 (place + length m) (q + 1) v)
+      → Numbers Not12 (chainOf (m ++ join ms) 0 place q v)
   go (inl e) ih =
       let z : size (m ++ join ms) ≡ length m = f .0 .exact (join ms) in
-      let same : chainOf (drop (size (m ++ join ms)) (m ++ join ms)) 0 (place + size (m ++ join ms)) (q + 1) v ≡ chainOf (join ms) 0 (place + length m) (q + 1) v =
-      ap (λ (k : ℕ). chainOf (drop k (m ++ join ms)) 0 (place + k) (q + 1) v) z ∙ ap (λ (l : List ℕ). chainOf l 0 (place + length m) (q + 1) v) (drop-at m (join ms) (length m) refl) in
+      let same : chainOf (drop (size (m ++ join ms)) (m ++ join ms)) 0 (place + size
+      (m ++ join ms)) (q + 1) v ≡ chainOf (join ms) 0 (place + length m) (q + 1) v =
+      ap (λ (k : ℕ). chainOf (drop k (m ++ join ms)) 0 (place + k) (q + 1) v) z
+      ∙ ap (λ (l : List ℕ). chainOf l 0 (place + length m) (q + 1) v) (drop-at m (join ms) (length m) refl) in
       subst (Numbers Not12) (sym (turn-pass place q v (m ++ join ms) e)) (subst (Numbers Not12) (sym same) ih)
   go (inr e) ih =
       let some : 0 < length (m ++ join ms) = (let l = f .0 .long in omega (arith, length-append m (join ms))) in
-      subst (Numbers Not12) (sym (turn-fail place q v (m ++ join ms) some e)) (never-12 m (join ms) p q v (f .0) (u .0) _ (refuses-first (nextRows (m ++ join ms) q v) e))
+      subst (Numbers Not12) (sym (turn-fail place q v (m ++ join ms) some e))
+      (never-12 m (join ms) p q v (f .0) (u .0) _ (refuses-first (nextRows (m ++ join ms) q v) e))
 
-pub turn-12 : (r : Record) (t : List ℕ) (p : ℕ) (ms : List (List ℕ)) → FramedFrom p ms → AllPlain ms → join ms ≡ t → (n place : ℕ) → judged r t ≡ halted n place → Not12 n
+pub turn-12 : (r : Record) (t : List ℕ) (p : ℕ) (ms : List (List ℕ)) → FramedFrom p ms → AllPlain ms → join ms ≡ t → (n place : ℕ)
+    → judged r t ≡ halted n place → Not12 n
 turn-12 r t p ms f u is n place e = judged-numbers Not12 (λ z. omega arith) (λ z. omega arith) r t (numbers t is) n place e where
   numbers : (s : List ℕ) → join ms ≡ s → Numbers Not12 (chainFor r s)
   numbers [] is = λ z. omega arith
   numbers (x ∷ s) is =
       let some : length (x ∷ s) ≡ 0 → ⊥ = λ z. omega arith in
-      rw (ne-eqb _ _ some) (subst (λ (l : List ℕ). Numbers Not12 (chainOf l 0 0 (r .sequence) (conversationOf r (x ∷ s)))) is (chain-12 p ms f u 0 (r .sequence) (conversationOf r (x ∷ s))))
+      rw (ne-eqb _ _ some)
+      (subst (λ (l : List ℕ). Numbers Not12 (chainOf l 0 0 (r .sequence) (conversationOf r (x ∷ s)))) is
+      (chain-12 p ms f u 0 (r .sequence) (conversationOf r (x ∷ s))))

@@ -20,7 +20,9 @@ use Rattle.conversation.proofs.Tokens.{judged-number}
 finished : (r : Record) (d t : List ℕ) (j : Judged) → judged r t ≡ j → finish r d t j .answer .refusal ≡ 9 → ⊥
 unfolding finish
 finished r d t (halted n p) e nine = judged-number r t n p e .1 .1 nine
-finished r d t (whole n c) e nine = elim (which (leb (r .used + length t) (room d))) [ inl b ↦ (let z : _≡_ {A = ℕ} 0 9 = rw b at nine in omega arith) | inr b ↦ (let z : _≡_ {A = ℕ} 16 9 = rw b at nine in omega arith) ]
+finished r d t (whole n c) e nine =
+    elim (which (leb (r .used + length t) (room d)))
+    [ inl b ↦ (let z : _≡_ {A = ℕ} 0 9 = rw b at nine in omega arith) | inr b ↦ (let z : _≡_ {A = ℕ} 16 9 = rw b at nine in omega arith) ]
 
 pub nine-never-read : NineNeverRead
 unfolding readingToken

@@ -67,7 +67,8 @@ module _ (x : Bool) (r : Record) (d : List ℕ) (role : r .acceptor ≡ x) where
   wrote-stays true kind n w h (inr s) = inr s
   wrote-stays false kind n w h s = s
 
-  write : (k : Call) (kind : ℕ) (rows : List Row) (m : List ℕ) (w : WrittenAs) → withMarks k ≡ false → without 0 (thenFits rows r d m) ≡ true → Goes k (decide (stageRows r kind ++ thenFits rows r d m) r d (appended r d (placeAfter r kind) m w))
+  write : (k : Call) (kind : ℕ) (rows : List Row) (m : List ℕ) (w : WrittenAs) → withMarks k ≡ false → without 0 (thenFits rows r d m) ≡ true
+      → Goes k (decide (stageRows r kind ++ thenFits rows r d m) r d (appended r d (placeAfter r kind) m w))
   write k kind rows m w plain z =
       let table : List Row = stageRows r kind ++ thenFits rows r d m in
       decide-out (Goes k) table r d (appended r d (placeAfter r kind) m w) (stopped k table z)
@@ -77,7 +78,8 @@ module _ (x : Bool) (r : Record) (d : List ℕ) (role : r .acceptor ≡ x) where
         spends = λ m a. no-true (sym plain ∙ m);
       })
 
-  replied : (b : Bool) → r .acceptor ≡ b → r .acceptor ≡ true → mayWrite r NEGO ≡ true → (n : ℕ) (w : WrittenAs) → (Spent b r → ⊥) × Spent b (wrote r (placeAfter r NEGO) n w)
+  replied : (b : Bool) → r .acceptor ≡ b → r .acceptor ≡ true → mayWrite r NEGO ≡ true → (n : ℕ) (w : WrittenAs)
+      → (Spent b r → ⊥) × Spent b (wrote r (placeAfter r NEGO) n w)
   unfolding writing
   replied false e f h n w = no-true (sym e ∙ f)
   replied true e f h n w =
@@ -93,9 +95,11 @@ module _ (x : Bool) (r : Record) (d : List ℕ) (role : r .acceptor ≡ x) where
   unfolding replying
   write-reply m nego =
       let l : List Id = left (ownOf r) (r .common) m in
-      let rest : List Row = row 19 (below (r .count) m) ∷ (extensionRows (nego .0) ++ (row 17 (someLeft l) ∷ fits r d (length (replyMessage r m (nego .0))) ∷ [])) in
+      let rest : List Row =
+      row 19 (below (r .count) m) ∷ (extensionRows (nego .0) ++ (row 17 (someLeft l) ∷ fits r d (length (replyMessage r m (nego .0))) ∷ [])) in
       let w : WrittenAs = record { marks = m; metadata = r .metadata; requested = r .requested; attested = r .attested } in
-      decide-out (Goes (reply m nego)) (stageRows r NEGO ++ thenFits (replyRows r m (nego .0)) r d (replyMessage r m (nego .0))) r d (naming l (appended r d (placeAfter r NEGO) (replyMessage r m (nego .0)) w))
+      decide-out (Goes (reply m nego)) (stageRows r NEGO ++ thenFits (replyRows r m (nego .0)) r d (replyMessage r m (nego .0))) r d
+      (naming l (appended r d (placeAfter r NEGO) (replyMessage r m (nego .0)) w))
       (stopped (reply m nego) (stageRows r NEGO ++ thenFits (replyRows r m (nego .0)) r d (replyMessage r m (nego .0))) refl)
       (λ g.
       let h = true-behind (limitRows r) (row 18 (mayWrite r NEGO)) (thenFits (replyRows r m (nego .0)) r d (replyMessage r m (nego .0))) g in
@@ -105,7 +109,8 @@ module _ (x : Bool) (r : Record) (d : List ℕ) (role : r .acceptor ≡ x) where
         spends = λ k a. replied x role (true-behind (stageRows r NEGO) (row 18 (r .acceptor)) rest g) h (length (replyMessage r m (nego .0))) w;
       })
 
-  chosen : (b : Bool) → r .acceptor ≡ b → mayChoose r ≡ true → (m position n : ℕ) (w : WrittenAs) → (Spent b r → ⊥) × Spent b (wrote (chose r m) position n w)
+  chosen : (b : Bool) → r .acceptor ≡ b → mayChoose r ≡ true → (m position n : ℕ) (w : WrittenAs)
+      → (Spent b r → ⊥) × Spent b (wrote (chose r m) position n w)
   chosen true e h m position n w = no-true (rw e at h)
   chosen false e h m position n w =
       let st : r .stage ≡ 2 = eqb-true _ _ (and-r (not (r .acceptor)) (eqb (r .stage) 2) h) in
@@ -117,7 +122,9 @@ module _ (x : Bool) (r : Record) (d : List ℕ) (role : r .acceptor ≡ x) where
       decide-out (Goes (choose m s)) (choiceTable r d m s) r d _
       (stopped (choose m s) (choiceTable r d m s) refl)
       (λ g.
-      let c = chosen x role (choice-passed r d m s g .may) m (placeAfter (chose r m) (classIn s)) (length (spoken (chose r m) s)) (spokenAs (chose r m) s) in
+      let c =
+      chosen x role (choice-passed r d m s g .may) m (placeAfter (chose r m) (classIn s)) (length (spoken (chose r m) s))
+      (spokenAs (chose r m) s) in
       record { role = role; stays = λ h. absurd (c .0 h); spends = λ k a. c })
 
   -- a later token is read into stage 3
@@ -186,8 +193,10 @@ at-end true y e = e
 at-end false y e = not-true (y .acceptor) e
 
 module _ (Gone : Bool → Record → Type 0) (sort : Call → Bool)
-    (stays : (x : Bool) (e : End) (peer : List ℕ) (k : Call) → e .record-of .acceptor ≡ x → Gone x (e .record-of) → Gone x (act e peer k .answer .next))
-    (spends : (x : Bool) (e : End) (peer : List ℕ) (k : Call) → e .record-of .acceptor ≡ x → sort k ≡ true → isAccepted (act e peer k .answer) ≡ true → (Gone x (e .record-of) → ⊥) × Gone x (act e peer k .answer .next)) where
+    (stays : (x : Bool) (e : End) (peer : List ℕ) (k : Call) → e .record-of .acceptor ≡ x → Gone x (e .record-of)
+    → Gone x (act e peer k .answer .next))
+    (spends : (x : Bool) (e : End) (peer : List ℕ) (k : Call) → e .record-of .acceptor ≡ x → sort k ≡ true → isAccepted (act e peer k .answer) ≡ true
+    → (Gone x (e .record-of) → ⊥) × Gone x (act e peer k .answer .next)) where
   -- what is gone at the end x stays so, whichever end the call is at
   gone-kept : (w : World) (x y : Bool) (k : Call) → Roles w → Gone x (endOf x w .record-of) → Gone x (endOf x (next w y k) .record-of)
   gone-kept w false false k h s = stays false (w .i) (w .a .turn) k (h .0) s
@@ -195,25 +204,29 @@ module _ (Gone : Bool → Record → Type 0) (sort : Call → Bool)
   gone-kept w true false k h s = s
   gone-kept w true true k h s = stays true (w .a) (w .i .turn) k (h .1) s
 
-  spends-at : (w : World) (x : Bool) (k : Call) → Roles w → sort k ≡ true → isAccepted (outcomeAt w x k .answer) ≡ true → (Gone x (endOf x w .record-of) → ⊥) × Gone x (endOf x (next w x k) .record-of)
+  spends-at : (w : World) (x : Bool) (k : Call) → Roles w → sort k ≡ true → isAccepted (outcomeAt w x k .answer) ≡ true
+      → (Gone x (endOf x w .record-of) → ⊥) × Gone x (endOf x (next w x k) .record-of)
   spends-at w false k h c a = spends false (w .i) (w .a .turn) k (h .0) c a
   spends-at w true k h c a = spends true (w .a) (w .i .turn) k (h .1) c a
 
   -- the first call of a list, where it is one of them: not before, and then gone
-  first-spends : (x : Bool) (w : World) (y : Bool) (k : Call) → Roles w → acceptedAt x sort (record { acceptor = y; call = k; said = outcomeAt w y k .answer }) ≡ true
+  first-spends : (x : Bool) (w : World) (y : Bool) (k : Call) → Roles w
+      → acceptedAt x sort (record { acceptor = y; call = k; said = outcomeAt w y k .answer }) ≡ true
       → (Gone x (endOf x w .record-of) → ⊥) × Gone x (endOf x (next w y k) .record-of)
   first-spends x w y k h e =
       let first : Entry = record { acceptor = y; call = k; said = outcomeAt w y k .answer } in
       let rest = and-r (atEnd x first) (isAccepted (first .said) && sort k) e in
       let g = spends-at w y k h (and-r (isAccepted (first .said)) (sort k) rest) (and-l (isAccepted (first .said)) (sort k) rest) in
-      subst (λ (z : Bool). (Gone z (endOf z w .record-of) → ⊥) × Gone z (endOf z (next w y k) .record-of)) (at-end x first (and-l (atEnd x first) (isAccepted (first .said) && sort k) e)) g
+      subst (λ (z : Bool). (Gone z (endOf z w .record-of) → ⊥) × Gone z (endOf z (next w y k) .record-of))
+      (at-end x first (and-l (atEnd x first) (isAccepted (first .said) && sort k) e)) g
 
   none-behind : (x : Bool) (w : World) (cs : List (Bool × Call)) → Roles w → Gone x (endOf x w .record-of) → keep (acceptedAt x sort) (run w cs) ≡ []
   none-behind x w [] h s = refl
-  none-behind x w (c ∷ cs) h s = elim (which (acceptedAt x sort (record { acceptor = c .0; call = c .1; said = outcomeAt w (c .0) (c .1) .answer }))) [
-    | inl e ↦ absurd (first-spends x w (c .0) (c .1) h e .0 s)
-    | inr e ↦ rw e (none-behind x (next w (c .0) (c .1)) cs (roles-kept w (c .0) (c .1) h) (gone-kept w x (c .0) (c .1) h s))
-  ]
+  none-behind x w (c ∷ cs) h s =
+      elim (which (acceptedAt x sort (record { acceptor = c .0; call = c .1; said = outcomeAt w (c .0) (c .1) .answer }))) [
+        | inl e ↦ absurd (first-spends x w (c .0) (c .1) h e .0 s)
+        | inr e ↦ rw e (none-behind x (next w (c .0) (c .1)) cs (roles-kept w (c .0) (c .1) h) (gone-kept w x (c .0) (c .1) h s))
+      ]
 
   once : (x : Bool) (w : World) (cs : List (Bool × Call)) → Roles w → length (keep (acceptedAt x sort) (run w cs)) ≤ 1
   once x w [] h = omega arith
@@ -246,5 +259,6 @@ same-one [] y z n i j = absurd (List·Memᴰ·not-nil i)
 same-one (a ∷ []) y z n i j = only a y i ∙ sym (only a z j)
 same-one (a ∷ b ∷ l) y z n i j = absurd (omega arith)
 
-pub same-kept : {A : Type 0} (p : A → Bool) (l : List A) (y z : A) → length (keep p l) ≤ 1 → List·Memᴰ y l → List·Memᴰ z l → p y ≡ true → p z ≡ true → y ≡ z
+pub same-kept : {A : Type 0} (p : A → Bool) (l : List A) (y z : A) → length (keep p l) ≤ 1 → List·Memᴰ y l → List·Memᴰ z l → p y ≡ true → p z ≡ true
+    → y ≡ z
 same-kept p l y z n i j g h = same-one (keep p l) y z n (kept-in p l y i g) (kept-in p l z j h)

@@ -14,15 +14,18 @@ use Rattle.conversation.specs.declared.Record.{Record}
 use Rattle.conversation.specs.Outcomes.{Outcome, refused, decide, row}
 
 -- what holds of every refusal and of the action holds of the outcome
-pub decide-out : (P : Outcome → Type 0) (rows : List Row) (r : Record) (d : List ℕ) (action : Outcome) → ((n : ℕ) → FirstFails n rows → P (refused r d n 0)) → (AllTrue rows → P action) → P (decide rows r d action)
+pub decide-out : (P : Outcome → Type 0) (rows : List Row) (r : Record) (d : List ℕ) (action : Outcome)
+    → ((n : ℕ) → FirstFails n rows → P (refused r d n 0)) → (AllTrue rows → P action) → P (decide rows r d action)
 decide-out P [] r d action f h = h tt
 decide-out P (x ∷ xs) r d action f h = go (x .test) refl (decide-out P xs r d action) where
-  go : (b : Bool) → x .test ≡ b → (((n : ℕ) → FirstFails n xs → P (refused r d n 0)) → (AllTrue xs → P action) → P (decide xs r d action)) → P (cond (x .test) (decide xs r d action) (refused r d (x .number) 0))
+  go : (b : Bool) → x .test ≡ b → (((n : ℕ) → FirstFails n xs → P (refused r d n 0)) → (AllTrue xs → P action) → P (decide xs r d action))
+      → P (cond (x .test) (decide xs r d action) (refused r d (x .number) 0))
   go true t ih = rw t (ih (λ n g. f n (inr (t, g))) (λ g. h (t, g)))
   go false t ih = rw t (f (x .number) (inl (t, refl)))
 
 -- a number that one row has is given where that row's test is the first that fails
-pub fails-one : (k : ℕ) (xs : List Row) (b : Bool) (ys : List Row) (n : ℕ) → without k xs ≡ true → without k ys ≡ true → FirstFails n (xs ++ (row k b ∷ ys)) → n ≡ k → AllTrue xs × (b ≡ false)
+pub fails-one : (k : ℕ) (xs : List Row) (b : Bool) (ys : List Row) (n : ℕ) → without k xs ≡ true → without k ys ≡ true
+    → FirstFails n (xs ++ (row k b ∷ ys)) → n ≡ k → AllTrue xs × (b ≡ false)
 fails-one k [] b ys n w v (inl f) e = (tt, f .0)
 fails-one k [] b ys n w v (inr f) e = absurd (fails-other k ys n v (f .1) e)
 fails-one k (x ∷ xs) b ys n w v (inl f) e =

@@ -69,12 +69,14 @@ ids-sized (suc n) a h s m = elim (List·Memᴰ·cases-cons m) [
   | inr i ↦ ids-sized n (drop 16 a) (omega (arith, length-drop 16 a)) s i
 ]
 
-either : (c : Contents) (kind : ℕ) (a : Bool) → hasKind c (typeOf true kind) ≡ true → hasKind c (typeOf false kind) ≡ true → hasKind c (typeOf a kind) ≡ true
+either : (c : Contents) (kind : ℕ) (a : Bool) → hasKind c (typeOf true kind) ≡ true → hasKind c (typeOf false kind) ≡ true
+    → hasKind c (typeOf a kind) ≡ true
 either c kind true e f = e
 either c kind false e f = f
 
 -- what is said is of its kind at both ends, and names one whole id
-speech-kinds : (s : Speech) (id : Id) → (hasKind (contentsIn id s) (typeOf true (classIn s)) ≡ true) × (hasKind (contentsIn id s) (typeOf false (classIn s)) ≡ true)
+speech-kinds : (s : Speech) (id : Id)
+    → (hasKind (contentsIn id s) (typeOf true (classIn s)) ≡ true) × (hasKind (contentsIn id s) (typeOf false (classIn s)) ≡ true)
 unfolding typeOf
 speech-kinds (request value) id = (refl, refl)
 speech-kinds (checksum type value) id = (refl, refl)
@@ -89,25 +91,30 @@ speech-whole (alarm a) id h f = (h, handed (a .alerts) (a .values) f .fit)
 
 module _ (r : Record) (d : List ℕ) (arrays : Arrays r) where
   -- a message that has room can be written, and reads back
-  can-send : (kind : ℕ) (c : Contents) → hasKind c (typeOf true kind) ≡ true → hasKind c (typeOf false kind) ≡ true → AllTrue (limitRows r) → Whole c → WholeIds c
+  can-send : (kind : ℕ) (c : Contents) → hasKind c (typeOf true kind) ≡ true → hasKind c (typeOf false kind) ≡ true → AllTrue (limitRows r) → Whole c
+      → WholeIds c
       → leb (r .used + length (messageOf r kind c)) (room d) ≡ true → Sent (heading r kind) c
   unfolding encodable
   can-send kind c of-acceptor of-initiator limits whole ids room-is =
       let n : length (messageOf r kind c) ≡ sizeOf c = length-encoded (heading r kind) (arrays .conversation) c whole in
       let fit : r .used + length (messageOf r kind c) ≤ room d = leb-true _ _ room-is in
       record {
-        can = and-i (hasKind c (typeOf (r .acceptor) kind)) (fitsFields c) (either c kind (r .acceptor) of-acceptor of-initiator) (fields-fit c ids (omega arith));
+        can = and-i (hasKind c (typeOf (r .acceptor) kind)) (fitsFields c) (either c kind (r .acceptor) of-acceptor of-initiator)
+            (fields-fit c ids (omega arith));
         number = omega (arith, limits-counts r limits .1);
         id = arrays .conversation;
         whole = whole;
       }
 
-  pub sent-reads : (kind : ℕ) (c : Contents) → hasKind c (typeOf true kind) ≡ true → hasKind c (typeOf false kind) ≡ true → InRange c → AllTrue (limitRows r) → Whole c → WholeIds c
+  pub sent-reads : (kind : ℕ) (c : Contents) → hasKind c (typeOf true kind) ≡ true → hasKind c (typeOf false kind) ≡ true → InRange c
+      → AllTrue (limitRows r) → Whole c → WholeIds c
       → leb (r .used + length (messageOf r kind c)) (room d) ≡ true → (rest : List ℕ) → ReadsBack (heading r kind) c rest
-  sent-reads kind c of-acceptor of-initiator range limits whole ids room-is = read-encode (heading r kind) c (can-send kind c of-acceptor of-initiator limits whole ids room-is) range
+  sent-reads kind c of-acceptor of-initiator range limits whole ids room-is =
+      read-encode (heading r kind) c (can-send kind c of-acceptor of-initiator limits whole ids room-is) range
 
   -- and, put at the transcript's end, stands there
-  stands-sent : (kind : ℕ) (c : Contents) → hasKind c (typeOf true kind) ≡ true → hasKind c (typeOf false kind) ≡ true → InRange c → AllTrue (limitRows r) → Whole c → WholeIds c
+  stands-sent : (kind : ℕ) (c : Contents) → hasKind c (typeOf true kind) ≡ true → hasKind c (typeOf false kind) ≡ true → InRange c
+      → AllTrue (limitRows r) → Whole c → WholeIds c
       → leb (r .used + length (messageOf r kind c)) (room d) ≡ true
       → (o : Outcome) → o .answer .next .used ≡ r .used + length (messageOf r kind c) → o .transcript ≡ put d (r .used) (messageOf r kind c)
       → ReadsAsSent r d (record { heading = heading r kind; contents = c }) o
@@ -116,7 +123,8 @@ module _ (r : Record) (d : List ℕ) (arrays : Arrays r) where
       let fit : r .used + length (messageOf r kind c) ≤ room d = leb-true _ _ room-is in
       let can = can-send kind c of-acceptor of-initiator limits whole ids room-is .can in
       record {
-        stands = stored-stands d (r .used) h c (o .answer .next .used) (o .transcript) (rw (used, transcript) (stored d (r .used) h c can (omega arith)));
+        stands =
+            stored-stands d (r .used) h c (o .answer .next .used) (o .transcript) (rw (used, transcript) (stored d (r .used) h c can (omega arith)));
         reads = sent-reads kind c of-acceptor of-initiator range limits whole ids room-is;
       }
 
@@ -126,7 +134,8 @@ module _ (r : Record) (d : List ℕ) (arrays : Arrays r) where
       → (AllTrue (limitRows r) → AllTrue rows → Whole c × WholeIds c)
       → action .answer .next .used ≡ r .used + length (messageOf r kind c) → action .transcript ≡ put d (r .used) (messageOf r kind c)
       → isAccepted (decide (stageRows r kind ++ thenFits rows r d (messageOf r kind c)) r d action .answer) ≡ true
-      → ReadsAsSent r d (record { heading = heading r kind; contents = c }) (decide (stageRows r kind ++ thenFits rows r d (messageOf r kind c)) r d action)
+      → ReadsAsSent r d (record { heading = heading r kind; contents = c })
+      (decide (stageRows r kind ++ thenFits rows r d (messageOf r kind c)) r d action)
   sends kind rows c action z of-acceptor of-initiator range given used transcript =
       let m : List ℕ = messageOf r kind c in
       let table : List Row = stageRows r kind ++ thenFits rows r d m in
@@ -135,7 +144,8 @@ module _ (r : Record) (d : List ℕ) (arrays : Arrays r) where
       (λ g a.
       let limits : AllTrue (limitRows r) = front-true (limitRows r) (row 18 (mayWrite r kind) ∷ thenFits rows r d m) g in
       let v = given limits (front-true rows (fits r d (length m) ∷ []) (back-true (stageRows r kind) (thenFits rows r d m) g)) in
-      stands-sent kind c of-acceptor of-initiator range limits (v .0) (v .1) (true-behind (stageRows r kind ++ rows) (fits r d (length m)) [] g) action used transcript)
+      stands-sent kind c of-acceptor of-initiator range limits (v .0) (v .1)
+      (true-behind (stageRows r kind ++ rows) (fits r d (length m)) [] g) action used transcript)
 
   -- the own ids have 16 octets
   own-sized : AllTrue (limitRows r) → (s : Id) → List·Memᴰ s (ownOf r) → length s ≡ 16
@@ -162,7 +172,8 @@ module _ (r : Record) (d : List ℕ) (arrays : Arrays r) where
       omega arith
 
 -- a NEGO of a call that is no test has no critical extension
-module _ (r : Record) (d : List ℕ) (arrays : Arrays r) (limits : AllTrue (limitRows r)) (nego : NegoCall) (rows : AllTrue (extensionRows (nego .0))) (test : nego .0 .test ≡ false) where
+module _ (r : Record) (d : List ℕ) (arrays : Arrays r) (limits : AllTrue (limitRows r)) (nego : NegoCall) (rows : AllTrue (extensionRows (nego .0)))
+    (test : nego .0 .test ≡ false) where
   abbrev contents : List ℕ → Contents
   contents schemes = negoIn (nego .0) schemes
 
@@ -174,8 +185,10 @@ module _ (r : Record) (d : List ℕ) (arrays : Arrays r) (limits : AllTrue (limi
   unfolding typeOf shapeOf
   plain-nego schemes ids fit =
       let q : ℕ = 96 + length schemes + 12 * length (itemsOf (nego .0 .extensions) (nego .0 .values)) in
-      let read = sent-reads r d arrays NEGO (contents schemes) refl refl (nego .1 .types) limits (nego .1 .random) (ids, handed _ _ (rows .0) .fit) fit [] in
-      shaped (r .acceptor) (messageOf r NEGO (contents schemes)) (ap criticalOk (read .content) ∙ critical-read (itemsOf (nego .0 .extensions) (nego .0 .values)) q ∙ nego-ordinary)
+      let read =
+      sent-reads r d arrays NEGO (contents schemes) refl refl (nego .1 .types) limits (nego .1 .random) (ids, handed _ _ (rows .0) .fit) fit [] in
+      shaped (r .acceptor) (messageOf r NEGO (contents schemes))
+      (ap criticalOk (read .content) ∙ critical-read (itemsOf (nego .0 .extensions) (nego .0 .values)) q ∙ nego-ordinary)
     where
       shaped : (a : Bool) (m : List ℕ) → criticalOk (contentOf nego-shape m) ≡ true → criticalOk (contentOf (shapeOf (typeOf a NEGO)) m) ≡ true
       shaped true m e = e
@@ -198,10 +211,12 @@ module _ (e : End) (peer : List ℕ) (arrays : Arrays (e .record-of)) where
   said s = λ range.
       let c : Contents = contentsIn (schemeAt r (schemeNow r)) s in
       let k = speech-kinds s (schemeAt r (schemeNow r)) in
-      sends r d arrays (classIn s) (namedRows r (speechFits s)) c _ refl (k .0) (k .1) range (λ l t. speech-whole s (schemeAt r (schemeNow r)) (now-sized r d arrays l (t .1 .0)) (t .0)) refl refl
+      sends r d arrays (classIn s) (namedRows r (speechFits s)) c _ refl (k .0) (k .1) range
+      (λ l t. speech-whole s (schemeAt r (schemeNow r)) (now-sized r d arrays l (t .1 .0)) (t .0)) refl refl
 
   -- a choosing call's message is written in the record after the choice
-  chooses : (n : ℕ) (s : Speech) → Reads (choose n s) (record { heading = heading r (classIn s); contents = contentsIn (schemeAt r (schemeNow (chose r n))) s })
+  chooses : (n : ℕ) (s : Speech)
+      → Reads (choose n s) (record { heading = heading r (classIn s); contents = contentsIn (schemeAt r (schemeNow (chose r n))) s })
   unfolding act choosing
   chooses n s = λ range.
       let q : Record = chose r n in
@@ -209,7 +224,9 @@ module _ (e : End) (peer : List ℕ) (arrays : Arrays (e .record-of)) where
       let table : List Row = choiceTable r d n s in
       let action : Outcome = naming (named (ownOf r) (openTo r n)) (appended q d (placeAfter q (classIn s)) (spoken q s) (spokenAs q s)) in
       let there : Arrays q = record { list = arrays .list; conversation = arrays .conversation } in
-      decide-out (λ out. isAccepted (out .answer) ≡ true → ReadsAsSent r d (record { heading = heading r (classIn s); contents = contentsIn id s }) out) table r d action
+      decide-out
+      (λ out. isAccepted (out .answer) ≡ true → ReadsAsSent r d (record { heading = heading r (classIn s); contents = contentsIn id s }) out)
+      table r d action
       (λ k f a. no-true (sym (ne-eqb k 0 (fails-other 0 table k refl f)) ∙ a))
       (λ g a.
       let p = choice-passed r d n s g in
@@ -230,7 +247,8 @@ module _ (e : End) (peer : List ℕ) (arrays : Arrays (e .record-of)) where
       (λ range. sends r d arrays NEGO (replyRows r m (nego .0)) (negoIn (nego .0) (joinIds (left (ownOf r) (r .common) m))) _ refl refl refl range
       (λ l t. (nego .1 .random, (left-whole r d arrays l m, handed _ _ (t .1 .1 .0) .fit))) refl refl)
   sent (metadata id value) m is = subst (Reads (metadata id value)) (Option·some-injective _ _ is)
-      (λ range. sends r d arrays METADATA (metadataRows r (id .0) (length value)) (ofExchange (record { scheme = id .0; value = value })) _ refl refl refl range
+      (λ range. sends r d arrays METADATA (metadataRows r (id .0) (length value))
+      (ofExchange (record { scheme = id .0; value = value })) _ refl refl refl range
       (λ l t. (id .1, tt)) refl refl)
   sent (speak s) m is = subst (Reads (speak s)) (Option·some-injective _ _ is) (said s)
   sent read m is = absurd (Option·some-ne-none m (sym is))

@@ -17,6 +17,7 @@ use Rattle.conversation.proofs.Inside.{scheme-chosen}
 pub choice-spoken : ChoiceSpoken
 unfolding choosing
 choice-spoken r d m s =
-    decide-out (λ out. isAccepted (out .answer) ≡ true → spoken (chose r m) s ≡ messageOf r (classIn s) (contentsIn (out .answer .choice) s)) (choiceTable r d m s) r d _
+    decide-out (λ out. isAccepted (out .answer) ≡ true → spoken (chose r m) s ≡ messageOf r (classIn s) (contentsIn (out .answer .choice) s))
+    (choiceTable r d m s) r d _
     (λ n g a. no-true (sym (ne-eqb n 0 (fails-other 0 (choiceTable r d m s) n refl g)) ∙ a))
     (λ g a. ap (λ (id : Id). messageOf r (classIn s) (contentsIn id s)) (scheme-chosen r m (choice-passed r d m s g .left)))

@@ -45,7 +45,8 @@ pub not-stop : (b : Bool) (k : ℕ) (a : Admitted) (c : Scan) → orStop b k a �
 not-stop true k a c e = (refl, e)
 not-stop false k a c e = let z : _≡_ {A = ℕ} 0 1 = cc in absurd (omega arith)
 
-then-whole : (a : Admitted) (p : ℕ) (rest : Scan → Judged) (n : ℕ) (d : Scan) → thenJudge a p rest ≡ whole n d → (c : Scan) × ((a ≡ on c) × (rest c ≡ whole n d))
+then-whole : (a : Admitted) (p : ℕ) (rest : Scan → Judged) (n : ℕ) (d : Scan) → thenJudge a p rest ≡ whole n d
+    → (c : Scan) × ((a ≡ on c) × (rest c ≡ whole n d))
 then-whole (on c) p rest n d e = (c, (refl, e))
 then-whole (stop k) p rest n d e = let z : _≡_ {A = ℕ} 0 1 = cc in absurd (omega arith)
 
@@ -54,7 +55,8 @@ pub record First (r : Record) (t : List ℕ) : Type 0 where
   pub spent : Bool
   pub allowed : not (eqb (after (reads r) 0 spent (classOf (not (r .acceptor)) (headOf t .kind))) 0) ≡ true
 
-chain-first : (r : Record) (t : List ℕ) (n : ℕ) (d : Scan) (q : ℕ) (v : List ℕ) → 0 < length t → judge r t 0 (startOf r) (chainOf t 0 0 q v) ≡ whole n d → First r t
+chain-first : (r : Record) (t : List ℕ) (n : ℕ) (d : Scan) (q : ℕ) (v : List ℕ) → 0 < length t
+    → judge r t 0 (startOf r) (chainOf t 0 0 q v) ≡ whole n d → First r t
 unfolding judge admit
 chain-first r t n d q v some e = go (which (passes t q v)) where
   go : (passes t q v ≡ true) ⊎ (passes t q v ≡ false) → First r t
@@ -64,11 +66,21 @@ chain-first r t n d q v some e = go (which (passes t q v)) where
   go (inl p) =
       let z = passes-sized t q v p in
       let w = then-whole _ 0 _ n d (sym (ap (judge r t 0 (startOf r)) (turn-pass 0 q v t p)) ∙ e) in
-      let a = not-stop (not (eqb (after (reads r) 0 (confirmedFor r (startOf r) (schemeIn (front t))) (classOf (not (r .acceptor)) (headOf (front t) .kind))) 0)) 14 _ (w .0) (w .1 .0) in
+      let a =
+      not-stop
+      (not (eqb (after (reads r) 0 (confirmedFor r (startOf r) (schemeIn (front t))) (classOf (not (r .acceptor)) (headOf (front t) .kind))) 0))
+      14 _ (w .0) (w .1 .0) in
       let m : length (front t) ≡ size t = length-take-le (size t) t (z .within) in
       let enough : size t ≤ length (front t) = omega arith in
-      let h : headOf (front t) ≡ headOf t = head-front t (front t) (passes-parts t q v p .common) enough (take-take (size t) (size t) t (omega arith)) in
-      record { forty = z .forty; spent = confirmedFor r (startOf r) (schemeIn (front t)); allowed = subst (λ (g : Head). not (eqb (after (reads r) 0 (confirmedFor r (startOf r) (schemeIn (front t))) (classOf (not (r .acceptor)) (g .kind))) 0) ≡ true) h (a .0) }
+      let h : headOf (front t) ≡ headOf t =
+      head-front t (front t) (passes-parts t q v p .common) enough (take-take (size t) (size t) t (omega arith)) in
+      record {
+        forty = z .forty;
+        spent = confirmedFor r (startOf r) (schemeIn (front t));
+        allowed =
+            subst (λ (g : Head). not
+            (eqb (after (reads r) 0 (confirmedFor r (startOf r) (schemeIn (front t))) (classOf (not (r .acceptor)) (g .kind))) 0) ≡ true) h (a .0);
+      }
 
 pub judged-first : (r : Record) (t : List ℕ) (n : ℕ) (d : Scan) → judged r t ≡ whole n d → First r t
 unfolding judged
@@ -99,23 +111,33 @@ chain-numbers : (xs : List ℕ) (k place q : ℕ) (v : List ℕ) → Numbers Oth
 unfolding chainOf
 chain-numbers [] k place q v = tt
 chain-numbers (x ∷ xs) (suc k) place q v = chain-numbers xs k place q v
-chain-numbers (x ∷ xs) zero place q v = go (which (passes (x ∷ xs) q v)) (chain-numbers xs (size (x ∷ xs) - 1) (place + size (x ∷ xs)) (q + 1) v) where
-  go : (passes (x ∷ xs) q v ≡ true) ⊎ (passes (x ∷ xs) q v ≡ false) → Numbers Other (chainOf xs (size (x ∷ xs) - 1) (place + size (x ∷ xs)) (q + 1) v) → Numbers Other (chainOf (x ∷ xs) 0 place q v)
-  go (inl p) ih = rw p ih
-  go (inr p) ih =
-      let f = refuses-first (nextRows (x ∷ xs) q v) p in
-      let rows = nextRows (x ∷ xs) q v in
-      rw p (fails-other 0 rows _ (rows-0 (x ∷ xs) q v) f, (fails-other 17 rows _ (rows-17 (x ∷ xs) q v) f, fails-other 9 rows _ (rows-9 (x ∷ xs) q v) f))
+chain-numbers (x ∷ xs) zero place q v =
+    go (which (passes (x ∷ xs) q v)) (chain-numbers xs (size (x ∷ xs) - 1) (place + size (x ∷ xs)) (q + 1) v) where
+      go : (passes (x ∷ xs) q v ≡ true) ⊎ (passes (x ∷ xs) q v ≡ false) → Numbers Other (chainOf xs (size (x ∷ xs) - 1) (place + size (x ∷ xs)) (q + 1) v)
+          → Numbers Other (chainOf (x ∷ xs) 0 place q v)
+      go (inl p) ih = rw p ih
+      go (inr p) ih =
+          let f = refuses-first (nextRows (x ∷ xs) q v) p in
+          let rows = nextRows (x ∷ xs) q v in
+          rw p (
+            fails-other 0 rows _ (rows-0 (x ∷ xs) q v) f,
+            (fails-other 17 rows _ (rows-17 (x ∷ xs) q v) f, fails-other 9 rows _ (rows-9 (x ∷ xs) q v) f),
+          )
 
 -- what those numbers have, and 14 and 15, the number of a judged token has
 module _ (P : ℕ → Type 0) (p14 : P 14) (p15 : P 15) where
   admit-number : (r : Record) (t : List ℕ) (c : Scan) (m : List ℕ) (n : ℕ) → admit r t c m ≡ stop n → P n
   unfolding admit
-  admit-number r t c m n e = go (not (eqb (after (reads r) (c .position) (confirmedFor r c (schemeIn m)) (classOf (not (r .acceptor)) (headOf m .kind))) 0)) (schemeFits r t c (classOf (not (r .acceptor)) (headOf m .kind)) (schemeIn m)) e where
-    go : (a b : Bool) → orStop a 14 (orStop b 15 (on (passed r c (classOf (not (r .acceptor)) (headOf m .kind)) (after (reads r) (c .position) (confirmedFor r c (schemeIn m)) (classOf (not (r .acceptor)) (headOf m .kind))) (schemeIn m)))) ≡ stop n → P n
-    go false b e = let z : 14 ≡ n = cc in subst P z p14
-    go true false e = let z : 15 ≡ n = cc in subst P z p15
-    go true true e = let z : _≡_ {A = ℕ} 0 1 = cc in absurd (omega arith)
+  admit-number r t c m n e =
+      go (not (eqb (after (reads r) (c .position) (confirmedFor r c (schemeIn m)) (classOf (not (r .acceptor)) (headOf m .kind))) 0))
+      (schemeFits r t c (classOf (not (r .acceptor)) (headOf m .kind)) (schemeIn m)) e where
+        go : (a b : Bool) → orStop a 14
+            (orStop b 15
+            (on (passed r c (classOf (not (r .acceptor)) (headOf m .kind))
+            (after (reads r) (c .position) (confirmedFor r c (schemeIn m)) (classOf (not (r .acceptor)) (headOf m .kind))) (schemeIn m)))) ≡ stop n → P n
+        go false b e = let z : 14 ≡ n = cc in subst P z p14
+        go true false e = let z : 15 ≡ n = cc in subst P z p15
+        go true true e = let z : _≡_ {A = ℕ} 0 1 = cc in absurd (omega arith)
 
   judge-number : (r : Record) (t : List ℕ) (k : ℕ) (c : Scan) (ch : Chain) → Numbers P ch → (n p : ℕ) → judge r t k c ch ≡ halted n p → P n
   unfolding judge
@@ -135,7 +157,8 @@ other n a b c = (a, (b, c))
 
 pub judged-number : (r : Record) (t : List ℕ) (n p : ℕ) → judged r t ≡ halted n p → Other n
 judged-number r t =
-    judged-numbers Other (other 14 (λ w. omega arith) (λ w. omega arith) (λ w. omega arith)) (other 15 (λ w. omega arith) (λ w. omega arith) (λ w. omega arith)) r t (numbers t) where
+    judged-numbers Other (other 14 (λ w. omega arith) (λ w. omega arith) (λ w. omega arith))
+    (other 15 (λ w. omega arith) (λ w. omega arith) (λ w. omega arith)) r t (numbers t) where
       numbers : (s : List ℕ) → Numbers Other (chainFor r s)
       numbers [] = other 2 (λ w. omega arith) (λ w. omega arith) (λ w. omega arith)
       numbers (x ∷ s) =

@@ -24,7 +24,8 @@ use Rattle.conversation.proofs.Rows.{decide-out}
 use Rattle.conversation.proofs.Chosen.{choiceTable}
 
 -- a call whose table has no 12, and whose action keeps this
-decided : (rows : List Row) (r : Record) (d : List ℕ) (action : Outcome) → without 12 rows ≡ true → Unchanged r d action → Unchanged r d (decide rows r d action)
+decided : (rows : List Row) (r : Record) (d : List ℕ) (action : Outcome) → without 12 rows ≡ true → Unchanged r d action
+    → Unchanged r d (decide rows r d action)
 decided rows r d action w h = decide-out (Unchanged r d) rows r d action (λ n f z. (rw (ne-eqb n 12 (fails-other 12 rows n w f)), refl)) (λ g. h)
 
 finished : (r : Record) (d t : List ℕ) (j : Judged) → Unchanged r d (finish r d t j)
@@ -36,10 +37,12 @@ finished r d t (whole n c) = go (leb (r .used + length t) (room d)) refl where
   go false e = rw e (λ z. (refl, refl))
 
 -- a writer: what it does where no row refuses it is no refusal
-wrote-unchanged : (rows : List Row) (r : Record) (d : List ℕ) (position : ℕ) (m : List ℕ) (w : WrittenAs) → without 12 rows ≡ true → Unchanged r d (decide rows r d (appended r d position m w))
+wrote-unchanged : (rows : List Row) (r : Record) (d : List ℕ) (position : ℕ) (m : List ℕ) (w : WrittenAs) → without 12 rows ≡ true
+    → Unchanged r d (decide rows r d (appended r d position m w))
 wrote-unchanged rows r d position m w v = decided rows r d (appended r d position m w) v (λ z. absurd {0} (z refl))
 
-named-unchanged : (rows : List Row) (r : Record) (d : List ℕ) (l : List Id) (o : Outcome) → without 12 rows ≡ true → o .answer .refusal ≡ 0 → Unchanged r d (decide rows r d (naming l o))
+named-unchanged : (rows : List Row) (r : Record) (d : List ℕ) (l : List Id) (o : Outcome) → without 12 rows ≡ true → o .answer .refusal ≡ 0
+    → Unchanged r d (decide rows r d (naming l o))
 named-unchanged rows r d l o v e = decided rows r d (naming l o) v (λ z. absurd {0} (z e))
 
 module _ (e : End) (peer : List ℕ) where
@@ -52,20 +55,26 @@ module _ (e : End) (peer : List ℕ) where
   unchanged-behind : (k : Call) → Unchanged r d (act e peer k)
   unfolding act offering replying writingMetadata speaking readingToken choosing
   unchanged-behind (offer nego) =
-      wrote-unchanged (stageRows r NEGO ++ thenFits (offerRows r (nego .0)) r d (offered r (nego .0))) r d (placeAfter r NEGO) (offered r (nego .0)) (unchanged r) refl
+      wrote-unchanged (stageRows r NEGO ++ thenFits (offerRows r (nego .0)) r d (offered r (nego .0))) r d (placeAfter r NEGO) (offered r (nego .0))
+      (unchanged r) refl
   unchanged-behind (reply m nego) =
       named-unchanged (stageRows r NEGO ++ thenFits (replyRows r m (nego .0)) r d (replyMessage r m (nego .0))) r d
-      (left (ownOf r) (r .common) m) (appended r d (placeAfter r NEGO) (replyMessage r m (nego .0)) (record { marks = m; metadata = r .metadata; requested = r .requested; attested = r .attested })) refl refl
+      (left (ownOf r) (r .common) m)
+      (appended r d (placeAfter r NEGO) (replyMessage r m (nego .0))
+      (record { marks = m; metadata = r .metadata; requested = r .requested; attested = r .attested })) refl refl
   unchanged-behind (metadata id value) =
-      wrote-unchanged (stageRows r METADATA ++ thenFits (metadataRows r (id .0) (length value)) r d (metadataMessage r (id .0) value)) r d (placeAfter r METADATA) (metadataMessage r (id .0) value)
+      wrote-unchanged (stageRows r METADATA ++ thenFits (metadataRows r (id .0) (length value)) r d (metadataMessage r (id .0) value)) r d
+      (placeAfter r METADATA) (metadataMessage r (id .0) value)
       (record { marks = r .marks; metadata = r .metadata + 2 ^ place (ownOf r) (id .0); requested = r .requested; attested = r .attested }) refl
   unchanged-behind (speak s) =
-      wrote-unchanged (stageRows r (classIn s) ++ thenFits (namedRows r (speechFits s)) r d (spoken r s)) r d (placeAfter r (classIn s)) (spoken r s) (spokenAs r s) refl
+      wrote-unchanged (stageRows r (classIn s) ++ thenFits (namedRows r (speechFits s)) r d (spoken r s)) r d (placeAfter r (classIn s)) (spoken r s)
+      (spokenAs r s) refl
   unchanged-behind read =
       decided (limitRows r ++ tokenRows r (length peer)) r d (finish r d peer (judged r peer)) refl (finished r d peer (judged r peer))
   unchanged-behind (choose m s) =
       named-unchanged (choiceTable r d m s) r d
-      (named (ownOf r) (openTo r m)) (appended (chose r m) d (placeAfter (chose r m) (classIn s)) (spoken (chose r m) s) (spokenAs (chose r m) s)) refl refl
+      (named (ownOf r) (openTo r m)) (appended (chose r m) d (placeAfter (chose r m) (classIn s)) (spoken (chose r m) s) (spokenAs (chose r m) s))
+      refl refl
 
 pub refused-unchanged : RefusedUnchanged
 refused-unchanged e peer k = unchanged-behind e peer k

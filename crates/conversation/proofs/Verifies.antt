@@ -112,7 +112,9 @@ module _ (id : Id) (e : End) (peer : List ℕ) (log : List (List ℕ)) (ok : Sou
   speak-whole s a =
       let rest : List Row = thenFits (namedRows r (speechFits s)) r d (spoken r s) in
       let g = passed-by (stageRows r (classIn s) ++ rest) _ refl a in
-      ok .ids (schemeNow r) (now-below r (true-behind (stageRows r (classIn s) ++ (row 25 (speechFits s) ∷ [])) (row 15 (schemeAllowed r)) (fits r d (length (spoken r s)) ∷ []) g))
+      ok .ids (schemeNow r)
+      (now-below r
+      (true-behind (stageRows r (classIn s) ++ (row 25 (speechFits s) ∷ [])) (row 15 (schemeAllowed r)) (fits r d (length (spoken r s)) ∷ []) g))
 
   choose-whole : (m : ℕ) (s : Speech) → isAccepted (choosing r d m s .answer) ≡ true → length (schemeAt (chose r m) (schemeNow (chose r m))) ≡ 16
   unfolding choosing
@@ -122,28 +124,32 @@ module _ (id : Id) (e : End) (peer : List ℕ) (log : List (List ℕ)) (ok : Sou
       let (l1, (l2, (l3, (l4, (l5, (l6, (l7, rest))))))) = ok .limits in
       ap (λ (k : ℕ). length (schemeAt r k)) (now-chosen r m) ∙ ok .ids _ (chosen-below r m (rw role at l7) (p .left))
 
-  accepted-one : (k : Call) → isAccepted (act e peer k .answer) ≡ true → length (keep (verifyFor id) (addedBy isWriting e peer k)) ≡ cond (verifies id r k) 1 0
+  accepted-one : (k : Call) → isAccepted (act e peer k .answer) ≡ true
+      → length (keep (verifyFor id) (addedBy isWriting e peer k)) ≡ cond (verifies id r k) 1 0
   unfolding act
   accepted-one (offer nego) a = rw a (one-of (verifyFor id) _ false (other-message id r NEGO _ refl))
   accepted-one (reply m nego) a = rw a (one-of (verifyFor id) _ false (other-message id r NEGO _ refl))
   accepted-one (metadata scheme value) a = rw a (one-of (verifyFor id) _ false (other-message id r METADATA _ refl))
   accepted-one (speak (request value)) a = rw a (one-of (verifyFor id) _ false (other-message id r (classIn (request value)) _ refl))
-  accepted-one (speak (checksum type value)) a = rw a (one-of (verifyFor id) _ _ (verify-message id r _ type value (ok .talk) (speak-whole (checksum type value) a)))
+  accepted-one (speak (checksum type value)) a =
+      rw a (one-of (verifyFor id) _ _ (verify-message id r _ type value (ok .talk) (speak-whole (checksum type value) a)))
   accepted-one (speak (alarm code)) a = rw a (one-of (verifyFor id) _ false (other-message id r (classIn (alarm code)) _ refl))
   accepted-one read a = refl
   accepted-one (choose m (request value)) a = rw a (one-of (verifyFor id) _ false (other-message id (chose r m) (classIn (request value)) _ refl))
-  accepted-one (choose m (checksum type value)) a = rw a (one-of (verifyFor id) _ _ (verify-message id (chose r m) _ type value (ok .talk) (choose-whole m (checksum type value) a)))
+  accepted-one (choose m (checksum type value)) a =
+      rw a (one-of (verifyFor id) _ _ (verify-message id (chose r m) _ type value (ok .talk) (choose-whole m (checksum type value) a)))
   accepted-one (choose m (alarm code)) a = rw a (one-of (verifyFor id) _ false (other-message id (chose r m) (classIn (alarm code)) _ refl))
 
   one-call : (k : Call) → length (keep (verifyFor id) (addedBy isWriting e peer k)) ≡ cond (isAccepted (act e peer k .answer) && verifies id r k) 1 0
-  one-call k = elim (which (isAccepted (act e peer k .answer))) [ inl a ↦ rw a (rw a at (accepted-one k a)) | inr a ↦ rw a (rw a at (none k a)) ] where
-    none : (k : Call) → isAccepted (act e peer k .answer) ≡ false → length (keep (verifyFor id) (addedBy isWriting e peer k)) ≡ 0
-    none (offer nego) a = rw a
-    none (reply m nego) a = rw a
-    none (metadata scheme value) a = rw a
-    none (speak s) a = rw a
-    none read a = refl
-    none (choose m s) a = rw a
+  one-call k =
+      elim (which (isAccepted (act e peer k .answer))) [ inl a ↦ rw a (rw a at (accepted-one k a)) | inr a ↦ rw a (rw a at (none k a)) ] where
+        none : (k : Call) → isAccepted (act e peer k .answer) ≡ false → length (keep (verifyFor id) (addedBy isWriting e peer k)) ≡ 0
+        none (offer nego) a = rw a
+        none (reply m nego) a = rw a
+        none (metadata scheme value) a = rw a
+        none (speak s) a = rw a
+        none read a = refl
+        none (choose m s) a = rw a
 
 -- 3. a run: the calls are counted as their messages
 
@@ -151,13 +157,15 @@ pub keep-append : {A : Type 0} (p : A → Bool) (xs ys : List A) → keep p (xs 
 keep-append p [] ys = refl
 keep-append p (x ∷ xs) ys = elim (which (p x)) [ inl b ↦ rw (b, keep-append p xs ys) | inr b ↦ rw (b, keep-append p xs ys) ]
 
-one-at : (id : Id) (x : Bool) (w : World) (l : Logs) → Both w l → (y : Bool) (k : Call) → length (keep (verifyFor id) (addedAt isWriting x w y k)) ≡ cond (here id w x y k) 1 0
+one-at : (id : Id) (x : Bool) (w : World) (l : Logs) → Both w l → (y : Bool) (k : Call)
+    → length (keep (verifyFor id) (addedAt isWriting x w y k)) ≡ cond (here id w x y k) 1 0
 one-at id false w l b false k = one-call id (w .i) (w .a .turn) (l .i) (b .i) k
 one-at id false w l b true k = refl
 one-at id true w l b false k = refl
 one-at id true w l b true k = one-call id (w .a) (w .i .turn) (l .a) (b .a) k
 
-counted : (id : Id) (x : Bool) (w : World) (l : Logs) → Both w l → (cs : List (Bool × Call)) → length (keep (verifyFor id) (writtenIn x w cs)) ≡ verifyCount w x id cs
+counted : (id : Id) (x : Bool) (w : World) (l : Logs) → Both w l → (cs : List (Bool × Call))
+    → length (keep (verifyFor id) (writtenIn x w cs)) ≡ verifyCount w x id cs
 counted id x w l b [] = refl
 counted id x w l b (c ∷ cs) =
     let here-is : List (List ℕ) = addedAt isWriting x w (c .0) (c .1) in
@@ -171,7 +179,8 @@ counted id x w l b (c ∷ cs) =
 
 -- 4. the two claims
 
-few : (o : Opening) (cs : List (Bool × Call)) (x : Bool) (id : Id) → length (keep (verifyFor id) (writtenIn x (world o) cs)) ≡ verifyCount (world o) x id cs
+few : (o : Opening) (cs : List (Bool × Call)) (x : Bool) (id : Id)
+    → length (keep (verifyFor id) (writtenIn x (world o) cs)) ≡ verifyCount (world o) x id cs
 few o cs x id = counted id x (world o) (record { i = []; a = [] }) (both-opened o) cs
 
 pub verify-once : VerifyOnce
@@ -195,7 +204,8 @@ flagged o cs x st = go (r .attested) refl where
 
   go : (b : Bool) → r .attested ≡ b → count ≡ cond b 1 0
   go true v =
-      let some : 1 ≤ 0 + count = has-behind id (world o) x cs (invs-start o) 0 (has-start o id x) .had (λ z. omega arith) v (ap (schemeAt r) (sym (rw st))) in
+      let some : 1 ≤ 0 + count =
+      has-behind id (world o) x cs (invs-start o) 0 (has-start o id x) .had (λ z. omega arith) v (ap (schemeAt r) (sym (rw st))) in
       omega (arith, low)
   go false v = elim (which (eqb count 0)) [
     | inl h ↦ eqb-true _ _ h

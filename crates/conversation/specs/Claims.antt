@@ -25,7 +25,8 @@
 --   atEnd x y          the entry y of a run is one of the end x; acceptedAt: and is accepted, of a sort of calls
 --   withMarks          the sort of calls with marks; isReading: readings
 --   MarksOnce          in a run an end has at most one accepted call with marks
---   addedBy sort       the messages that an accepted call of a sort adds to its end's; addedAt: those of the end x, of a call at the end y; addedIn: of a list of calls
+--   addedBy sort       the messages that an accepted call of a sort adds to its end's; addedAt: those of the end x, of a call at the end y; addedIn: of a list
+--                      of calls
 --   writtenIn, readIn  the messages that the end x writes, and those that it reads, in a list of calls
 --   isVerify           a message that is a VERIFY, by its type; verifyFor id: one for the scheme id
 --   VerifyOnce         of the messages that an end writes in a run at most one is a VERIFY for a scheme
@@ -256,7 +257,8 @@ chosenIn r = schemeAt r (r .chosen)
 abbrev pub FlagSays : Type 0
 FlagSays =
     (o : Opening) (cs : List (Bool × Call)) (x : Bool) → recordAt x (ends (world o) cs) .stage ≡ LATER
-    → length (keep (verifyFor (chosenIn (recordAt x (ends (world o) cs)))) (writtenIn x (world o) cs)) ≡ cond (recordAt x (ends (world o) cs) .attested) 1 0
+    → length (keep (verifyFor (chosenIn (recordAt x (ends (world o) cs)))) (writtenIn x (world o) cs))
+    ≡ cond (recordAt x (ends (world o) cs) .attested) 1 0
 
 -- the same of what an end reads: 14 for the peer's second
 abbrev pub HeardOnce : Type 0
@@ -265,7 +267,8 @@ HeardOnce = (o : Opening) (cs : List (Bool × Call)) (x : Bool) (id : Id) → le
 abbrev pub HeardSays : Type 0
 HeardSays =
     (o : Opening) (cs : List (Bool × Call)) (x : Bool) → recordAt x (ends (world o) cs) .stage ≡ LATER
-    → length (keep (verifyFor (chosenIn (recordAt x (ends (world o) cs)))) (readIn x (world o) cs)) ≡ cond (recordAt x (ends (world o) cs) .confirmed) 1 0
+    → length (keep (verifyFor (chosenIn (recordAt x (ends (world o) cs)))) (readIn x (world o) cs))
+    ≡ cond (recordAt x (ends (world o) cs) .confirmed) 1 0
 
 pub record Arrays (r : Record) : Type 0 where
   pub list : length (r .list) ≡ 256

@@ -16,7 +16,8 @@
 --   conversation    calls of a whole conversation; allAccepted: every entry of a run is accepted
 --   WholeConversation   every call of it is accepted; WholeLogs: and each end has all of its messages
 --   attempts        choosing calls of each refusal, then one that is accepted; AtOnce: what they answer
---   early           calls in which either end writes a VERIFY before the choice, and tries one after it: with marks of either end, and the content of the choice
+--   early           calls in which either end writes a VERIFY before the choice, and tries one after it: with marks of either end, and the content of the
+--                   choice
 --   EarlyVerify     C-15: what they answer, where the early ones count and where they do not
 --   two t           two extensions or alerts, of the types t and 5, the second with an empty value; nine: one more than there may be; octets: the values of two
 --   ordinary, critical, tooMany   contents of a NEGO with these: no critical type; the type minus 2, in a test call or not; nine
@@ -263,7 +264,8 @@ attempts =
 abbrev pub AtOnce : Type 0
 AtOnce =
     map saysOf (run (world opened) attempts)
-    ≡ done ∷ done ∷ names (scheme 2) 2 ∷ done ∷ refuses 18 ∷ refuses 16 ∷ refuses 19 ∷ refuses 17 ∷ refuses 18 ∷ refuses 18 ∷ names (scheme 3) 1 ∷ refuses 18
+    ≡ done ∷ done ∷ names (scheme 2) 2 ∷ done ∷ refuses 18 ∷ refuses 16 ∷ refuses 19 ∷ refuses 17 ∷ refuses 18 ∷ refuses 18 ∷ names (scheme 3) 1
+    ∷ refuses 18
     ∷ refuses 18 ∷ done ∷ done ∷ []
 
 -- C-15: a VERIFY before and after the AP_REQUEST, and after the CHALLENGE; a choice with a VERIFY, and one with a content; then a VERIFY of either end
@@ -291,9 +293,11 @@ early acceptorMarks initiatorMarks content =
 abbrev pub EarlyVerify : Type 0
 EarlyVerify =
     (map saysOf (run (world opened) (early 2 0 (request [])))
-    ≡ done ∷ refuses 18 ∷ done ∷ done ∷ done ∷ names (scheme 3) 1 ∷ done ∷ done ∷ done ∷ refuses 18 ∷ names (scheme 3) 1 ∷ refuses 18 ∷ done ∷ done ∷ refuses 18 ∷ done ∷ [])
+    ≡ done ∷ refuses 18 ∷ done ∷ done ∷ done ∷ names (scheme 3) 1 ∷ done ∷ done ∷ done ∷ refuses 18 ∷ names (scheme 3) 1 ∷ refuses 18 ∷ done ∷ done
+    ∷ refuses 18 ∷ done ∷ [])
     × (map saysOf (run (world longerLists) (early 4 1 (checksum (pos 16) [])))
-    ≡ done ∷ refuses 18 ∷ done ∷ done ∷ done ∷ names (scheme 2) 2 ∷ done ∷ done ∷ done ∷ refuses 18 ∷ names (scheme 3) 1 ∷ refuses 18 ∷ done ∷ done ∷ done ∷ done ∷ [])
+    ≡ done ∷ refuses 18 ∷ done ∷ done ∷ done ∷ names (scheme 2) 2 ∷ done ∷ done ∷ done ∷ refuses 18 ∷ names (scheme 3) 1 ∷ refuses 18 ∷ done ∷ done
+    ∷ done ∷ done ∷ [])
 
 abbrev pub two : ℕ → Elements
 two type = record { count = 2; types = type ∷ 5 ∷ replicate 6 0; sizes = 3 ∷ replicate 7 0 }
@@ -355,5 +359,6 @@ readInTurn e (t ∷ ts) = act e t read .answer .refusal ∷ readInTurn (moved e 
 -- an acceptor that was sent P8's token, a critical extension, does not read P9's; one that was sent P4's, a vector that breaks its rule, does
 abbrev pub StaysRejected : Type 0
 StaysRejected =
-    (readInTurn (world opened .a) (withExtension (0xFE ∷ 0xFF ∷ 0xFF ∷ 0xFF ∷ []) ∷ withExtension (0xFF ∷ 0xFF ∷ 0xFF ∷ 0x7F ∷ []) ∷ []) ≡ 12 ∷ 18 ∷ [])
+    (readInTurn (world opened .a) (withExtension (0xFE ∷ 0xFF ∷ 0xFF ∷ 0xFF ∷ []) ∷ withExtension (0xFF ∷ 0xFF ∷ 0xFF ∷ 0x7F ∷ []) ∷ []) ≡ 12 ∷ 18
+    ∷ [])
     × (readInTurn (world opened .a) (withScheme 95 1 ∷ withExtension (0xFF ∷ 0xFF ∷ 0xFF ∷ 0x7F ∷ []) ∷ []) ≡ 11 ∷ 0 ∷ [])

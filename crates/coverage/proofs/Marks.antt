@@ -33,16 +33,21 @@ drop-out (x ∷ m) (suc o) h = drop-out m o (omega arith)
 drop-min : (m : List ℕ) (o : ℕ) → drop (min o (length m)) m ≡ drop o m
 drop-min m o = elim (which (leb o (length m))) [
   | inl e ↦ let h = leb-true o (length m) e in let z : min o (length m) ≡ o = omega arith in rw z
-  | inr e ↦ let h = leb-false o (length m) e in let z : min o (length m) ≡ length m = omega arith in rw z (drop-out m (length m) (omega arith) ∙ sym (drop-out m o (omega arith)))
+  | inr e ↦ let h =
+      leb-false o (length m) e in let z : min o (length m) ≡ length m =
+      omega arith in rw z (drop-out m (length m) (omega arith) ∙ sym (drop-out m o (omega arith)))
 ]
 
 take-min : (m : List ℕ) (k : ℕ) → take (min k (length m)) m ≡ take k m
 take-min m k = elim (which (leb k (length m))) [
   | inl e ↦ let h = leb-true k (length m) e in let z : min k (length m) ≡ k = omega arith in rw z
-  | inr e ↦ let h = leb-false k (length m) e in let z : min k (length m) ≡ length m = omega arith in rw z (take-all (length m) m (omega arith) ∙ sym (take-all k m (omega arith)))
+  | inr e ↦ let h =
+      leb-false k (length m) e in let z : min k (length m) ≡ length m =
+      omega arith in rw z (take-all (length m) m (omega arith) ∙ sym (take-all k m (omega arith)))
 ]
 
-module _ (m : List ℕ) (v : Vector) (from len : ℕ) (from-is : from ≡ min (v .offset .0) (length m)) (len-is : len ≡ min (v .count * v .size) (length m - from)) where
+module _ (m : List ℕ) (v : Vector) (from len : ℕ) (from-is : from ≡ min (v .offset .0) (length m))
+    (len-is : len ≡ min (v .count * v .size) (length m - from)) where
   pub part-is : take (from + len - from) (drop from m) ≡ part m v
   part-is =
       let l : length (drop from m) ≡ length m - from = length-drop from m in
@@ -70,7 +75,8 @@ module _ (a : List ℕ) (whole map : List ℕ) (at : ℕ) where
   values-done zero inv h = sym inv
   values-done (suc n) inv h = absurd (omega arith)
 
-  pub values-more : (n : ℕ) (v : Vector) (map' : List ℕ) → whole ≡ markedAll map (valuesFrom n a at) → 0 < n → v ≡ octetVector a (at + 4) → map' ≡ marked map v
+  pub values-more : (n : ℕ) (v : Vector) (map' : List ℕ) → whole ≡ markedAll map (valuesFrom n a at) → 0 < n → v ≡ octetVector a (at + 4)
+      → map' ≡ marked map v
       → whole ≡ markedAll map' (valuesFrom (n - 1) a (at + 12))
   unfolding markedAll elementsAt
   values-more zero v map' inv h e f = absurd (omega arith)
@@ -109,7 +115,8 @@ clear-all map i h inv p = elim (which (ltb p i)) [
 
 -- ---- the vectors of each layout
 module _ (map m : List ℕ) where
-  pub marks-exchange : (v : Vector) (map1 : List ℕ) → v ≡ exchangeVector m → map1 ≡ marked map v → map1 ≡ markedAll map (vectorsOf (contentOf exchange m))
+  pub marks-exchange : (v : Vector) (map1 : List ℕ) → v ≡ exchangeVector m → map1 ≡ marked map v
+      → map1 ≡ markedAll map (vectorsOf (contentOf exchange m))
   unfolding markedAll vectorsOf contentOf
   marks-exchange v map1 e f = simp (f, e)
 
@@ -202,7 +209,8 @@ module _ (m : List ℕ) where
     unfolding headOf
     kind-here = kind-is
 
-    pub counted-header : (header : ℕ) → header ≡ headerOf (shapeOf kind) → length m < header → _≡_ {A = Octets} (record { headers = length m; vectors = 0; bare = 0 }) (octetsIn m)
+    pub counted-header : (header : ℕ) → header ≡ headerOf (shapeOf kind) → length m < header
+        → _≡_ {A = Octets} (record { headers = length m; vectors = 0; bare = 0 }) (octetsIn m)
     counted-header header e h = counted-cut (rw (sym kind-here) (omega arith))
 
     pub header-fits : (header : ℕ) → header ≡ headerOf (shapeOf kind) → header ≤ length m → headerOf (shapeOf kind) ≤ length m
@@ -210,7 +218,8 @@ module _ (m : List ℕ) where
 
 -- the sweeps over a map in which the message's vectors are marked
 module _ (m : List ℕ) (kind : ℕ) (kind-is : kind ≡ headOf m .kind) (h : headerOf (shapeOf kind) ≤ length m)
-    (map map0 map1 : List ℕ) (sized : length map ≡ length m) (kept : length map0 ≡ length map) (clear : Clear map0) (e : map1 ≡ markedAll map0 (vectorsOf (contentOf (shapeOf kind) m))) where
+    (map map0 map1 : List ℕ) (sized : length map ≡ length m) (kept : length map0 ≡ length map) (clear : Clear map0)
+    (e : map1 ≡ markedAll map0 (vectorsOf (contentOf (shapeOf kind) m))) where
   l : length map0 ≡ length m
   l = kept ∙ sized
 
@@ -235,7 +244,8 @@ module _ (m : List ℕ) (kind : ℕ) (kind-is : kind ≡ headOf m .kind) (h : he
 
   bare-swept : (r : ℕ) → r ≡ sweep map1 (headerIn m) (length map1) 0 → r + bareOctets m ≡ length m
   unfolding bareOctets
-  bare-swept r f = ap (λ (k : ℕ). k + count (isBare m) (length m) 0) (swept-is (headerIn m) r f) ∙ count-not (heldBy (headerIn m) (vectorsIn m)) (length m) 0
+  bare-swept r f =
+      ap (λ (k : ℕ). k + count (isBare m) (length m) 0) (swept-is (headerIn m) r f) ∙ count-not (heldBy (headerIn m) (vectorsIn m)) (length m) 0
 
   module _ (header : ℕ) (header-is : header ≡ headerOf (shapeOf kind)) (held : ℕ) (held-is : held ≡ sweep map1 header (length map1) 0) where
     header-own : header ≡ headerIn m

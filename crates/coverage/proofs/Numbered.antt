@@ -26,7 +26,8 @@ values-at : (n : ℕ) (a : List ℕ) (at k : ℕ) → k < n → getD (valuesOf (
 unfolding elementsAt
 values-at zero a at k h = absurd (omega arith)
 values-at (suc n) a at zero h = let e : at + 4 ≡ at + 12 * 0 + 4 = omega arith in ap (octetVector a) e
-values-at (suc n) a at (suc k) h = let e : at + 12 + 12 * k + 4 ≡ at + 12 * suc k + 4 = omega arith in values-at n a (at + 12) k (omega arith) ∙ ap (octetVector a) e
+values-at (suc n) a at (suc k) h =
+    let e : at + 12 + 12 * k + 4 ≡ at + 12 * suc k + 4 = omega arith in values-at n a (at + 12) k (omega arith) ∙ ap (octetVector a) e
 
 module _ (a : List ℕ) (k : ℕ) (v : Vector) where
   pub value-none : length a / 12 ≤ k → v ≡ noVector → v ≡ getD (valuesOf (elementsOf a)) k noVector
@@ -56,28 +57,34 @@ module _ (m : List ℕ) (k : ℕ) (v : Vector) where
 
   pub nego-first : k ≡ 0 → v ≡ schemeVector m → In nego
   unfolding vectorsOf contentOf
-  nego-first e f = f ∙ ap (λ (i : ℕ). getD (schemeVector m ∷ extensionVector m ∷ valuesOf (elementsOf (part m (extensionVector m)))) i noVector) (sym e)
+  nego-first e f =
+      f ∙ ap (λ (i : ℕ). getD (schemeVector m ∷ extensionVector m ∷ valuesOf (elementsOf (part m (extensionVector m)))) i noVector) (sym e)
 
   pub nego-second : k ≡ 1 → v ≡ extensionVector m → In nego
   unfolding vectorsOf contentOf
-  nego-second e f = f ∙ ap (λ (i : ℕ). getD (schemeVector m ∷ extensionVector m ∷ valuesOf (elementsOf (part m (extensionVector m)))) i noVector) (sym e)
+  nego-second e f =
+      f ∙ ap (λ (i : ℕ). getD (schemeVector m ∷ extensionVector m ∷ valuesOf (elementsOf (part m (extensionVector m)))) i noVector) (sym e)
 
-  pub nego-value : (k ≡ 0 → ⊥) → (k ≡ 1 → ⊥) → (a : Vector) → a ≡ extensionVector m → (es : List ℕ) → es ≡ part m a → v ≡ getD (valuesOf (elementsOf es)) (k - 2) noVector → In nego
+  pub nego-value : (k ≡ 0 → ⊥) → (k ≡ 1 → ⊥) → (a : Vector) → a ≡ extensionVector m → (es : List ℕ) → es ≡ part m a
+      → v ≡ getD (valuesOf (elementsOf es)) (k - 2) noVector → In nego
   unfolding vectorsOf contentOf
   nego-value h g a a-is es es-is e =
       let z : k - 1 - 1 ≡ k - 2 = omega arith in
       e ∙ ap (λ (l : List ℕ). getD (valuesOf (elementsOf l)) (k - 2) noVector) (es-is ∙ ap (part m) a-is)
       ∙ ap (λ (i : ℕ). getD (valuesOf (elementsOf (part m (extensionVector m)))) i noVector) (sym z)
-      ∙ sym (behind-one (schemeVector m) (extensionVector m ∷ valuesOf (elementsOf (part m (extensionVector m)))) k h ∙ behind-one (extensionVector m) (valuesOf (elementsOf (part m (extensionVector m)))) (k - 1) (past h g))
+      ∙ sym (behind-one (schemeVector m) (extensionVector m ∷ valuesOf (elementsOf (part m (extensionVector m)))) k h
+      ∙ behind-one (extensionVector m) (valuesOf (elementsOf (part m (extensionVector m)))) (k - 1) (past h g))
 
   pub alert-first : k ≡ 0 → v ≡ alertVector m → In alert
   unfolding vectorsOf contentOf
   alert-first e f = f ∙ ap (λ (i : ℕ). getD (alertVector m ∷ valuesOf (elementsOf (part m (alertVector m)))) i noVector) (sym e)
 
-  pub alert-value : (k ≡ 0 → ⊥) → (a : Vector) → a ≡ alertVector m → (es : List ℕ) → es ≡ part m a → v ≡ getD (valuesOf (elementsOf es)) (k - 1) noVector → In alert
+  pub alert-value : (k ≡ 0 → ⊥) → (a : Vector) → a ≡ alertVector m → (es : List ℕ) → es ≡ part m a
+      → v ≡ getD (valuesOf (elementsOf es)) (k - 1) noVector → In alert
   unfolding vectorsOf contentOf
   alert-value h a a-is es es-is e =
-      e ∙ ap (λ (l : List ℕ). getD (valuesOf (elementsOf l)) (k - 1) noVector) (es-is ∙ ap (part m) a-is) ∙ sym (behind-one (alertVector m) (valuesOf (elementsOf (part m (alertVector m)))) k h)
+      e ∙ ap (λ (l : List ℕ). getD (valuesOf (elementsOf l)) (k - 1) noVector) (es-is ∙ ap (part m) a-is)
+      ∙ sym (behind-one (alertVector m) (valuesOf (elementsOf (part m (alertVector m)))) k h)
 
   -- ---- the layout by the kind's number
   module _ (kind : ℕ) where

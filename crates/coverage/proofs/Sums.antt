@@ -32,7 +32,8 @@ pub count-not : (f : ℕ → Bool) (n at : ℕ) → count f n at + count (λ p. 
 unfolding count one
 count-not f zero at = refl
 count-not f (suc n) at = go (f at) (count-not f n (at + 1)) where
-  go : (b : Bool) → count f n (at + 1) + count (λ p. not (f p)) n (at + 1) ≡ n → one b + count f n (at + 1) + (one (not b) + count (λ p. not (f p)) n (at + 1)) ≡ suc n
+  go : (b : Bool) → count f n (at + 1) + count (λ p. not (f p)) n (at + 1) ≡ n
+      → one b + count f n (at + 1) + (one (not b) + count (λ p. not (f p)) n (at + 1)) ≡ suc n
   go true e = omega arith
   go false e = omega arith
 

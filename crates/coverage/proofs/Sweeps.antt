@@ -86,11 +86,14 @@ unfolding markedAll
 length-marks map [] = refl
 length-marks map (v ∷ vs) = length-marks (marked map v) vs ∙ length-marked map v
 
-marked-at : (map : List ℕ) (v : Vector) (p : ℕ) → p < length map → getD (marked map v) p 0 ≡ max (getD map p 0) (cond (eqb (v .offset .0) p) (endIn (length map) v) 0)
+marked-at : (map : List ℕ) (v : Vector) (p : ℕ) → p < length map
+    → getD (marked map v) p 0 ≡ max (getD map p 0) (cond (eqb (v .offset .0) p) (endIn (length map) v) 0)
 unfolding marked
 marked-at map v p h = elim (which (eqb (v .offset .0) p)) [
   | inl e ↦ let o = eqb-true (v .offset .0) p e in rw (e, o) (getD-set-same map p _ 0 h)
-  | inr e ↦ let o = eqb-false (v .offset .0) p e in rw (e, getD-set-other map (v .offset .0) p (max (getD map (v .offset .0) 0) (endIn (length map) v)) 0 (λ q. o (sym q))) (omega arith)
+  | inr e ↦ let o =
+      eqb-false (v .offset .0) p e in
+      rw (e, getD-set-other map (v .offset .0) p (max (getD map (v .offset .0) 0) (endIn (length map) v)) 0 (λ q. o (sym q))) (omega arith)
 ]
 
 marks-at : (map : List ℕ) (vs : List Vector) (p : ℕ) → p < length map → getD (markedAll map vs) p 0 ≡ max (getD map p 0) (startEnd (length map) vs p)
@@ -101,7 +104,8 @@ marks-at map (v ∷ vs) p h =
     marks-at (marked map v) vs p (omega arith) ∙ rw (l, marked-at map v p h) (omega arith)
 
 -- the farthest end met so far, one place further
-pub far-next : (map : List ℕ) (vs : List Vector) → Clear map → (at : ℕ) → at < length map → max (endBefore (length map) vs at) (getD (markedAll map vs) at 0) ≡ endBefore (length map) vs (at + 1)
+pub far-next : (map : List ℕ) (vs : List Vector) → Clear map → (at : ℕ) → at < length map
+    → max (endBefore (length map) vs at) (getD (markedAll map vs) at 0) ≡ endBefore (length map) vs (at + 1)
 far-next map vs clear at h = rw (marks-at map vs at h, clear at, end-next (length map) at vs) (omega arith)
 
 -- the places before a start or in one of the vectors

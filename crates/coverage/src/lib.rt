@@ -158,7 +158,8 @@ pub fn clear(map: &mut [u32])
 
 // The octets of a message of a kind, in a map with a cell for each.
 fn count_kind(map: &mut [u32], kind: Kind, m: &[u8]) -> Octets
-    requires { ⌜ (length (now map) < 2 ^ 32) × (length (now map) ≡ length (now m)) × (headerOf (shapeOf (kind .0)) ≤ length (now m)) × (kind .0 ≡ headOf (now m) .kind) ⌝ }
+    requires { ⌜ (length (now map) < 2 ^ 32) × (length (now map) ≡ length (now m)) × (headerOf (shapeOf (kind .0)) ≤ length (now m))
+        × (kind .0 ≡ headOf (now m) .kind) ⌝ }
     ensures { λ r. ⌜ r ≡ octetsIn (now (m .entry)) ⌝ }
 {
     clear(map);

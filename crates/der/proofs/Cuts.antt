@@ -18,17 +18,20 @@ use Rattle.der.proofs.Gots.{bind-ok, check-ok, no-ok}
 use Rattle.der.proofs.Lengths.{Reads, length-reads}
 
 -- what is written is taken apart again
-framed-back : (c r : List ℕ) → length c ≤ 65535 → framedFrom (lengthOf (length c) ++ (c ++ r)) ≡ ok (record { lead = lengthOf (length c); contents = c; rest = r })
+framed-back : (c r : List ℕ) → length c ≤ 65535
+    → framedFrom (lengthOf (length c) ++ (c ++ r)) ≡ ok (record { lead = lengthOf (length c); contents = c; rest = r })
 unfolding framedFrom framed check
 framed-back c r small =
     let v = lengthOf (length c) in
     let k : Reads (length c) v (c ++ r) = length-reads (length c) (c ++ r) small in
-    let d : drop (length v + length c) (v ++ (c ++ r)) ≡ r = sym (drop-drop (length c) (length v) (v ++ (c ++ r))) ∙ rw (drop-append-seam v (c ++ r)) (drop-append-seam c r) in
+    let d : drop (length v + length c) (v ++ (c ++ r)) ≡ r =
+    sym (drop-drop (length c) (length v) (v ++ (c ++ r))) ∙ rw (drop-append-seam v (c ++ r)) (drop-append-seam c r) in
     let g : length v + length c ≤ length (v ++ (c ++ r)) = simp length-append (omega arith) in
     let f : leb (length v + length c) (length (v ++ (c ++ r))) ≡ true = le-leb _ _ g in
     rw (k .lead, k .size, f, drop-append-seam v (c ++ r), take-append-seam c r, take-append-seam v (c ++ r), d)
 
-pub cut-back : (t : ℕ) (p : List ℕ → Bool) (c r : List ℕ) → length c ≤ 65535 → p c ≡ true → cut t p (element t c ++ r) ≡ ok (record { value = c; rest = r })
+pub cut-back : (t : ℕ) (p : List ℕ → Bool) (c r : List ℕ) → length c ≤ 65535 → p c ≡ true
+    → cut t p (element t c ++ r) ≡ ok (record { value = c; rest = r })
 unfolding cut frame element judged check
 cut-back t p c r small right = rw (eq-eqb t t refl, append-assoc, framed-back c r small, right, same-refl (lengthOf (length c)))
 
@@ -64,13 +67,17 @@ judged-forth right f q e =
       go true h k = refl
       go false h k = absurd (not-indefinite (length (f .contents)) (sym k ∙ same-eq (f .lead) (0x80 ∷ []) h))
 
-pub cut-forth : (t : ℕ) (p : List ℕ → Bool) (s : List ℕ) (q : Part (List ℕ)) → cut t p s ≡ ok q → (s ≡ element t (q .value) ++ q .rest) × (p (q .value) ≡ true)
+pub cut-forth : (t : ℕ) (p : List ℕ → Bool) (s : List ℕ) (q : Part (List ℕ)) → cut t p s ≡ ok q
+    → (s ≡ element t (q .value) ++ q .rest) × (p (q .value) ≡ true)
 unfolding cut frame element
 cut-forth t p [] q e = no-ok 20 q e
 cut-forth t p (x ∷ s) q e =
     let (f, e1, e2) = bind-ok (check (eqb x t) 20 (framedFrom s)) _ q e in
     let (tag, e3) = check-ok _ 20 _ f e1 in
     let (right, lead-is, is) = judged-forth (p (f .contents)) f q e2 in
-    let z : s ≡ lengthOf (length (f .contents)) ++ (f .contents ++ f .rest) = framed-forth s f e3 ∙ ap (λ (v : List ℕ). v ++ (f .contents ++ f .rest)) lead-is in
-    let w : x ∷ s ≡ element t (f .contents) ++ f .rest = ap (λ (y : ℕ). y ∷ s) (eqb-true x t tag) ∙ ap (λ (u : List ℕ). t ∷ u) (z ∙ sym (append-assoc (lengthOf (length (f .contents))) (f .contents) (f .rest))) in
+    let z : s ≡ lengthOf (length (f .contents)) ++ (f .contents ++ f .rest) =
+    framed-forth s f e3 ∙ ap (λ (v : List ℕ). v ++ (f .contents ++ f .rest)) lead-is in
+    let w : x ∷ s ≡ element t (f .contents) ++ f .rest =
+    ap (λ (y : ℕ). y ∷ s) (eqb-true x t tag) ∙ ap (λ (u : List ℕ). t ∷ u)
+    (z ∙ sym (append-assoc (lengthOf (length (f .contents))) (f .contents) (f .rest))) in
     rw (← is) (w, right)

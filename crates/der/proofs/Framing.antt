@@ -60,7 +60,8 @@ module _ (s : List ℕ) (at end : ℕ) (h : Holder s at end) where
         exact = let o = h .order in let i = h .inside in let m = h .small in omega (arith, size-is)
 
         contents-are : take n (drop k (part s at end)) ≡ part s (at + k) (at + k + n)
-        contents-are = let o = h .order in rw (drop-part s at end (h .order) (h .inside) k) (take-part s (at + k) end (omega arith) (h .inside) n (omega arith))
+        contents-are =
+            let o = h .order in rw (drop-part s at end (h .order) (h .inside) k) (take-part s (at + k) end (omega arith) (h .inside) n (omega arith))
 
         rest-is : drop (k + n) (part s at end) ≡ part s (at + k + n) end
         rest-is = rw (drop-part s at end (h .order) (h .inside) (k + n), add-assoc)
@@ -73,7 +74,10 @@ module _ (s : List ℕ) (at end : ℕ) (h : Holder s at end) where
         frame-found =
             let o = h .order in
             let l : 0 < k = omega arith in
-            record { same = sym (rw (head-is, exact, lead-is, fit, contents-are, rest-is)); inside = (omega arith, omega arith, omega arith, omega arith) }
+            record {
+              same = sym (rw (head-is, exact, lead-is, fit, contents-are, rest-is));
+              inside = (omega arith, omega arith, omega arith, omega arith);
+            }
 
 pub ruleset framing = (frame-none, frame-cut, frame-past, frame-found)
 
@@ -154,14 +158,17 @@ module _ (s : List ℕ) (at end t : ℕ) (h : Holder s at end) (f : Framed) (say
     pub cut-small : e - b ≤ 65535
     cut-small = let i = places in let j = h .inside in let m = h .small in omega arith
 
-    pub cut-by : (p : List ℕ → Bool) (r : Cut) (right : Bool) → right ≡ p (take (e - b) (drop b s)) → r ≡ verdict right (take (b - l) (drop l s)) b e → Cuts s at end (cut t p (part s at end)) r
+    pub cut-by : (p : List ℕ → Bool) (r : Cut) (right : Bool) → right ≡ p (take (e - b) (drop b s)) → r ≡ verdict right (take (b - l) (drop l s)) b e
+        → Cuts s at end (cut t p (part s at end)) r
     unfolding cut judged check part
     cut-by p r right right-is r-is =
         let i = places in let j = h .inside in
         let n : length (part s b e) ≡ e - b = length-part s b e (i .2) (omega arith) in
-        rw (r-is, sym (says .same) ∙ ap (toldFrame s end) f-is, ← right-is, n) (go right (indefinite (part s l b)) (shortest (part s l b) (e - b)) (omega arith, i .2, i .3)) where
+        rw (r-is, sym (says .same) ∙ ap (toldFrame s end) f-is, ← right-is, n)
+        (go right (indefinite (part s l b)) (shortest (part s l b) (e - b)) (omega arith, i .2, i .3)) where
           go : (x y z : Bool) → Inside at end (Element b e)
-              → Cuts s at end (check (x || y) 20 (check z 21 (ok (record { value = part s b e; rest = part s e end })))) (cond (x || y) (cond z (Element b e) (Refused 21)) (Refused 20))
+              → Cuts s at end (check (x || y) 20 (check z 21 (ok (record { value = part s b e; rest = part s e end }))))
+              (cond (x || y) (cond z (Element b e) (Refused 21)) (Refused 20))
           go true y true i = record { same = refl; inside = i }
           go true y false i = record { same = refl; inside = tt }
           go false true true i = record { same = refl; inside = i }

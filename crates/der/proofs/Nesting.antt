@@ -29,7 +29,8 @@ abbrev pub Back : {A : Type 0} → (List ℕ → Got A) → (A → List ℕ) →
 Back {A} body w G = (a : A) → G a → length (w a) ≤ 65535 → body (w a) ≡ ok a
 
 module _ {A : Type 0} (t : ℕ) (p : List ℕ → Bool) (body : List ℕ → Got A) (w : A → List ℕ) (G : A → Type 0) where
-  pub within-forth : Forth p body w G → (s : List ℕ) (q : Part A) → within t p body s ≡ ok q → (s ≡ element t (w (q .value)) ++ q .rest) × G (q .value)
+  pub within-forth : Forth p body w G → (s : List ℕ) (q : Part A) → within t p body s ≡ ok q
+      → (s ≡ element t (w (q .value)) ++ q .rest) × G (q .value)
   unfolding within
   within-forth f s q e =
       let (c, e1, e2) = bind-ok (cut t p s) _ q e in
@@ -47,7 +48,8 @@ module _ {A : Type 0} (t : ℕ) (p : List ℕ → Bool) (body : List ℕ → Got
       let (s-is, good) = within-forth f s q e1 in
       rw (← is) (s-is ∙ rw (end, append-nil), good)
 
-  pub within-back : Back body w G → ((a : A) → G a → p (w a) ≡ true) → (a : A) (r : List ℕ) → G a → length (element t (w a) ++ r) ≤ 65535 → within t p body (element t (w a) ++ r) ≡ ok (record { value = a; rest = r })
+  pub within-back : Back body w G → ((a : A) → G a → p (w a) ≡ true) → (a : A) (r : List ℕ) → G a → length (element t (w a) ++ r) ≤ 65535
+      → within t p body (element t (w a) ++ r) ≡ ok (record { value = a; rest = r })
   unfolding within
   within-back b right a r good short =
       let h : length (w a) ≤ 65535 = omega (arith, longer t (w a), length-append (element t (w a)) r) in
@@ -98,12 +100,15 @@ module _ (t u : ℕ) (p : List ℕ → Bool) where
   suits none h = tt
   suits (some c) h = h
 
-  pub optional-forth : (s : List ℕ) (q : Part (Option (List ℕ))) → optional t u p s ≡ ok q → (s ≡ fieldOctets t u (q .value) ++ q .rest) × Suits (q .value)
+  pub optional-forth : (s : List ℕ) (q : Part (Option (List ℕ))) → optional t u p s ≡ ok q
+      → (s ≡ fieldOctets t u (q .value) ++ q .rest) × Suits (q .value)
   unfolding optional field fieldOctets
   optional-forth s q e = go (which (starts t s)) where
     go : (starts t s ≡ true) ⊎ (starts t s ≡ false) → (s ≡ fieldOctets t u (q .value) ++ q .rest) × Suits (q .value)
     go (inl b) =
-        let h = within-forth t any (only u p (λ c. ok (some c))) (λ a. element u (some-of a)) Is (only-forth u p (λ c. ok (some c)) some-of Is leaf-forth) s q (rw b at e) in
+        let h =
+        within-forth t any (only u p (λ c. ok (some c))) (λ a. element u (some-of a)) Is
+        (only-forth u p (λ c. ok (some c)) some-of Is leaf-forth) s q (rw b at e) in
         (h .0 ∙ rw (field-is (q .value) (h .1)), suits (q .value) (h .1))
     go (inr b) =
         let is : record { value = none; rest = s } ≡ q = cc (rw b at e) in
@@ -113,12 +118,14 @@ module _ (t u : ℕ) (p : List ℕ → Bool) where
   unfolding starts element
   starts-element c r = eq-eqb t t refl
 
-  pub optional-back : (a : Option (List ℕ)) (r : List ℕ) → Suits a → starts t r ≡ false → length (fieldOctets t u a ++ r) ≤ 65535 → optional t u p (fieldOctets t u a ++ r) ≡ ok (record { value = a; rest = r })
+  pub optional-back : (a : Option (List ℕ)) (r : List ℕ) → Suits a → starts t r ≡ false → length (fieldOctets t u a ++ r) ≤ 65535
+      → optional t u p (fieldOctets t u a ++ r) ≡ ok (record { value = a; rest = r })
   unfolding optional field fieldOctets some-of
   optional-back none r h out short = rw out
   optional-back (some c) r h out short =
       rw (starts-element (element u c) r)
-      (within-back t any (only u p (λ c. ok (some c))) (λ a. element u (some-of a)) Is (only-back u p (λ c. ok (some c)) some-of Is leaf-back leaf-right) (λ a g. refl) (some c) r h short)
+      (within-back t any (only u p (λ c. ok (some c))) (λ a. element u (some-of a)) Is
+      (only-back u p (λ c. ok (some c)) some-of Is leaf-back leaf-right) (λ a g. refl) (some c) r h short)
 
 -- a field of another tag in front
 pub starts-past : (t t' u : ℕ) (a : Option (List ℕ)) (r : List ℕ) → (t' ≡ t → ⊥) → starts t r ≡ false → starts t (fieldOctets t' u a ++ r) ≡ false

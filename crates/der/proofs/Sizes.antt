@@ -23,7 +23,8 @@ unfolding lengthIn
 size-short [] h k n e = absurd (h refl)
 size-short (x ∷ v) h k n e = rw (lt-ltb x 128 k) (omega arith)
 
-pub size-long : (v : List ℕ) → (length v ≡ 0 → ⊥) → 128 ≤ getD v 0 0 → (n : ℕ) → n ≡ capped (number (take (length v - 1) (drop 1 v))) → n ≡ capped (lengthIn v)
+pub size-long : (v : List ℕ) → (length v ≡ 0 → ⊥) → 128 ≤ getD v 0 0 → (n : ℕ) → n ≡ capped (number (take (length v - 1) (drop 1 v)))
+    → n ≡ capped (lengthIn v)
 unfolding lengthIn
 size-long [] h k n e = absurd (h refl)
 size-long (x ∷ v) h k n e =

@@ -129,7 +129,8 @@ module _ (d : List ℕ) (at t n : ℕ) (d' : List ℕ) (r : ℕ) where
 pub ruleset puts = (head-one, head-two, head-three)
 
 -- octets behind octets
-pub both : {d d1 d2 v w : List ℕ} {at n m a1 a2 : ℕ} → Written d at n v d1 a1 → Written d1 a1 m w d2 a2 → at + (n + m) ≤ length d → Written d at (n + m) (v ++ w) d2 a2
+pub both : {d d1 d2 v w : List ℕ} {at n m a1 a2 : ℕ} → Written d at n v d1 a1 → Written d1 a1 m w d2 a2 → at + (n + m) ≤ length d
+    → Written d at (n + m) (v ++ w) d2 a2
 both {v} {w} {n} {m} x y h =
     let e : length (v ++ (w ++ [])) ≡ n + m = length-append v (w ++ []) ∙ rw (append-nil, x .size, y .size) in
     rw append-nil at (wrote (n + m) (step x (step y done)) e h)
@@ -145,22 +146,27 @@ pub record Room (n a at l b : ℕ) : Type 0 where
   pub small : n ≤ 65535
   pub whole : b ≡ headSize a + elementSize n
 
-pub field-room : (there : Bool) (n a at l : ℕ) → there ≡ true → a ≡ elementSize n → at + fieldSize there n ≤ l → fieldSize there n ≤ 65535 → Room n a at l (fieldSize there n)
+pub field-room : (there : Bool) (n a at l : ℕ) → there ≡ true → a ≡ elementSize n → at + fieldSize there n ≤ l → fieldSize there n ≤ 65535
+    → Room n a at l (fieldSize there n)
 field-room there n a at l e a-is room small =
     let z : fieldSize there n ≡ headSize a + elementSize n = rw (e, a-is) in
     let i = size-bounds n in let j = size-bounds a in
     record { head-room = omega arith; inner-small = omega arith; inner-room = omega arith; small = omega arith; whole = z }
 
-pub field-octets : (t u : ℕ) (there : Bool) (v : List ℕ) → there ≡ true → fieldOctets t u (given there v) ≡ head t (elementSize (length v)) ++ element u v
+pub field-octets : (t u : ℕ) (there : Bool) (v : List ℕ) → there ≡ true
+    → fieldOctets t u (given there v) ≡ head t (elementSize (length v)) ++ element u v
 unfolding fieldOctets element
 field-octets t u there v e = rw e (ap (λ (n : ℕ). head t n ++ element u v) (length-element u v))
 
-pub field-absent : (t u : ℕ) (there : Bool) (v d : List ℕ) (at : ℕ) → there ≡ false → Written d at (fieldSize there (length v)) (fieldOctets t u (given there v)) d at
+pub field-absent : (t u : ℕ) (there : Bool) (v d : List ℕ) (at : ℕ) → there ≡ false
+    → Written d at (fieldSize there (length v)) (fieldOctets t u (given there v)) d at
 unfolding fieldOctets
 field-absent t u there v d at e = rw e (nothing d at)
 
-pub field-put : (t u : ℕ) (there : Bool) (v d : List ℕ) (at a : ℕ) (d1 : List ℕ) (a1 : ℕ) (d2 : List ℕ) (a2 : ℕ) → there ≡ true → a ≡ elementSize (length v)
-    → Written d at (headSize a) (head t a) d1 a1 → Written d1 a1 (elementSize (length v)) (element u v) d2 a2 → at + fieldSize there (length v) ≤ length d
+pub field-put : (t u : ℕ) (there : Bool) (v d : List ℕ) (at a : ℕ) (d1 : List ℕ) (a1 : ℕ) (d2 : List ℕ) (a2 : ℕ) → there ≡ true
+    → a ≡ elementSize (length v)
+    → Written d at (headSize a) (head t a) d1 a1 → Written d1 a1 (elementSize (length v)) (element u v) d2 a2
+    → at + fieldSize there (length v) ≤ length d
     → Written d at (fieldSize there (length v)) (fieldOctets t u (given there v)) d2 a2
 field-put t u there v d at a d1 a1 d2 a2 e a-is x y room =
     let z : fieldSize there (length v) ≡ headSize a + elementSize (length v) = rw (e, a-is) in

@@ -72,7 +72,8 @@ pub fn put_element(d: &mut [u8], at: usize, tag: u8, v: &[u8]) -> usize
 // A field, where it is there.
 pub fn put_field(d: &mut [u8], at: usize, tag: u8, inner: u8, there: bool, v: &[u8]) -> usize
     requires { ⌜ (at + fieldSize there (length (now v)) ≤ length (now d)) × (fieldSize there (length (now v)) ≤ 65535) ⌝ }
-    ensures { λ r. ⌜ Written (now (d .entry)) at (fieldSize there (length (now (v .entry)))) (fieldOctets tag inner (given there (now (v .entry)))) (now (d .exit)) r ⌝ }
+    ensures { λ r. ⌜ Written (now (d .entry)) at (fieldSize there (length (now (v .entry)))) (fieldOctets tag inner (given there (now (v .entry))))
+        (now (d .exit)) r ⌝ }
 {
     if there {
         let a = put_head(d, at, tag, element_size(v.len()));

@@ -17,7 +17,8 @@ length-array zero i p ts ns = refl
 length-array (suc n) i p ts ns = let k = length-array n (i + 1) (p + getD ns i 0) ts ns in omega arith
 
 module _ (ts ns d : List ℕ) (at count i p : ℕ) where
-  pub array-turn : (d' : List ℕ) (next : ℕ) → i < count → at + 12 * (count - i) ≤ length d → Written d at 12 (joined (elementFields (getD ts i 0) p (getD ns i 0))) d' next
+  pub array-turn : (d' : List ℕ) (next : ℕ) → i < count → at + 12 * (count - i) ≤ length d
+      → Written d at 12 (joined (elementFields (getD ts i 0) p (getD ns i 0))) d' next
       → put d at (arrayFrom (count - i) i p ts ns) ≡ put d' next (arrayFrom (count - (i + 1)) (i + 1) (p + getD ns i 0) ts ns)
   unfolding arrayFrom
   array-turn d' next h room w =
@@ -47,7 +48,8 @@ module _ (ts ns d₀ : List ℕ) (at count first : ℕ) where
     pub left-room : i < count → place + 12 ≤ length d
     left-room h = let a = l .there in let b = l .size in omega arith
 
-    pub left-turn : i < count → (d' : List ℕ) (next : ℕ) → Written d place 12 (joined (elementFields (getD ts i 0) offset (getD ns i 0))) d' next → Left ts ns d₀ at count first d' (i + 1) next (offset + getD ns i 0)
+    pub left-turn : i < count → (d' : List ℕ) (next : ℕ) → Written d place 12 (joined (elementFields (getD ts i 0) offset (getD ns i 0))) d' next
+        → Left ts ns d₀ at count first d' (i + 1) next (offset + getD ns i 0)
     left-turn h d' next w =
         let a = l .there in
         let b = l .size in

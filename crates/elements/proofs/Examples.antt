@@ -11,8 +11,11 @@ use Rattle.elements.specs.declared.Elements.{Elements}
 use Rattle.elements.specs.Elements.{offsetOf, itemOctets, itemsOf, sumFrom, smallFrom, elementsFit, ordinaryFrom, typesOrdinary, noElements, pulseValue, pulses, pulseElements}
 
 -- at 112, behind one scheme: three extensions, the second one empty
-pub three-extensions : itemOctets 112 (record { type = 1; value = 7 ∷ 8 ∷ [] } ∷ record { type = 4294967294; value = [] } ∷ record { type = 3; value = 9 ∷ [] } ∷ [])
-    ≡ joined (octetsOf 4 1 ∷ octetsOf 4 148 ∷ octetsOf 4 2 ∷ octetsOf 4 4294967294 ∷ octetsOf 4 0 ∷ octetsOf 4 0 ∷ octetsOf 4 3 ∷ octetsOf 4 150 ∷ octetsOf 4 1 ∷ (7 ∷ 8 ∷ 9 ∷ []) ∷ [])
+pub three-extensions : itemOctets 112
+    (record { type = 1; value = 7 ∷ 8 ∷ [] } ∷ record { type = 4294967294; value = [] } ∷ record { type = 3; value = 9 ∷ [] } ∷ [])
+    ≡ joined
+    (octetsOf 4 1 ∷ octetsOf 4 148 ∷ octetsOf 4 2 ∷ octetsOf 4 4294967294 ∷ octetsOf 4 0 ∷ octetsOf 4 0 ∷ octetsOf 4 3 ∷ octetsOf 4 150
+    ∷ octetsOf 4 1 ∷ (7 ∷ 8 ∷ 9 ∷ []) ∷ [])
 unfolding itemOctets offsetOf
 three-extensions = refl
 

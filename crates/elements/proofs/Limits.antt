@@ -61,8 +61,10 @@ pub record Tested (n count : ℕ) (ns : List ℕ) (i total : ℕ) : Type 0 where
   pub more : i ≤ count
   pub small : total ≤ 4096 * i
 
-pub tested-turn : (n count : ℕ) (ns : List ℕ) (i total : ℕ) → Tested n count ns i total → i < count → getD ns i 0 ≤ 4096 → Tested n count ns (i + 1) (total + getD ns i 0)
-tested-turn n count ns i total t h k = let m = t .small in record { same = t .same ∙ fit-turn n count ns i total h k; more = omega arith; small = omega arith }
+pub tested-turn : (n count : ℕ) (ns : List ℕ) (i total : ℕ) → Tested n count ns i total → i < count → getD ns i 0 ≤ 4096
+    → Tested n count ns (i + 1) (total + getD ns i 0)
+tested-turn n count ns i total t h k =
+    let m = t .small in record { same = t .same ∙ fit-turn n count ns i total h k; more = omega arith; small = omega arith }
 
 module _ (e : Elements) (v : List ℕ) (few : e .count ≤ 8) (i total : ℕ) (t : Tested (length v) (e .count) (e .sizes) i total) where
   pub tested-stop : i < e .count → 4096 < getD (e .sizes) i 0 → false ≡ elementsFit e v
@@ -73,7 +75,8 @@ module _ (e : Elements) (v : List ℕ) (few : e .count ≤ 8) (i total : ℕ) (t
 
 -- 26, in the words of its loop
 module _ (count : ℕ) (ts : List ℕ) (i : ℕ) (same : ordinaryFrom count 0 ts ≡ ordinaryFrom (count - i) i ts) where
-  pub ordinary-turn : i < count → (b : Bool) → b ≡ negative (signed32 (getD ts i 0)) → b ≡ false → ordinaryFrom count 0 ts ≡ ordinaryFrom (count - (i + 1)) (i + 1) ts
+  pub ordinary-turn : i < count → (b : Bool) → b ≡ negative (signed32 (getD ts i 0)) → b ≡ false
+      → ordinaryFrom count 0 ts ≡ ordinaryFrom (count - (i + 1)) (i + 1) ts
   unfolding ordinaryFrom
   ordinary-turn h b b-is e = same ∙ rw (one-less count i h) (rw (sym b-is ∙ e))
 

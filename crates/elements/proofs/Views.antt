@@ -31,13 +31,16 @@ module _ (ts ns v : List ℕ) where
   unfolding arrayFrom sumFrom
   array-from zero i at p h = refl
   array-from (suc n) i at p h =
-      rw (inside n i at h) (ap (λ (l : List ℕ). joined (elementFields (getD ts i 0) p (getD ns i 0)) ++ l) (array-from n (i + 1) (at + getD ns i 0) (p + getD ns i 0) (omega arith)))
+      rw (inside n i at h)
+      (ap (λ (l : List ℕ). joined (elementFields (getD ts i 0) p (getD ns i 0)) ++ l)
+      (array-from n (i + 1) (at + getD ns i 0) (p + getD ns i 0) (omega arith)))
 
   pub values-from : (n i at : ℕ) → joined (itemValues (itemsFrom n i at ts ns v)) ≡ take (sumFrom n i ns) (drop at v)
   unfolding sumFrom
   values-from zero i at = refl
   values-from (suc n) i at =
-      ap (λ (l : List ℕ). take (getD ns i 0) (drop at v) ++ l) (values-from n (i + 1) (at + getD ns i 0) ∙ ap (take (sumFrom n (i + 1) ns)) (sym (drop-drop (getD ns i 0) at v)))
+      ap (λ (l : List ℕ). take (getD ns i 0) (drop at v) ++ l)
+      (values-from n (i + 1) (at + getD ns i 0) ∙ ap (take (sumFrom n (i + 1) ns)) (sym (drop-drop (getD ns i 0) at v)))
       ∙ sym (take-add (getD ns i 0) (sumFrom n (i + 1) ns) (drop at v))
 
   pub small-from : (n i at : ℕ) → at + sumFrom n i ns ≤ length v → smallFrom n i ns ≡ true → smallValues (itemsFrom n i at ts ns v) ≡ true
@@ -51,7 +54,8 @@ module _ (ts ns v : List ℕ) where
 ordinary-from : (n i at : ℕ) (ts ns v : List ℕ) → ordinaryFrom n i ts ≡ ordinary (itemsFrom n i at ts ns v)
 unfolding ordinaryFrom
 ordinary-from zero i at ts ns v = refl
-ordinary-from (suc n) i at ts ns v = ap (λ (b : Bool). not (negative (signed32 (getD ts i 0))) && b) (ordinary-from n (i + 1) (at + getD ns i 0) ts ns v)
+ordinary-from (suc n) i at ts ns v =
+    ap (λ (b : Bool). not (negative (signed32 (getD ts i 0))) && b) (ordinary-from n (i + 1) (at + getD ns i 0) ts ns v)
 
 pub types-alone : TypesAlone
 unfolding itemsOf
@@ -99,7 +103,8 @@ pub handed-whole : HandedWhole
 handed-whole e v t = let h = handed e v t in (h .count, (h .values, h .fit))
 
 -- the array and the values, put one behind the other
-pub items-written : (e : Elements) (v : List ℕ) → elementsFit e v ≡ true → (d : List ℕ) (at : ℕ) (place : ℕ) → at + (12 * e .count + length v) ≤ length d
+pub items-written : (e : Elements) (v : List ℕ) → elementsFit e v ≡ true → (d : List ℕ) (at : ℕ) (place : ℕ)
+    → at + (12 * e .count + length v) ≤ length d
     → (d1 : List ℕ) (a1 : ℕ) → Written d at (12 * e .count) (arrayFrom (e .count) 0 (place + 12 * e .count) (e .types) (e .sizes)) d1 a1
     → (d2 : List ℕ) (a2 : ℕ) → Written d1 a1 (length v) v d2 a2
     → Written d at (12 * e .count + length v) (itemOctets place (itemsOf e v)) d2 a2

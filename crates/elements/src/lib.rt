@@ -179,7 +179,8 @@ pub fn put_elements(
     offset: MessageOffset,
 ) -> usize
     requires { ⌜ (elementsFit e (now values) ≡ true) × ((at + (12 * e .count + length (now values)) ≤ length (now d)) × (offset .0 ≤ 4294900000)) ⌝ }
-    ensures { λ r. ⌜ Written (now (d .entry)) at (12 * e .count + length (now (values .entry))) (itemOctets (offset .0) (itemsOf e (now (values .entry)))) (now (d .exit)) r ⌝ }
+    ensures { λ r. ⌜ Written (now (d .entry)) at (12 * e .count + length (now (values .entry)))
+        (itemOctets (offset .0) (itemsOf e (now (values .entry)))) (now (d .exit)) r ⌝ }
 {
     let size = field::ELEMENT as u32 * e.count as u32;
     let first = MessageOffset(offset.0 + size);

@@ -16,7 +16,8 @@
 --   fitsFields c         a scheme list is one of whole ids, extensions and alerts keep their limits, and count and length fit their fields
 --   encodable h c        both of these: there is such a message
 --   Outcome              what a writer leaves: the next place and the lent octets, or the lent octets with nothing written
---   told, storing        the outcome of an answer of src/, and of writing a message into d at a place; storingHanded: where extensions or alerts are handed over apart
+--   told, storing        the outcome of an answer of src/, and of writing a message into d at a place; storingHanded: where extensions or alerts are handed
+--                        over apart
 use mathlib.Core.Path.{_≡_}
 use Prim.Native.Nat.{ℕ, _+_, _/_, _%_}
 use mathlib.Core.Bool.{Bool, cond, _&&_}

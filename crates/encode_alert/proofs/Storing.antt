@@ -21,13 +21,16 @@ use Rattle.encode.proofs.Storing.{unhanded, handed-on, crowded, roomy, room-giv
 
 -- the fields as the code puts them: count and sizes of what is handed over are those of the list
 alert-octets : (h : Heading) (scheme : List ℕ) (code : ℤ) (e : Elements) (v : List ℕ) → elementsFit e v ≡ true
-    → joined ((headFields h (72 + (12 * e .count + length v)) ++ alertFields scheme code (offsetOf (e .count) 72) (e .count)) ++ (itemOctets 72 (itemsOf e v) ∷ []))
+    → joined
+    ((headFields h (72 + (12 * e .count + length v)) ++ alertFields scheme code (offsetOf (e .count) 72) (e .count))
+    ++ (itemOctets 72 (itemsOf e v) ∷ []))
     ≡ encoded h (alertOf scheme code (itemsOf e v))
 unfolding encoded
 alert-octets h scheme code e v t = let k = handed e v t in rw (k .count, k .values)
 
 -- the header and the alerts, put one behind the other; z: the code as the header's writer got it
-pub alert-written : (h : Heading) (scheme : List ℕ) (code : ℤ) (e : Elements) (v : List ℕ) → elementsFit e v ≡ true → length (h .conversation) ≡ 16 → length scheme ≡ 16
+pub alert-written : (h : Heading) (scheme : List ℕ) (code : ℤ) (e : Elements) (v : List ℕ) → elementsFit e v ≡ true → length (h .conversation) ≡ 16
+    → length scheme ≡ 16
     → (d : List ℕ) (at : ℕ) → at + (72 + (12 * e .count + length v)) ≤ length d
     → (o : ℕ) → o ≡ offsetOf (e .count) 72 → (z : ℤ) → z ≡ code
     → (d1 : List ℕ) (a1 : ℕ) → Written d at 72 (joined (headFields h (72 + (12 * e .count + length v)) ++ alertFields scheme z o (e .count))) d1 a1
@@ -53,7 +56,8 @@ module _ (d : List ℕ) (at : ℕ) (h : Heading) (scheme : List ℕ) (code : ℤ
     unfolding storingHanded
     alert-unfit k = rw (sym f-is ∙ k)
 
-    module _ (fit : f ≡ true) (id : length (h .conversation) ≡ 16) (whole : length scheme ≡ 16) (r : Bool) (r-is : r ≡ leb (at + (72 + (12 * e .count + length v))) (length d)) where
+    module _ (fit : f ≡ true) (id : length (h .conversation) ≡ 16) (whole : length scheme ≡ 16) (r : Bool)
+        (r-is : r ≡ leb (at + (72 + (12 * e .count + length v))) (length d)) where
       can-alert : encodable h (alertOf scheme code (itemsOf e v)) ≡ true
       unfolding encodable
       can-alert = simp (eq-eqb _ _ kind, handed e v (sym f-is ∙ fit) .fit)
@@ -64,8 +68,10 @@ module _ (d : List ℕ) (at : ℕ) (h : Heading) (scheme : List ℕ) (code : ℤ
       pub alert-crowded : r ≡ false → Left
       alert-crowded k = handed-on d at h _ _ _ (sym f-is ∙ fit) (crowded d at h _ can-alert id whole r (rw sized r-is) k)
 
-      pub alert-roomy : r ≡ true → (d' : List ℕ) (next : ℕ) (z : ℤ) → z ≡ code → Written d at (72 + (12 * e .count + length v)) (encoded h (alertOf scheme z (itemsOf e v))) d' next
+      pub alert-roomy : r ≡ true → (d' : List ℕ) (next : ℕ) (z : ℤ) → z ≡ code
+          → Written d at (72 + (12 * e .count + length v)) (encoded h (alertOf scheme z (itemsOf e v))) d' next
           → written next d' ≡ storingHanded (elementsFit e v) d at h (alertOf scheme code (itemsOf e v))
-      alert-roomy k d' next z z-is w = handed-on d at h _ _ _ (sym f-is ∙ fit) (roomy d at h _ can-alert id whole r (rw sized r-is) k d' next (rw sized (rw z-is at w)))
+      alert-roomy k d' next z z-is w =
+          handed-on d at h _ _ _ (sym f-is ∙ fit) (roomy d at h _ can-alert id whole r (rw sized r-is) k d' next (rw sized (rw z-is at w)))
 
 pub ruleset storings = (alert-kind, alert-unfit, alert-crowded, alert-roomy, room-given)

@@ -35,7 +35,8 @@ fn put_header(
     alerts: u16,
 ) -> usize
     requires { ⌜ at + 72 ≤ length (now d) ⌝ }
-    ensures { λ r. ⌜ Written (now (d .entry)) at 72 (joined (headFields heading size ++ alertFields scheme code (offset .0) alerts)) (now (d .exit)) r ⌝ }
+    ensures { λ r. ⌜ Written (now (d .entry)) at 72 (joined (headFields heading size ++ alertFields scheme code (offset .0) alerts))
+        (now (d .exit)) r ⌝ }
 {
     let scheme_at = put_head(d, at, heading, size);
     let code_at = put_octets(d, scheme_at, &scheme);
@@ -54,8 +55,10 @@ fn put_alert(
     alerts: Elements,
     values: &[u8],
 ) -> usize
-    requires { ⌜ (elementsFit alerts (now values) ≡ true) × ((at + (72 + (12 * alerts .count + length (now values))) ≤ length (now d)) × ((alerts .count ≤ 8) × (length (now values) ≤ 32768))) ⌝ }
-    ensures { λ r. ⌜ Written (now (d .entry)) at (72 + (12 * alerts .count + length (now (values .entry)))) (encoded heading (alertOf scheme code (itemsOf alerts (now (values .entry))))) (now (d .exit)) r ⌝ }
+    requires { ⌜ (elementsFit alerts (now values) ≡ true)
+        × ((at + (72 + (12 * alerts .count + length (now values))) ≤ length (now d)) × ((alerts .count ≤ 8) × (length (now values) ≤ 32768))) ⌝ }
+    ensures { λ r. ⌜ Written (now (d .entry)) at (72 + (12 * alerts .count + length (now (values .entry))))
+        (encoded heading (alertOf scheme code (itemsOf alerts (now (values .entry))))) (now (d .exit)) r ⌝ }
 {
     let count = alerts.count;
     let size = (Kind::ALERT_HEADER_LEN + (field::ELEMENT * count + values.len())) as u32;
@@ -80,7 +83,8 @@ pub fn write(
     alerts: Elements,
     values: &[u8],
 ) -> Stored
-    ensures { λ r. ⌜ told r (now (d .exit)) ≡ storingHanded (elementsFit alerts (now (values .entry))) (now (d .entry)) at heading (alertOf scheme code (itemsOf alerts (now (values .entry)))) ⌝ }
+    ensures { λ r. ⌜ told r (now (d .exit)) ≡ storingHanded (elementsFit alerts (now (values .entry))) (now (d .entry)) at heading
+        (alertOf scheme code (itemsOf alerts (now (values .entry)))) ⌝ }
 {
     if heading.kind.0 != Kind::ALERT {
         return Stored::Nothing;

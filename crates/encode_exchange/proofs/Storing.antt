@@ -32,11 +32,13 @@ module _ (d : List ℕ) (at : ℕ) (h : Heading) (p : Payload) where
         unfolding encodable
         can-exchange = simp (le-leb _ _ low, le-leb _ _ high, le-leb _ _ size)
 
-        module _ (id : length (h .conversation) ≡ 16) (whole : length (p .scheme) ≡ 16) (r : Bool) (r-is : r ≡ leb (at + (64 + length (p .value))) (length d)) where
+        module _ (id : length (h .conversation) ≡ 16) (whole : length (p .scheme) ≡ 16) (r : Bool)
+            (r-is : r ≡ leb (at + (64 + length (p .value))) (length d)) where
           pub exchange-crowded : r ≡ false → unwritten d ≡ storing d at h (ofExchange p)
           exchange-crowded = crowded d at h (ofExchange p) can-exchange id whole r r-is
 
-          pub exchange-roomy : r ≡ true → (d' : List ℕ) (next : ℕ) → Written d at (64 + length (p .value)) (encoded h (ofExchange p)) d' next → written next d' ≡ storing d at h (ofExchange p)
+          pub exchange-roomy : r ≡ true → (d' : List ℕ) (next : ℕ) → Written d at (64 + length (p .value)) (encoded h (ofExchange p)) d' next
+              → written next d' ≡ storing d at h (ofExchange p)
           exchange-roomy = roomy d at h (ofExchange p) can-exchange id whole r r-is
 
 pub ruleset storings = (exchange-low, exchange-high, exchange-long, exchange-crowded, exchange-roomy, room-given)

@@ -19,7 +19,8 @@ const MOST: usize = 4294967295 - Kind::EXCHANGE_HEADER_LEN;
 // The message, where it has room.
 fn put_exchange(d: &mut [u8], at: usize, heading: Heading, scheme: [u8; 16], value: &[u8]) -> usize
     requires { ⌜ (at + (64 + length (now value)) ≤ length (now d)) × (length (now value) ≤ 4294967231) ⌝ }
-    ensures { λ r. ⌜ Written (now (d .entry)) at (64 + length (now (value .entry))) (encoded heading (exchangeOf scheme (now (value .entry)))) (now (d .exit)) r ⌝ }
+    ensures { λ r. ⌜ Written (now (d .entry)) at (64 + length (now (value .entry))) (encoded heading (exchangeOf scheme (now (value .entry))))
+        (now (d .exit)) r ⌝ }
 {
     let n = value.len();
     let scheme_at = put_head(d, at, heading, (Kind::EXCHANGE_HEADER_LEN + n) as u32);

@@ -20,22 +20,29 @@ use Rattle.encode.proofs.Storing.{crowded, roomy, room-given, unhanded, handed-
 
 -- the fields as the code puts them: count and sizes of what is handed over are those of the list
 pub nego-octets : (h : Heading) (random schemes : List ℕ) (e : Elements) (v : List ℕ) → elementsFit e v ≡ true
-    → joined ((headFields h (96 + length schemes + (12 * e .count + length v)) ++ negoFields random (length schemes / 16) (offsetOf (e .count) (96 + length schemes)) (e .count)) ++ (schemes ∷ itemOctets (96 + length schemes) (itemsOf e v) ∷ []))
+    → joined
+    ((headFields h (96 + length schemes + (12 * e .count + length v))
+    ++ negoFields random (length schemes / 16) (offsetOf (e .count) (96 + length schemes)) (e .count))
+    ++ (schemes ∷ itemOctets (96 + length schemes) (itemsOf e v) ∷ []))
     ≡ encoded h (negoOf random schemes (itemsOf e v))
 unfolding encoded
 nego-octets h random schemes e v t = let k = handed e v t in rw (k .count, k .values)
 
 -- the header, the schemes and the extensions, put one behind the other
-pub nego-written : (h : Heading) (random schemes : List ℕ) (e : Elements) (v : List ℕ) → elementsFit e v ≡ true → length (h .conversation) ≡ 16 → length random ≡ 32
+pub nego-written : (h : Heading) (random schemes : List ℕ) (e : Elements) (v : List ℕ) → elementsFit e v ≡ true → length (h .conversation) ≡ 16
+    → length random ≡ 32
     → (d : List ℕ) (at : ℕ) → at + (96 + length schemes + (12 * e .count + length v)) ≤ length d
     → (o : ℕ) → o ≡ offsetOf (e .count) (96 + length schemes)
-    → (d1 : List ℕ) (a1 : ℕ) → Written d at 96 (joined (headFields h (96 + length schemes + (12 * e .count + length v)) ++ negoFields random (length schemes / 16) o (e .count))) d1 a1
+    → (d1 : List ℕ) (a1 : ℕ) → Written d at 96
+    (joined (headFields h (96 + length schemes + (12 * e .count + length v)) ++ negoFields random (length schemes / 16) o (e .count))) d1 a1
     → (d2 : List ℕ) (a2 : ℕ) → Written d1 a1 (length schemes) schemes d2 a2
     → (d3 : List ℕ) (a3 : ℕ) → Written d2 a2 (12 * e .count + length v) (itemOctets (96 + length schemes) (itemsOf e v)) d3 a3
     → Written d at (96 + length schemes + (12 * e .count + length v)) (encoded h (negoOf random schemes (itemsOf e v))) d3 a3
 nego-written h random schemes e v t id whole d at room o o-is d1 a1 w1 d2 a2 w2 d3 a3 w3 =
     let s = nego-octets h random schemes e v t in
-    let f = headFields h (96 + length schemes + (12 * e .count + length v)) ++ negoFields random (length schemes / 16) (offsetOf (e .count) (96 + length schemes)) (e .count) in
+    let f =
+    headFields h (96 + length schemes + (12 * e .count + length v))
+    ++ negoFields random (length schemes / 16) (offsetOf (e .count) (96 + length schemes)) (e .count) in
     let n : length (encoded h (negoOf random schemes (itemsOf e v))) ≡ 96 + length schemes + (12 * e .count + length v) =
     length-encoded h id (negoOf random schemes (itemsOf e v)) whole ∙ rw (size-given e v t) in
     rw (← s) (wrote _ (group f (rw o-is at w1) (step w2 (step w3 done))) (ap length s ∙ n) room)
@@ -63,7 +70,8 @@ module _ (d : List ℕ) (at : ℕ) (h : Heading) (random schemes : List ℕ) (e 
         unfolding storingHanded
         nego-unfit k = rw (sym f-is ∙ k)
 
-        module _ (fit : f ≡ true) (id : length (h .conversation) ≡ 16) (whole : length random ≡ 32) (r : Bool) (r-is : r ≡ leb (at + (96 + length schemes + (12 * e .count + length v))) (length d)) where
+        module _ (fit : f ≡ true) (id : length (h .conversation) ≡ 16) (whole : length random ≡ 32) (r : Bool)
+            (r-is : r ≡ leb (at + (96 + length schemes + (12 * e .count + length v))) (length d)) where
           can-nego : encodable h (negoOf random schemes (itemsOf e v)) ≡ true
           unfolding encodable
           can-nego = simp (le-leb _ _ kind, eq-eqb _ _ ids, le-leb _ _ count, handed e v (sym f-is ∙ fit) .fit)
@@ -74,7 +82,8 @@ module _ (d : List ℕ) (at : ℕ) (h : Heading) (random schemes : List ℕ) (e 
           pub nego-crowded : r ≡ false → Left
           nego-crowded k = handed-on d at h _ _ _ (sym f-is ∙ fit) (crowded d at h _ can-nego id whole r (rw sized r-is) k)
 
-          pub nego-roomy : r ≡ true → (d' : List ℕ) (next : ℕ) → Written d at (96 + length schemes + (12 * e .count + length v)) (encoded h (negoOf random schemes (itemsOf e v))) d' next
+          pub nego-roomy : r ≡ true → (d' : List ℕ) (next : ℕ)
+              → Written d at (96 + length schemes + (12 * e .count + length v)) (encoded h (negoOf random schemes (itemsOf e v))) d' next
               → written next d' ≡ storingHanded (elementsFit e v) d at h (negoOf random schemes (itemsOf e v))
           nego-roomy k d' next w = handed-on d at h _ _ _ (sym f-is ∙ fit) (roomy d at h _ can-nego id whole r (rw sized r-is) k d' next (rw sized w))
 

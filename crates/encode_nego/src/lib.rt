@@ -36,7 +36,8 @@ fn put_header(
     extensions: u16,
 ) -> usize
     requires { ⌜ at + 96 ≤ length (now d) ⌝ }
-    ensures { λ r. ⌜ Written (now (d .entry)) at 96 (joined (headFields heading size ++ negoFields random schemes (offset .0) extensions)) (now (d .exit)) r ⌝ }
+    ensures { λ r. ⌜ Written (now (d .entry)) at 96 (joined (headFields heading size ++ negoFields random schemes (offset .0) extensions))
+        (now (d .exit)) r ⌝ }
 {
     let version = [0u8; 8];
     let random_at = put_head(d, at, heading, size);
@@ -56,8 +57,11 @@ fn put_nego(
     extensions: Elements,
     values: &[u8],
 ) -> usize
-    requires { ⌜ (elementsFit extensions (now values) ≡ true) × ((at + (96 + length (now schemes) + (12 * extensions .count + length (now values))) ≤ length (now d)) × ((length (now schemes) ≤ 1048560) × ((extensions .count ≤ 8) × (length (now values) ≤ 32768)))) ⌝ }
-    ensures { λ r. ⌜ Written (now (d .entry)) at (96 + length (now (schemes .entry)) + (12 * extensions .count + length (now (values .entry)))) (encoded heading (negoOf random (now (schemes .entry)) (itemsOf extensions (now (values .entry))))) (now (d .exit)) r ⌝ }
+    requires { ⌜ (elementsFit extensions (now values) ≡ true)
+        × ((at + (96 + length (now schemes) + (12 * extensions .count + length (now values))) ≤ length (now d))
+        × ((length (now schemes) ≤ 1048560) × ((extensions .count ≤ 8) × (length (now values) ≤ 32768)))) ⌝ }
+    ensures { λ r. ⌜ Written (now (d .entry)) at (96 + length (now (schemes .entry)) + (12 * extensions .count + length (now (values .entry))))
+        (encoded heading (negoOf random (now (schemes .entry)) (itemsOf extensions (now (values .entry))))) (now (d .exit)) r ⌝ }
 {
     let n = schemes.len();
     let count = extensions.count;
@@ -89,7 +93,8 @@ pub fn write(
     extensions: Elements,
     values: &[u8],
 ) -> Stored
-    ensures { λ r. ⌜ told r (now (d .exit)) ≡ storingHanded (elementsFit extensions (now (values .entry))) (now (d .entry)) at heading (negoOf random (now (schemes .entry)) (itemsOf extensions (now (values .entry)))) ⌝ }
+    ensures { λ r. ⌜ told r (now (d .exit)) ≡ storingHanded (elementsFit extensions (now (values .entry))) (now (d .entry)) at heading
+        (negoOf random (now (schemes .entry)) (itemsOf extensions (now (values .entry)))) ⌝ }
 {
     if Kind::ACCEPTOR_NEGO < heading.kind.0 {
         return Stored::Nothing;

@@ -28,11 +28,14 @@ module _ (d : List ℕ) (at : ℕ) (h : Heading) (k : Checksum) where
       unfolding encodable
       can-verify = simp (eq-eqb _ _ kind, le-leb _ _ size)
 
-      module _ (id : length (h .conversation) ≡ 16) (whole : length (k .scheme) ≡ 16) (r : Bool) (r-is : r ≡ leb (at + (80 + length (k .value))) (length d)) where
+      module _ (id : length (h .conversation) ≡ 16) (whole : length (k .scheme) ≡ 16) (r : Bool)
+          (r-is : r ≡ leb (at + (80 + length (k .value))) (length d)) where
         pub verify-crowded : r ≡ false → unwritten d ≡ storing d at h (ofVerify k)
         verify-crowded = crowded d at h (ofVerify k) can-verify id whole r r-is
 
-        pub verify-roomy : r ≡ true → (d' : List ℕ) (next : ℕ) (z : ℤ) → z ≡ k .type → Written d at (80 + length (k .value)) (encoded h (ofVerify (record { scheme = k .scheme; type = z; value = k .value }))) d' next → written next d' ≡ storing d at h (ofVerify k)
+        pub verify-roomy : r ≡ true → (d' : List ℕ) (next : ℕ) (z : ℤ) → z ≡ k .type
+            → Written d at (80 + length (k .value)) (encoded h (ofVerify (record { scheme = k .scheme; type = z; value = k .value }))) d' next
+            → written next d' ≡ storing d at h (ofVerify k)
         verify-roomy e d' next z z-is w = roomy d at h (ofVerify k) can-verify id whole r r-is e d' next (rw z-is at w)
 
 pub ruleset storings = (verify-kind, verify-long, verify-crowded, verify-roomy, room-given)

@@ -29,7 +29,8 @@ fn put_verify(
     value: &[u8],
 ) -> usize
     requires { ⌜ (at + (80 + length (now value)) ≤ length (now d)) × (length (now value) ≤ 4294967215) ⌝ }
-    ensures { λ r. ⌜ Written (now (d .entry)) at (80 + length (now (value .entry))) (encoded heading (verifyOf scheme checksum (now (value .entry)))) (now (d .exit)) r ⌝ }
+    ensures { λ r. ⌜ Written (now (d .entry)) at (80 + length (now (value .entry))) (encoded heading (verifyOf scheme checksum (now (value .entry))))
+        (now (d .exit)) r ⌝ }
 {
     let n = value.len();
     let scheme_at = put_head(d, at, heading, (Kind::VERIFY_HEADER_LEN + n) as u32);

@@ -26,26 +26,34 @@ module _ (p : ℕ) (m : List ℕ) (held : Held p m) where
   pub few-vectors : length (vectorsIn m) < 2 ^ 32
   few-vectors = omega (arith, entry-within p m held, held .ends)
 
-  pub ids-inside : (shape : Shape) → shapeOf (headOf m .kind) ≡ shape → (k : ℕ) → k < idsVector shape m .count → idsVector shape m .offset .0 + 16 * idsVector shape m .count ≤ length m
+  pub ids-inside : (shape : Shape) → shapeOf (headOf m .kind) ≡ shape → (k : ℕ) → k < idsVector shape m .count
+      → idsVector shape m .offset .0 + 16 * idsVector shape m .count ≤ length m
   unfolding vectorsOf contentOf
   ids-inside nego e k h =
-      let member : List·Memᴰ (schemeVector m) (vectorsIn m) = subst (λ (l : List Vector). List·Memᴰ (schemeVector m) l) (sym (all-vectors m (held .header) ∙ ap (λ (x : Shape). vectorsOf (contentOf x m)) e)) (List·Memᴰ·head refl) in
+      let member : List·Memᴰ (schemeVector m) (vectorsIn m) =
+      subst (λ (l : List Vector). List·Memᴰ (schemeVector m) l)
+      (sym (all-vectors m (held .header) ∙ ap (λ (x : Shape). vectorsOf (contentOf x m)) e)) (List·Memᴰ·head refl) in
       let lies = held .lies (schemeVector m) member (λ z. omega arith) in
       omega (arith, lies .before)
   ids-inside exchange e k h = absurd (omega arith)
   ids-inside verify e k h = absurd (omega arith)
   ids-inside alert e k h = absurd (omega arith)
 
-  pub array-inside : (shape : Shape) → shapeOf (headOf m .kind) ≡ shape → (k : ℕ) → k < arrayVector shape m .count → arrayVector shape m .offset .0 + 12 * arrayVector shape m .count ≤ length m
+  pub array-inside : (shape : Shape) → shapeOf (headOf m .kind) ≡ shape → (k : ℕ) → k < arrayVector shape m .count
+      → arrayVector shape m .offset .0 + 12 * arrayVector shape m .count ≤ length m
   unfolding vectorsOf contentOf
   array-inside nego e k h =
-      let member : List·Memᴰ (extensionVector m) (vectorsIn m) = subst (λ (l : List Vector). List·Memᴰ (extensionVector m) l) (sym (all-vectors m (held .header) ∙ ap (λ (x : Shape). vectorsOf (contentOf x m)) e)) (List·Memᴰ·tail (List·Memᴰ·head refl)) in
+      let member : List·Memᴰ (extensionVector m) (vectorsIn m) =
+      subst (λ (l : List Vector). List·Memᴰ (extensionVector m) l)
+      (sym (all-vectors m (held .header) ∙ ap (λ (x : Shape). vectorsOf (contentOf x m)) e)) (List·Memᴰ·tail (List·Memᴰ·head refl)) in
       let lies = held .lies (extensionVector m) member (λ z. omega arith) in
       omega (arith, lies .before)
   array-inside exchange e k h = absurd (omega arith)
   array-inside verify e k h = absurd (omega arith)
   array-inside alert e k h =
-      let member : List·Memᴰ (alertVector m) (vectorsIn m) = subst (λ (l : List Vector). List·Memᴰ (alertVector m) l) (sym (all-vectors m (held .header) ∙ ap (λ (x : Shape). vectorsOf (contentOf x m)) e)) (List·Memᴰ·head refl) in
+      let member : List·Memᴰ (alertVector m) (vectorsIn m) =
+      subst (λ (l : List Vector). List·Memᴰ (alertVector m) l)
+      (sym (all-vectors m (held .header) ∙ ap (λ (x : Shape). vectorsOf (contentOf x m)) e)) (List·Memᴰ·head refl) in
       let lies = held .lies (alertVector m) member (λ z. omega arith) in
       omega (arith, lies .before)
 

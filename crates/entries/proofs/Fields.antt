@@ -28,7 +28,18 @@ pads-listed exchange = refl
 pads-listed verify = refl
 pads-listed alert = refl
 
-head-read : (m : List ℕ) (shape : Shape) → _≡_ {A = Head} (record { signature = le (fieldAt shape 0 .size) m (fieldAt shape 0 .at); kind = le (fieldAt shape 1 .size) m (fieldAt shape 1 .at); sequence = le (fieldAt shape 2 .size) m (fieldAt shape 2 .at); header = le (fieldAt shape 3 .size) m (fieldAt shape 3 .at); length = le (fieldAt shape 4 .size) m (fieldAt shape 4 .at); conversation = octets (fieldAt shape 5 .size) m (fieldAt shape 5 .at) }) (headOf m)
+head-read : (m : List ℕ) (shape : Shape) → _≡_ {A = Head}
+    (record {
+      signature = le (fieldAt shape 0 .size) m (fieldAt shape 0 .at);
+      kind = le (fieldAt shape 1 .size) m (fieldAt shape 1 .at);
+      sequence =
+          le (fieldAt shape 2 .size) m (fieldAt shape 2 .at);
+      header =
+          le (fieldAt shape 3 .size) m (fieldAt shape 3 .at);
+      length =
+          le (fieldAt shape 4 .size) m (fieldAt shape 4 .at);
+      conversation = octets (fieldAt shape 5 .size) m (fieldAt shape 5 .at);
+    }) (headOf m)
 unfolding headOf
 head-read m nego = refl
 head-read m exchange = refl
@@ -69,7 +80,8 @@ allIn : ℕ → List Field → Bool
 allIn h [] = true
 allIn h (f ∷ fs) = (leb (f .at + f .size) h && leb 2 (f .size)) && allIn h fs
 
-one-in : (h : ℕ) (fs : List Field) (k : ℕ) → allIn h fs ≡ true → k < length fs → (getD fs k noField .at + getD fs k noField .size ≤ h) × (2 ≤ getD fs k noField .size)
+one-in : (h : ℕ) (fs : List Field) (k : ℕ) → allIn h fs ≡ true → k < length fs
+    → (getD fs k noField .at + getD fs k noField .size ≤ h) × (2 ≤ getD fs k noField .size)
 unfolding allIn
 one-in h [] k e l = absurd (omega arith)
 one-in h (f ∷ fs) zero e l =
@@ -90,7 +102,8 @@ row-in shape m k h l =
     let (fits, some) = one-in (headerOf shape) (fieldsOf shape) k (all-in shape) l in
     record { inside = r .inside; lies = omega (arith, r .at, r .size, fits); some = omega (arith, r .size, some) }
 
-pub row-entry : (p i : ℕ) (m : List ℕ) (shape : Shape) (k : ℕ) → k < length (fieldsOf shape) → tableEntry p i m (flat (fieldsOf shape)) k ≡ headerEntry p i m shape k
+pub row-entry : (p i : ℕ) (m : List ℕ) (shape : Shape) (k : ℕ) → k < length (fieldsOf shape)
+    → tableEntry p i m (flat (fieldsOf shape)) k ≡ headerEntry p i m shape k
 unfolding tableEntry headerEntry
 row-entry p i m shape k l =
     let r = rowed (fieldsOf shape) k l in

@@ -133,7 +133,8 @@ module _ (kind : ℕ) where
       pub header-verify : 1 < kind → 5 < kind → kind ≡ 6 → x ≡ tableEntry p i m (flat (fieldsOf verify)) k → x ≡ headerEntry p i m (shapeOf kind) k
       header-verify h g s e = rw (shape-verify kind h g s) (e ∙ row-entry p i m verify k (rw (shape-verify kind h g s) at few))
 
-      pub header-alert : 1 < kind → 5 < kind → (kind ≡ 6 → ⊥) → x ≡ tableEntry p i m (flat (fieldsOf alert)) k → x ≡ headerEntry p i m (shapeOf kind) k
+      pub header-alert : 1 < kind → 5 < kind → (kind ≡ 6 → ⊥) → x ≡ tableEntry p i m (flat (fieldsOf alert)) k
+          → x ≡ headerEntry p i m (shapeOf kind) k
       header-alert h g s e = rw (shape-alert kind h g s) (e ∙ row-entry p i m alert k (rw (shape-alert kind h g s) at few))
 
 pub ruleset counts = (fields-nego, fields-exchange, fields-verify, fields-alert)

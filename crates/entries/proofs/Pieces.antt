@@ -59,15 +59,18 @@ count-is p i m =
 module _ (p i : ℕ) (m : List ℕ) (shape : Shape) (k : ℕ) (x : Entry) where
   -- ---- the words of `element_entry`
   module _ (v : Vector) (v-is : v ≡ arrayVector shape m) where
-    pub element-type : k < v .count → (w : ℕ) → w ≡ typeWhat shape → x ≡ fieldEntry p i m w k (v .offset .0 + 12 * k) 4 → x ≡ getD (elementsIn p i m shape) k noEntry
+    pub element-type : k < v .count → (w : ℕ) → w ≡ typeWhat shape → x ≡ fieldEntry p i m w k (v .offset .0 + 12 * k) 4
+        → x ≡ getD (elementsIn p i m shape) k noEntry
     element-type h w w-is e =
         (rw (v-is, w-is) at e)
-        ∙ sym (front-at (typeEntry p i m shape) (arrayVector shape m .count) (listed (valueEntry p i m shape) (arrayVector shape m .count) 0) k (rw v-is at h))
+        ∙ sym (front-at (typeEntry p i m shape) (arrayVector shape m .count) (listed (valueEntry p i m shape) (arrayVector shape m .count) 0) k
+        (rw v-is at h))
 
     pub element-few : k < length (elementsIn p i m shape) → v .count ≤ k → k - v .count < v .count
     element-few h g = let e : v .count ≡ arrayVector shape m .count = ap (λ (u : Vector). u .count) v-is in omega (arith, elements-length p i m shape)
 
-    pub element-value : k < length (elementsIn p i m shape) → v .count ≤ k → (w : ℕ) → w ≡ valueWhat shape → x ≡ fieldEntry p i m w (k - v .count) (v .offset .0 + 12 * (k - v .count) + 4) 8 → x ≡ getD (elementsIn p i m shape) k noEntry
+    pub element-value : k < length (elementsIn p i m shape) → v .count ≤ k → (w : ℕ) → w ≡ valueWhat shape
+        → x ≡ fieldEntry p i m w (k - v .count) (v .offset .0 + 12 * (k - v .count) + 4) 8 → x ≡ getD (elementsIn p i m shape) k noEntry
     element-value h g w w-is e =
         (rw (v-is, w-is) at e)
         ∙ sym (
@@ -108,7 +111,8 @@ module _ (p : ℕ) (m : List ℕ) (kind : ℕ) (kind-is : kind ≡ le 4 m 8) whe
   entry-holds held = record { held = held; is = kind-is }
 
   module _ (i k : ℕ) where
-    pub entry-message : k ≡ 0 → _≡_ {A = Entry} (record { what = 0; message = i; number = 0; value = kind; place = p; length = length m }) (getD (entriesIn p i m) k noEntry)
+    pub entry-message : k ≡ 0 → _≡_ {A = Entry} (record { what = 0; message = i; number = 0; value = kind; place = p; length = length m })
+        (getD (entriesIn p i m) k noEntry)
     unfolding shapedIn headOf
     entry-message z = rw (z, kind-is)
 
@@ -125,7 +129,8 @@ module _ (p : ℕ) (m : List ℕ) (kind : ℕ) (kind-is : kind ≡ le 4 m 8) whe
       entry-header h x e =
           e
           ∙ sym (front-at (headerEntry p i m (shapeOf kind)) (length (fieldsOf (shapeOf kind))) (bodyIn p i m (shapeOf kind)) (k - 1) (omega arith))
-          ∙ sym (behind-first (messageEntry p i m) (listed (headerEntry p i m (shapeOf kind)) (length (fieldsOf (shapeOf kind))) 0 ++ bodyIn p i m (shapeOf kind)) k some)
+          ∙ sym (behind-first (messageEntry p i m)
+          (listed (headerEntry p i m (shapeOf kind)) (length (fieldsOf (shapeOf kind))) 0 ++ bodyIn p i m (shapeOf kind)) k some)
           ∙ ap (λ (shape : Shape). getD (shapedIn p i m shape) k noEntry) own
 
       pub entry-few : k < length (entriesIn p i m) → n ≤ k - 1 → k - 1 - n < length (bodyIn p i m (shapeOf kind))
@@ -138,15 +143,18 @@ module _ (p : ℕ) (m : List ℕ) (kind : ℕ) (kind-is : kind ≡ le 4 m 8) whe
       entry-body h x e =
           (rw n-is at e)
           ∙ sym (rest-at (headerEntry p i m (shapeOf kind)) (length (fieldsOf (shapeOf kind))) (bodyIn p i m (shapeOf kind)) (k - 1) (omega arith))
-          ∙ sym (behind-first (messageEntry p i m) (listed (headerEntry p i m (shapeOf kind)) (length (fieldsOf (shapeOf kind))) 0 ++ bodyIn p i m (shapeOf kind)) k some)
+          ∙ sym (behind-first (messageEntry p i m)
+          (listed (headerEntry p i m (shapeOf kind)) (length (fieldsOf (shapeOf kind))) 0 ++ bodyIn p i m (shapeOf kind)) k some)
           ∙ ap (λ (shape : Shape). getD (shapedIn p i m shape) k noEntry) own
 
 -- ---- the words of `field_entry` and `vector_entry`
-pub field-is : (p i : ℕ) (m : List ℕ) (w k at n x q : ℕ) → x ≡ numberAt n m at → q ≡ p + at → _≡_ {A = Entry} (record { what = w; message = i; number = k; value = x; place = q; length = n }) (fieldEntry p i m w k at n)
+pub field-is : (p i : ℕ) (m : List ℕ) (w k at n x q : ℕ) → x ≡ numberAt n m at → q ≡ p + at
+    → _≡_ {A = Entry} (record { what = w; message = i; number = k; value = x; place = q; length = n }) (fieldEntry p i m w k at n)
 unfolding fieldEntry
 field-is p i m w k at n x q x-is q-is = rw (x-is, q-is)
 
-pub table-is : (p i : ℕ) (m t : List ℕ) (k : ℕ) (x : Entry) → x ≡ fieldEntry p i m (getD t (3 * k) 0) 0 (getD t (3 * k + 1) 0) (getD t (3 * k + 2) 0) → x ≡ tableEntry p i m t k
+pub table-is : (p i : ℕ) (m t : List ℕ) (k : ℕ) (x : Entry) → x ≡ fieldEntry p i m (getD t (3 * k) 0) 0 (getD t (3 * k + 1) 0) (getD t (3 * k + 2) 0)
+    → x ≡ tableEntry p i m t k
 unfolding tableEntry
 table-is p i m t k x e = e
 
@@ -167,7 +175,9 @@ module _ (p : ℕ) (m : List ℕ) (kind : ℕ) (on : Holds p m kind) (k : ℕ) w
     pub length-small : (l : ℕ) → l ≡ extent v → l < 2 ^ 32
     length-small l e = omega (arith, vector-short p m (on .held) k v v-is)
 
-    pub vector-is : (i w n q l : ℕ) → w ≡ vectorWhat (shapeOf kind) k → n ≡ vectorNumber (shapeOf kind) k → q ≡ vectorPlace p v → l ≡ extent v → _≡_ {A = Entry} (record { what = w; message = i; number = n; value = v .offset .0; place = q; length = l }) (vectorEntry p i m (shapeOf kind) k)
+    pub vector-is : (i w n q l : ℕ) → w ≡ vectorWhat (shapeOf kind) k → n ≡ vectorNumber (shapeOf kind) k → q ≡ vectorPlace p v → l ≡ extent v
+        → _≡_ {A = Entry} (record { what = w; message = i; number = n; value = v .offset .0; place = q; length = l })
+        (vectorEntry p i m (shapeOf kind) k)
     unfolding vectorEntry
     vector-is i w n q l w-is n-is q-is l-is = rw (w-is, n-is, q-is, l-is, v-is)
 

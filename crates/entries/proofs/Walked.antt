@@ -35,7 +35,8 @@ use Rattle.entries.proofs.Pieces.{count-is, few-fields}
 drop-least : (l : List Entry) (k : ℕ) → drop (min k (length l)) l ≡ drop k l
 drop-least [] k = drop-nil (min k 0) ∙ sym (drop-nil k)
 drop-least (x ∷ xs) zero = let e : min 0 (length (x ∷ xs)) ≡ 0 = omega arith in ap (λ (j : ℕ). drop j (x ∷ xs)) e
-drop-least (x ∷ xs) (suc k) = let e : min (suc k) (length (x ∷ xs)) ≡ suc (min k (length xs)) = omega arith in ap (λ (j : ℕ). drop j (x ∷ xs)) e ∙ drop-least xs k
+drop-least (x ∷ xs) (suc k) =
+    let e : min (suc k) (length (x ∷ xs)) ≡ suc (min k (length xs)) = omega arith in ap (λ (j : ℕ). drop j (x ∷ xs)) e ∙ drop-least xs k
 
 take-least : (l : List Entry) (k : ℕ) → take (min (length l) k) l ≡ take k l
 take-least [] k = take-nil (min 0 k) ∙ sym (take-nil k)
@@ -72,7 +73,13 @@ unfolding entryOctets
 octets-length [] = refl
 octets-length (x ∷ xs) =
     let six = numbers (x .what ∷ x .message ∷ x .number ∷ x .value ∷ x .place ∷ x .length ∷ []) in
-    omega (arith, length-append six (entryOctets xs), length-numbers (x .what ∷ x .message ∷ x .number ∷ x .value ∷ x .place ∷ x .length ∷ []), octets-length xs)
+    omega (
+      arith,
+      length-append six (entryOctets xs),
+      length-numbers
+          (x .what ∷ x .message ∷ x .number ∷ x .value ∷ x .place ∷ x .length ∷ []),
+      octets-length xs,
+    )
 
 same-both : (a b : ℕ) → a ≤ b → b ≤ a → b ≡ a
 same-both a b h g = omega arith
@@ -84,10 +91,12 @@ short-most : (a b : ℕ) → min a b ≤ a
 short-most a b = omega arith
 
 -- ---- the words of `put_message`
-pub part-number : (p i : ℕ) (m : List ℕ) (begin k n count room : ℕ) → n ≡ countIn m → count ≡ min (n - begin) room → k < count → begin + k < length (entriesIn p i m)
+pub part-number : (p i : ℕ) (m : List ℕ) (begin k n count room : ℕ) → n ≡ countIn m → count ≡ min (n - begin) room → k < count
+    → begin + k < length (entriesIn p i m)
 part-number p i m begin k n count room n-is count-is' h = omega (arith, count-is p i m)
 
-module _ (p i : ℕ) (m : List ℕ) (d : List ℕ) (at n begin count : ℕ) (n-is : n ≡ countIn m) (count-is' : count ≡ min (n - begin) ((length d - at) / 24)) where
+module _ (p i : ℕ) (m : List ℕ) (d : List ℕ) (at n begin count : ℕ) (n-is : n ≡ countIn m)
+    (count-is' : count ≡ min (n - begin) ((length d - at) / 24)) where
   E : List Entry
   E = entriesIn p i m
 
@@ -107,10 +116,15 @@ module _ (p i : ℕ) (m : List ℕ) (d : List ℕ) (at n begin count : ℕ) (n-i
     unfolding Filled E
     part-all from begin-is h g =
         let rest : drop begin E ≡ drop from E = ap (λ (j : ℕ). drop j E) (begin-is ∙ ap (min from) (sym E-length)) ∙ drop-least E from in
-        let left : n - begin ≡ length (drop from E) = least-gap n from begin begin-is ∙ ap (λ (j : ℕ). j - from) (sym E-length) ∙ sym (length-drop from E) in
-        let k-is : k ≡ min (length (drop from E)) ((length d - at) / 24) = same-both count k h g ∙ count-is' ∙ ap (λ (j : ℕ). min j ((length d - at) / 24)) left in
-        let shown : take k (drop begin E) ≡ take ((length d - at) / 24) (drop from E) = ap (take k) rest ∙ ap (λ (j : ℕ). take j (drop from E)) k-is ∙ take-least (drop from E) ((length d - at) / 24) in
-        let few : k ≤ length (drop begin E) = subst (λ (l : List Entry). k ≤ length l) (sym rest) (subst (λ (j : ℕ). j ≤ length (drop from E)) (sym k-is) (short-most (length (drop from E)) ((length d - at) / 24))) in
+        let left : n - begin ≡ length (drop from E) =
+        least-gap n from begin begin-is ∙ ap (λ (j : ℕ). j - from) (sym E-length) ∙ sym (length-drop from E) in
+        let k-is : k ≡ min (length (drop from E)) ((length d - at) / 24) =
+        same-both count k h g ∙ count-is' ∙ ap (λ (j : ℕ). min j ((length d - at) / 24)) left in
+        let shown : take k (drop begin E) ≡ take ((length d - at) / 24) (drop from E) =
+        ap (take k) rest ∙ ap (λ (j : ℕ). take j (drop from E)) k-is ∙ take-least (drop from E) ((length d - at) / 24) in
+        let few : k ≤ length (drop begin E) =
+        subst (λ (l : List Entry). k ≤ length l) (sym rest)
+        (subst (λ (j : ℕ). j ≤ length (drop from E)) (sym k-is) (short-most (length (drop from E)) ((length d - at) / 24))) in
         let long : k ≡ length (take k (drop begin E)) = sym (length-take-le k (drop begin E) few) in
         subst (λ (l : List Entry). Written d at (24 * length l) (entryOctets l) e next) shown
         (subst (λ (j : ℕ). Written d at (24 * j) (entryOctets (take k (drop begin E))) e next) long on)
@@ -121,17 +135,21 @@ module _ (p i : ℕ) (m : List ℕ) (d : List ℕ) (at n begin count : ℕ) (n-i
 
       pub part-room : next + 24 ≤ length e
       part-room =
-          let l : length e ≡ length d = ap length (on .holds) ∙ length-put d at (entryOctets (take k (drop begin (entriesIn p i m)))) (omega (arith, on .size)) in
+          let l : length e ≡ length d =
+          ap length (on .holds) ∙ length-put d at (entryOctets (take k (drop begin (entriesIn p i m)))) (omega (arith, on .size)) in
           omega (arith, on .after)
 
-      pub part-next : (x : Entry) → x ≡ getD (entriesIn p i m) (begin + k) noEntry → (e' : List ℕ) (next' : ℕ) → Written e next 24 (entryOctets (x ∷ [])) e' next' → Part (k + 1) e' next'
+      pub part-next : (x : Entry) → x ≡ getD (entriesIn p i m) (begin + k) noEntry → (e' : List ℕ) (next' : ℕ)
+          → Written e next 24 (entryOctets (x ∷ [])) e' next' → Part (k + 1) e' next'
       unfolding E
       part-next x x-is e' next' w =
           let size : 24 * k + 24 ≡ 24 * (k + 1) = omega arith in
           let few : k < length (drop begin E) = omega (arith, length-drop begin E, E-length) in
           let one : take (k + 1) (drop begin E) ≡ take k (drop begin E) ++ (x ∷ []) =
-          (rw add-one (take-suc (drop begin E) k noEntry few)) ∙ ap (λ (y : Entry). take k (drop begin E) ++ (y ∷ [])) (getD-drop begin E k noEntry ∙ sym x-is) in
-          let is : entryOctets (take k (drop begin E)) ++ entryOctets (x ∷ []) ≡ entryOctets (take (k + 1) (drop begin E)) = sym (ap entryOctets one ∙ octets-append (take k (drop begin E)) (x ∷ [])) in
+          (rw add-one (take-suc (drop begin E) k noEntry few))
+          ∙ ap (λ (y : Entry). take k (drop begin E) ++ (y ∷ [])) (getD-drop begin E k noEntry ∙ sym x-is) in
+          let is : entryOctets (take k (drop begin E)) ++ entryOctets (x ∷ []) ≡ entryOctets (take (k + 1) (drop begin E)) =
+          sym (ap entryOctets one ∙ octets-append (take k (drop begin E)) (x ∷ [])) in
           subst (λ (l : List ℕ). Written d at (24 * (k + 1)) l e' next') is
           (subst (λ (j : ℕ). Written d at j (entryOctets (take k (drop begin E)) ++ entryOctets (x ∷ [])) e' next') size
           (both-written (omega arith) on w))
@@ -139,7 +157,8 @@ module _ (p i : ℕ) (m : List ℕ) (d : List ℕ) (at n begin count : ℕ) (n-i
 pub ruleset parts = (part-none, part-all, part-place, part-number, part-room, part-next)
 
 -- ---- entries that are put, and more behind them
-fill-more : (d : List ℕ) (xs ys : List Entry) (e : List ℕ) (next : ℕ) (e' : List ℕ) (next' : ℕ) → Filled d 0 xs e next → Filled e next ys e' next' → Filled d 0 (xs ++ ys) e' next'
+fill-more : (d : List ℕ) (xs ys : List Entry) (e : List ℕ) (next : ℕ) (e' : List ℕ) (next' : ℕ) → Filled d 0 xs e next → Filled e next ys e' next'
+    → Filled d 0 (xs ++ ys) e' next'
 unfolding Filled
 fill-more d xs ys e next e' next' a b =
     let R = (length d - 0) / 24 in
@@ -159,13 +178,15 @@ module _ (p : ℕ) (m : List ℕ) (held : Held p m) where
   few-ids : 16 * idsVector (shapeOf (headOf m .kind)) m .count ≤ length m
   few-ids = elim (which (eqb (idsVector (shapeOf (headOf m .kind)) m .count) 0)) [
     | inl e ↦ let z : idsVector (shapeOf (headOf m .kind)) m .count ≡ 0 = eqb-true _ _ e in omega arith
-    | inr e ↦ let z : (idsVector (shapeOf (headOf m .kind)) m .count ≡ 0) → ⊥ = eqb-false _ _ e in omega (arith, ids-inside p m held (shapeOf (headOf m .kind)) refl 0 (omega arith))
+    | inr e ↦ let z : (idsVector (shapeOf (headOf m .kind)) m .count ≡ 0) → ⊥ =
+        eqb-false _ _ e in omega (arith, ids-inside p m held (shapeOf (headOf m .kind)) refl 0 (omega arith))
   ]
 
   few-elements : 12 * arrayVector (shapeOf (headOf m .kind)) m .count ≤ length m
   few-elements = elim (which (eqb (arrayVector (shapeOf (headOf m .kind)) m .count) 0)) [
     | inl e ↦ let z : arrayVector (shapeOf (headOf m .kind)) m .count ≡ 0 = eqb-true _ _ e in omega arith
-    | inr e ↦ let z : (arrayVector (shapeOf (headOf m .kind)) m .count ≡ 0) → ⊥ = eqb-false _ _ e in omega (arith, array-inside p m held (shapeOf (headOf m .kind)) refl 0 (omega arith))
+    | inr e ↦ let z : (arrayVector (shapeOf (headOf m .kind)) m .count ≡ 0) → ⊥ =
+        eqb-false _ _ e in omega (arith, array-inside p m held (shapeOf (headOf m .kind)) refl 0 (omega arith))
   ]
 
   few-entries : countIn m ≤ length m
@@ -217,10 +238,18 @@ module _ (T : List Entry) (rest : List ℕ) (place i : ℕ) (done : List Entry) 
           come =
               on .come
               ∙ ap (λ (ms : List (List ℕ)). done ++ entriesFrom i (placedFrom place ms)) (here .messages)
-              ∙ (unfold entriesFrom in sym (append-assoc done (entriesIn place i (firstOf rest)) (entriesFrom (i + 1) (placedFrom (place + length (firstOf rest)) (here .left .ms)))));
+              ∙ (unfold entriesFrom in sym
+              (append-assoc done (entriesIn place i (firstOf rest))
+              (entriesFrom (i + 1) (placedFrom (place + length (firstOf rest)) (here .left .ms)))));
           few =
               let a = on .few in
-              omega (arith, length-append done (entriesIn place i (firstOf rest)), count-is place i (firstOf rest), few-entries place (firstOf rest) (subst (Held place) m-is (walked-held place (omega arith))));
+              omega (
+                arith,
+                length-append done (entriesIn place i (firstOf rest)),
+                count-is place i (firstOf rest),
+                few-entries place (firstOf rest)
+                    (subst (Held place) m-is (walked-held place (omega arith))),
+              );
           early = let a = on .early in omega (arith, here .some);
         }))
 
@@ -280,10 +309,13 @@ shown-begin s a d from =
       done = [];
       walked = walked-begin s a;
       skipped = z;
-      written = subst (λ (l : List Entry). Written d 0 (24 * length l) (entryOctets l) d 0) (sym none) (record { size = refl; after = refl; holds = sym (put-none d 0) });
+      written =
+          subst (λ (l : List Entry). Written d 0 (24 * length l) (entryOctets l) d 0) (sym none)
+          (record { size = refl; after = refl; holds = sym (put-none d 0) });
     }
 
-module _ (T : List Entry) (d : List ℕ) (from : ℕ) (rest : List ℕ) (place i skip : ℕ) (e : List ℕ) (next : ℕ) (on : Shown T d from rest place i skip e next) where
+module _ (T : List Entry) (d : List ℕ) (from : ℕ) (rest : List ℕ) (place i skip : ℕ) (e : List ℕ) (next : ℕ)
+    (on : Shown T d from rest place i skip e next) where
   pub shown-end : length rest ≤ 0 → Filled d 0 (drop from T) e next
   shown-end h = subst (λ (l : List Entry). Filled d 0 (drop from l) e next) (walked-end T rest place i (on .done) (on .walked) h) (on .written)
 
@@ -314,10 +346,14 @@ module _ (T : List Entry) (d : List ℕ) (from : ℕ) (rest : List ℕ) (place i
     shown-room =
         let A = take ((length d - 0) / 24) (drop from (on .done)) in
         let w : Written d 0 (24 * length A) (entryOctets A) e next = on .written in
-        let l : length e ≡ length d = ap length (w .holds) ∙ length-put d 0 (entryOctets A) (omega (arith, octets-length A, length-take ((length d - 0) / 24) (drop from (on .done)))) in
+        let l : length e ≡ length d =
+        ap length (w .holds) ∙ length-put d 0 (entryOctets A)
+        (omega (arith, octets-length A, length-take ((length d - 0) / 24) (drop from (on .done)))) in
         omega (arith, w .after, length-take ((length d - 0) / 24) (drop from (on .done)))
 
-    pub shown-on : (e' : List ℕ) (next' place' skip' c : ℕ) → c ≡ countIn m → place' ≡ place + length m → skip' ≡ skip - c → Filled e next (drop skip (entriesIn place i m)) e' next' → Shown T d from (take (length rest - length m) (drop (length m) rest)) place' (i + 1) skip' e' next'
+    pub shown-on : (e' : List ℕ) (next' place' skip' c : ℕ) → c ≡ countIn m → place' ≡ place + length m → skip' ≡ skip - c
+        → Filled e next (drop skip (entriesIn place i m)) e' next'
+        → Shown T d from (take (length rest - length m) (drop (length m) rest)) place' (i + 1) skip' e' next'
     shown-on e' next' place' skip' c c-is place-is skip-is w =
         let both : drop from (on .done) ++ drop skip (entriesIn place i m) ≡ drop from (on .done ++ entriesIn place i m) =
         ap (λ (j : ℕ). drop from (on .done) ++ drop j (entriesIn place i m)) (on .skipped) ∙ sym (drop-both (on .done) (entriesIn place i m) from) in
@@ -326,13 +362,17 @@ module _ (T : List Entry) (d : List ℕ) (from : ℕ) (rest : List ℕ) (place i
           done = on .done ++ entriesIn place i m;
           walked = walked-on T rest place i (on .done) (on .walked) more m m-is;
           skipped = let s = on .skipped in omega (arith, length-append (on .done) (entriesIn place i m), count-is place i m);
-          written = subst (λ (l : List Entry). Filled d 0 l e' next') both (fill-more d (drop from (on .done)) (drop skip (entriesIn place i m)) e next e' next' (on .written) w);
+          written =
+              subst (λ (l : List Entry). Filled d 0 l e' next') both
+              (fill-more d (drop from (on .done)) (drop skip (entriesIn place i m)) e next e' next' (on .written) w);
         })
 
-pub ruleset shows = (shown-begin, shown-end, shown-fits, shown-less, shown-held, shown-message, shown-small, shown-place, shown-next, shown-room, shown-on)
+pub ruleset shows =
+    (shown-begin, shown-end, shown-fits, shown-less, shown-held, shown-message, shown-small, shown-place, shown-next, shown-room, shown-on)
 
 -- ---- an accepted token has no more entries than octets
-few-from : (ms : List (List ℕ)) (place i q : ℕ) (v : List ℕ) → Numbered q v ms → place + length (join ms) ≤ 65535 → length (entriesFrom i (placedFrom place ms)) ≤ length (join ms)
+few-from : (ms : List (List ℕ)) (place i q : ℕ) (v : List ℕ) → Numbered q v ms → place + length (join ms) ≤ 65535
+    → length (entriesFrom i (placedFrom place ms)) ≤ length (join ms)
 unfolding entriesFrom
 few-from [] place i q v e h = omega arith
 few-from (m ∷ ms) place i q v e h =
@@ -350,4 +390,10 @@ pub entries-few : EntriesFew
 entries-few s ps e =
     let (ms, (split, places)) = accepted-splits s ps e in
     let same : length (entriesOf (placedFrom 0 ms)) ≡ length (entriesOf ps) = ap (λ (l : List Placed). length (entriesOf l)) places in
-    omega (arith, same, ap length (split .joins), few-from ms 0 0 (headOf s .sequence) (headOf s .conversation) (split .numbered) (omega (arith, split .short, ap length (split .joins))))
+    omega (
+      arith,
+      same,
+      ap length (split .joins),
+      few-from ms 0 0 (headOf s .sequence) (headOf s .conversation) (split .numbered)
+          (omega (arith, split .short, ap length (split .joins))),
+    )

@@ -46,10 +46,15 @@ FieldsRead =
       length = le (fieldAt shape 4 .size) m (fieldAt shape 4 .at);
       conversation = octets (fieldAt shape 5 .size) m (fieldAt shape 5 .at);
     }) (headOf m))
-    × ((Nego (octets (fieldAt nego 6 .size) m (fieldAt nego 6 .at)) (le (fieldAt nego 7 .size) m (fieldAt nego 7 .at)) (vectorAt 16 m (fieldAt nego 8 .at)) (vectorAt 12 m (fieldAt nego 10 .at)) (elementsOf (part m (vectorAt 12 m (fieldAt nego 10 .at)))) ≡ contentOf nego m)
+    × ((Nego (octets (fieldAt nego 6 .size) m (fieldAt nego 6 .at)) (le (fieldAt nego 7 .size) m (fieldAt nego 7 .at))
+    (vectorAt 16 m (fieldAt nego 8 .at)) (vectorAt 12 m (fieldAt nego 10 .at)) (elementsOf (part m (vectorAt 12 m (fieldAt nego 10 .at))))
+    ≡ contentOf nego m)
     × ((Exchange (octets (fieldAt exchange 6 .size) m (fieldAt exchange 6 .at)) (octetVector m (fieldAt exchange 7 .at)) ≡ contentOf exchange m)
-    × ((Verify (octets (fieldAt verify 6 .size) m (fieldAt verify 6 .at)) (le (fieldAt verify 7 .size) m (fieldAt verify 7 .at)) (le (fieldAt verify 8 .size) m (fieldAt verify 8 .at)) (le (fieldAt verify 9 .size) m (fieldAt verify 9 .at)) (octetVector m (fieldAt verify 10 .at)) ≡ contentOf verify m)
-    × (Alert (octets (fieldAt alert 6 .size) m (fieldAt alert 6 .at)) (le (fieldAt alert 7 .size) m (fieldAt alert 7 .at)) (vectorAt 12 m (fieldAt alert 8 .at)) (elementsOf (part m (vectorAt 12 m (fieldAt alert 8 .at)))) ≡ contentOf alert m))))
+    × ((Verify (octets (fieldAt verify 6 .size) m (fieldAt verify 6 .at)) (le (fieldAt verify 7 .size) m (fieldAt verify 7 .at))
+    (le (fieldAt verify 8 .size) m (fieldAt verify 8 .at)) (le (fieldAt verify 9 .size) m (fieldAt verify 9 .at))
+    (octetVector m (fieldAt verify 10 .at)) ≡ contentOf verify m)
+    × (Alert (octets (fieldAt alert 6 .size) m (fieldAt alert 6 .at)) (le (fieldAt alert 7 .size) m (fieldAt alert 7 .at))
+    (vectorAt 12 m (fieldAt alert 8 .at)) (elementsOf (part m (vectorAt 12 m (fieldAt alert 8 .at)))) ≡ contentOf alert m))))
 
 abbrev pub EntriesFew : Type 0
 EntriesFew = (s : List ℕ) (ms : List Placed) → tokenOf s ≡ Accepted ms → length (entriesOf ms) ≤ length s

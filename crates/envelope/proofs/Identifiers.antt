@@ -32,7 +32,8 @@ identifiers-forth zero s ms e = go (which (filled s)) where
   go (inl b) = let (q, e1, e2) = bind-ok (cut 0x06 any s) _ ms (rw b at e) in no-ok 23 ms e2
   go (inr b) = let is : [] ≡ ms = cc (rw b at e) in rw (← is) (filled-false s b, omega arith)
 identifiers-forth (suc k) s ms e = go (which (filled s)) (λ s' ms'. identifiers-forth k s' ms') where
-  go : (filled s ≡ true) ⊎ (filled s ≡ false) → ((s' : List ℕ) (ms' : List (List ℕ)) → identifiersOf k s' ≡ ok ms' → (s' ≡ identifiers ms') × (length ms' ≤ k))
+  go : (filled s ≡ true) ⊎ (filled s ≡ false)
+      → ((s' : List ℕ) (ms' : List (List ℕ)) → identifiersOf k s' ≡ ok ms' → (s' ≡ identifiers ms') × (length ms' ≤ k))
       → (s ≡ identifiers ms) × (length ms ≤ suc k)
   go (inl b) f =
       let (q, e1, e2) = bind-ok (cut 0x06 any s) _ ms (rw b at e) in

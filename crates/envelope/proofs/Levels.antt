@@ -54,13 +54,19 @@ module _ (s : List ℕ) (at end t : ℕ) (h : Holder s at end) (c : Cut) (says :
   pub level-holder : (b d : ℕ) → c ≡ Element b d → Holder s b d
   level-holder b d e = holder-in says b d e h
 
-  pub level-read : (body : List ℕ → Got Envelope) (b d : ℕ) → c ≡ Element b d → (r x : Read) → Reads s d (body (part s b d)) r → x ≡ closedRead (eqb d end) r
+  pub level-read : (body : List ℕ → Got Envelope) (b d : ℕ) → c ≡ Element b d → (r x : Read) → Reads s d (body (part s b d)) r
+      → x ≡ closedRead (eqb d end) r
       → Reads s end (only t any body (part s at end)) x
   unfolding only within
   level-read body b d e r x r-says x-is =
       let behind = holder-behind says b d e h in
-      rw x-is (record { same = closing s d end behind (eqb d end) refl r ∙ two (told s r) ∙ rw (got-ok says b d e, ← r-says .same); placed = kept s d end behind (eqb d end) refl r (r-says .placed) }) where
-        two : (g : Got Envelope) → bind g (closed (part s d end)) ≡ bind (bind {B = Part Envelope} g (λ a. ok (record { value = a; rest = part s d end }))) (λ q. closed (q .rest) (q .value))
+      rw x-is
+      (record {
+        same = closing s d end behind (eqb d end) refl r ∙ two (told s r) ∙ rw (got-ok says b d e, ← r-says .same);
+        placed = kept s d end behind (eqb d end) refl r (r-says .placed);
+      }) where
+        two : (g : Got Envelope) → bind g (closed (part s d end))
+            ≡ bind (bind {B = Part Envelope} g (λ a. ok (record { value = a; rest = part s d end }))) (λ q. closed (q .rest) (q .value))
         two (ok a) = refl
         two (no n) = refl
 
@@ -75,7 +81,8 @@ module _ (s : List ℕ) (at end : ℕ) (h : Holder s at end) (c : Cut) (says : C
   pub wrapped-behind : (b d : ℕ) → c ≡ Element b d → Holder s d end
   wrapped-behind b d e = holder-behind says b d e h
 
-  pub wrapped-read : (b d : ℕ) → c ≡ Element b d → (r : Read) → Reads s end (only 0xA0 any (only 0x30 any initOf) (part s d end)) r → Reads s end (wrappedOf (part s at end)) r
+  pub wrapped-read : (b d : ℕ) → c ≡ Element b d → (r : Read) → Reads s end (only 0xA0 any (only 0x30 any initOf) (part s d end)) r
+      → Reads s end (wrappedOf (part s at end)) r
   unfolding wrappedOf
   wrapped-read b d e r r-says = record { same = sym (rw (got-ok says b d e) (sym (r-says .same))); placed = r-says .placed }
 
@@ -102,7 +109,8 @@ module _ (s : List ℕ) where
           let z : starts 0x60 s ≡ true = rw whole at (sym w-is ∙ h) in
           record { same = (rw whole at (e .same)) ∙ rw (le-leb (length s) 65535 short, z); placed = e .placed }
 
-      pub envelope-resp : w ≡ false → Reads s (length s) (only 0xA1 any (only 0x30 any respOf) (part s 0 (length s))) r → Reads s (length s) (envelopeOf s) r
+      pub envelope-resp : w ≡ false → Reads s (length s) (only 0xA1 any (only 0x30 any respOf) (part s 0 (length s))) r
+          → Reads s (length s) (envelopeOf s) r
       unfolding envelopeOf check
       envelope-resp h e =
           let z : starts 0x60 s ≡ false = rw whole at (sym w-is ∙ h) in

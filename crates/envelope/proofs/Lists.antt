@@ -94,18 +94,22 @@ unfolding leftOf identifiersOf
 left-is zero v = go (which (filled v)) where
   go : (filled v ≡ true) ⊎ (filled v ≡ false) → leftOf 0 v ≡ bind (identifiersOf 0 v) (λ ms. ok (0 - length ms))
   go (inl e) = rw e (two (cut 0x06 any v)) where
-    two : (g : Got (Part (List ℕ))) → _≡_ {A = Got ℕ} (bind g (λ q. no 23)) (bind (bind {B = List (List ℕ)} g (λ q. no 23)) (λ ms. ok (0 - length ms)))
+    two : (g : Got (Part (List ℕ)))
+        → _≡_ {A = Got ℕ} (bind g (λ q. no 23)) (bind (bind {B = List (List ℕ)} g (λ q. no 23)) (λ ms. ok (0 - length ms)))
     two (ok q) = refl
     two (no n) = refl
   go (inr e) = rw e
 left-is (suc k) v = go (which (filled v)) (left-is k) where
-  go : (filled v ≡ true) ⊎ (filled v ≡ false) → ((w : List ℕ) → leftOf k w ≡ bind (identifiersOf k w) (λ ms. ok (k - length ms))) → leftOf (suc k) v ≡ bind (identifiersOf (suc k) v) (λ ms. ok (suc k - length ms))
+  go : (filled v ≡ true) ⊎ (filled v ≡ false) → ((w : List ℕ) → leftOf k w ≡ bind (identifiersOf k w) (λ ms. ok (k - length ms)))
+      → leftOf (suc k) v ≡ bind (identifiersOf (suc k) v) (λ ms. ok (suc k - length ms))
   go (inl e) f = rw e (two (cut 0x06 any v)) where
-    three : (m : List ℕ) (g : Got (List (List ℕ))) → bind g (λ ms. ok (k - length ms)) ≡ bind (bind g (λ ms. ok (m ∷ ms))) (λ ms. ok (suc k - length ms))
+    three : (m : List ℕ) (g : Got (List (List ℕ)))
+        → bind g (λ ms. ok (k - length ms)) ≡ bind (bind g (λ ms. ok (m ∷ ms))) (λ ms. ok (suc k - length ms))
     three m (ok ms) = let z : k - length ms ≡ suc k - suc (length ms) = omega arith in ap ok z
     three m (no n) = refl
 
-    two : (g : Got (Part (List ℕ))) → bind g (λ q. leftOf k (q .rest)) ≡ bind (bind g (λ q. bind (identifiersOf k (q .rest)) (λ ms. ok (q .value ∷ ms)))) (λ ms. ok (suc k - length ms))
+    two : (g : Got (Part (List ℕ))) → bind g (λ q. leftOf k (q .rest))
+        ≡ bind (bind g (λ q. bind (identifiersOf k (q .rest)) (λ ms. ok (q .value ∷ ms)))) (λ ms. ok (suc k - length ms))
     two (ok q) = f (q .rest) ∙ three (q .value) (identifiersOf k (q .rest))
     two (no n) = refl
   go (inr e) f = let z : suc k ≡ suc k - 0 = omega arith in rw e (ap ok z)
@@ -113,7 +117,8 @@ left-is (suc k) v = go (which (filled v)) (left-is k) where
 count-is : (v : List ℕ) → countOf v ≡ bind (listOf v) (λ ms. ok (16 - length ms))
 unfolding countOf listOf check
 count-is v = go (filled v) (left-is 16 v) where
-  go : (b : Bool) → leftOf 16 v ≡ bind (identifiersOf 16 v) (λ ms. ok (16 - length ms)) → check b 20 (leftOf 16 v) ≡ bind (check b 20 (identifiersOf 16 v)) (λ ms. ok (16 - length ms))
+  go : (b : Bool) → leftOf 16 v ≡ bind (identifiersOf 16 v) (λ ms. ok (16 - length ms))
+      → check b 20 (leftOf 16 v) ≡ bind (check b 20 (identifiersOf 16 v)) (λ ms. ok (16 - length ms))
   go true e = e
   go false e = refl
 
@@ -171,7 +176,11 @@ module _ (s : List ℕ) (at end : ℕ) (h : Holder s at end) (x : Cut) (says : C
         module _ (i : Counted) (i-is : toldCount i ≡ countOf (part s c d)) where
           pub list-refused : (n : ℕ) → i ≡ counts.Refused n → Says (lists.Refused n)
           unfolding within only
-          list-refused n k = record { same = sym (rw (got-ok says b e x-is, got-ok says' c d y-is, list-no (part s c d) n (sym i-is ∙ ap toldCount k))); placed = tt }
+          list-refused n k =
+              record {
+                same = sym (rw (got-ok says b e x-is, got-ok says' c d y-is, list-no (part s c d) n (sym i-is ∙ ap toldCount k)));
+                placed = tt;
+              }
 
           module _ (n : ℕ) (i-ok : i ≡ counts.Left n) where
             listing : Listing (part s c d) n
@@ -188,9 +197,15 @@ module _ (s : List ℕ) (at end : ℕ) (h : Holder s at end) (x : Cut) (says : C
 
             pub list-left : (d ≡ e → ⊥) → Says (lists.Refused 22)
             unfolding within only
-            list-left k = record { same = sym (rw (got-ok says b e x-is, got-ok says' c d y-is, listed, closed-left s d e behind (mechanismsIn (part s c d)) k)); placed = tt }
+            list-left k =
+                record {
+                  same = sym
+                      (rw (got-ok says b e x-is, got-ok says' c d y-is, listed, closed-left s d e behind (mechanismsIn (part s c d)) k));
+                  placed = tt;
+                }
 
-            found : (ms : List (List ℕ)) → listOf (part s c d) ≡ ok ms → d ≡ e → mechanismsOf (part s at end) ≡ ok (record { value = ms; rest = part s e end })
+            found : (ms : List (List ℕ)) → listOf (part s c d) ≡ ok ms → d ≡ e
+                → mechanismsOf (part s at end) ≡ ok (record { value = ms; rest = part s e end })
             unfolding within only
             found ms is k = rw (got-ok says b e x-is, got-ok says' c d y-is, is, closed-end s d e behind ms k)
 
@@ -199,7 +214,10 @@ module _ (s : List ℕ) (at end : ℕ) (h : Holder s at end) (x : Cut) (says : C
                 let o = list-inner in
                 record {
                   same = sym (found (mechanismsIn (part s c d)) listed k);
-                  placed = (record { order = o .order; inside = o .inside; counted = listing .number ∙ ap length (sym (in-holder s c d list-inner)) }, holder-behind says b e x-is h);
+                  placed = (
+                    record { order = o .order; inside = o .inside; counted = listing .number ∙ ap length (sym (in-holder s c d list-inner)) },
+                    holder-behind says b e x-is h,
+                  );
                 }
 
 pub ruleset listings = (list-outer-no, list-outer, list-inner-no, list-inner, list-refused, list-count, list-left, list-found)

@@ -85,15 +85,19 @@ module _ (s : List ℕ) (at end t u : ℕ) (h : Holder s at end) (w : Bool) (w-i
       pub option-holder : Holder s b d
       option-holder = holder-in says b d c-is h
 
-      pub option-found : (p : List ℕ → Bool) (x : Cut) → Cuts s b d (cut u p (part s b d)) x → (r : Optional) → r ≡ soleField x d → Optionals s end (optional t u p (part s at end)) r
+      pub option-found : (p : List ℕ → Bool) (x : Cut) → Cuts s b d (cut u p (part s b d)) x → (r : Optional) → r ≡ soleField x d
+          → Optionals s end (optional t u p (part s at end)) r
       unfolding optional field within
       option-found p x x-says r r-is =
           let q = sole-is s b d u p option-holder x x-says in
           rw r-is (go (soleField x d) (q .0) (q .1)) where
-            go : (r : Optional) → toldField s b d u p option-holder r ≡ sole u p (part s b d) → Ends s b d u p option-holder r → Optionals s end (optional t u p (part s at end)) r
+            go : (r : Optional) → toldField s b d u p option-holder r ≡ sole u p (part s b d) → Ends s b d u p option-holder r
+                → Optionals s end (optional t u p (part s at end)) r
             go (optionals.Field f next) e k =
                 record {
-                  same = sym (rw (← w-is, there, got-ok says b d c-is, ← e) (ap (λ (n : ℕ). ok (record { value = shown s f; rest = part s n end })) (sym (k .1))));
+                  same = sym
+                      (rw (← w-is, there, got-ok says b d c-is, ← e)
+                      (ap (λ (n : ℕ). ok (record { value = shown s f; rest = part s n end })) (sym (k .1))));
                   placed = record { ends = k .0; behind = rw (k .1) (holder-behind says b d c-is h) };
                 }
             go (optionals.Refused n) e k = record { same = sym (rw (← w-is, there, got-ok says b d c-is, ← e)); placed = tt }

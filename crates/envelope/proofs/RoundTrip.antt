@@ -39,7 +39,8 @@ suits-any t u none = tt
 suits-any t u (some c) = refl
 
 -- The list of mechanisms.
-mechanisms-forth : (s : List ℕ) (q : Part (List (List ℕ))) → mechanismsOf s ≡ ok q → (s ≡ element 0xA0 (element 0x30 (identifiers (q .value))) ++ q .rest) × Some (q .value)
+mechanisms-forth : (s : List ℕ) (q : Part (List (List ℕ))) → mechanismsOf s ≡ ok q
+    → (s ≡ element 0xA0 (element 0x30 (identifiers (q .value))) ++ q .rest) × Some (q .value)
 mechanisms-forth = within-forth 0xA0 any (only 0x30 any listOf) (λ ms. element 0x30 (identifiers ms)) Some
     (only-forth 0x30 any listOf identifiers Some list-forth)
 
@@ -69,7 +70,8 @@ module _ (v : ℕ) (q : Tail) where
   third-out : (u : ℕ) → (0xA3 ≡ u → ⊥) → starts u (fieldOctets 0xA3 0x04 (q .checksum) ++ []) ≡ false
   third-out u h = starts-past u 0xA3 0x04 (q .checksum) [] h (nil-starts u)
 
-  second-out : (u : ℕ) → (0xA2 ≡ u → ⊥) → (0xA3 ≡ u → ⊥) → starts u (fieldOctets 0xA2 0x04 (q .token) ++ (fieldOctets 0xA3 0x04 (q .checksum) ++ [])) ≡ false
+  second-out : (u : ℕ) → (0xA2 ≡ u → ⊥) → (0xA3 ≡ u → ⊥)
+      → starts u (fieldOctets 0xA2 0x04 (q .token) ++ (fieldOctets 0xA3 0x04 (q .checksum) ++ [])) ≡ false
   second-out u h i = starts-past u 0xA2 0x04 (q .token) _ h (third-out u i)
 
   tail-out : (u : ℕ) → (0xA1 ≡ u → ⊥) → (0xA2 ≡ u → ⊥) → (0xA3 ≡ u → ⊥) → starts u (tail v q) ≡ false
@@ -163,14 +165,17 @@ unfolding wrappedOf wrapped
 wrapped-forth s e h g =
     let (q, g1, g2) = bind-ok (cut 0x06 (exactly spnego) s) _ e g in
     let (s-is, right) = cut-forth 0x06 (exactly spnego) s q g1 in
-    let (r-is, good) = only-forth 0xA0 any (only 0x30 any initOf) (λ a. element 0x30 (inner a)) GoodInit (only-forth 0x30 any initOf inner GoodInit init-forth) (q .rest) e refl g2 in
+    let (r-is, good) =
+    only-forth 0xA0 any (only 0x30 any initOf) (λ a. element 0x30 (inner a)) GoodInit (only-forth 0x30 any initOf inner GoodInit init-forth)
+    (q .rest) e refl g2 in
     (s-is ∙ rw (same-eq (q .value) spnego right, r-is), good)
 
 wrapped-back : Back wrappedOf wrapped GoodInit
 unfolding wrappedOf wrapped
 wrapped-back e g h =
     rw (cut-back 0x06 (exactly spnego) spnego (element 0xA0 (element 0x30 (inner e))) (omega arith) (same-refl spnego))
-    (only-back 0xA0 any (only 0x30 any initOf) (λ a. element 0x30 (inner a)) GoodInit (only-back 0x30 any initOf inner GoodInit init-back (λ a k. refl)) (λ a k. refl) e g
+    (only-back 0xA0 any (only 0x30 any initOf) (λ a. element 0x30 (inner a)) GoodInit
+    (only-back 0x30 any initOf inner GoodInit init-back (λ a k. refl)) (λ a k. refl) e g
     (behind (element 0x06 spnego) (element 0xA0 (element 0x30 (inner e))) h))
 
 -- The whole.
@@ -192,13 +197,17 @@ resp-whole (Resp x m t k) g = record { octets = refl; is-fine = g; is-few = refl
 pub read-encoded : ReadEncoded
 unfolding envelopeOf
 read-encoded s e g0 = go (which (starts 0x60 s)) (check-ok (leb (length s) 65535) 1 _ e g0) where
-  go : (starts 0x60 s ≡ true) ⊎ (starts 0x60 s ≡ false) → (leb (length s) 65535 ≡ true) × (cond (starts 0x60 s) (only 0x60 any wrappedOf s) (only 0xA1 any (only 0x30 any respOf) s) ≡ ok e) → OneReading s e
+  go : (starts 0x60 s ≡ true) ⊎ (starts 0x60 s ≡ false)
+      → (leb (length s) 65535 ≡ true) × (cond (starts 0x60 s) (only 0x60 any wrappedOf s) (only 0xA1 any (only 0x30 any respOf) s) ≡ ok e)
+      → OneReading s e
   go (inl b) g =
       let (is, good) = only-forth 0x60 any wrappedOf wrapped GoodInit wrapped-forth s e refl (rw b at (g .1)) in
       let w = init-whole e good in
       record { same = is ∙ w .octets; is-fine = w .is-fine; is-few = w .is-few; short = leb-true _ _ (g .0) }
   go (inr b) g =
-      let (is, good) = only-forth 0xA1 any (only 0x30 any respOf) (λ a. element 0x30 (inner a)) GoodResp (only-forth 0x30 any respOf inner GoodResp resp-forth) s e refl (rw b at (g .1)) in
+      let (is, good) =
+      only-forth 0xA1 any (only 0x30 any respOf) (λ a. element 0x30 (inner a)) GoodResp
+      (only-forth 0x30 any respOf inner GoodResp resp-forth) s e refl (rw b at (g .1)) in
       let w = resp-whole e good in
       record { same = is ∙ w .octets; is-fine = w .is-fine; is-few = w .is-few; short = leb-true _ _ (g .0) }
 
@@ -209,4 +218,5 @@ encoded-read (Init ms f t k) a b h =
     (only-back 0x60 any wrappedOf wrapped GoodInit wrapped-back (λ a i. refl) (Init ms f t k) (leb-true 1 (length ms) a, leb-true (length ms) 16 b) h)
 encoded-read (Resp x m t k) a b h =
     rw (le-leb (length (encoded (Resp x m t k))) 65535 h)
-    (only-back 0xA1 any (only 0x30 any respOf) (λ a. element 0x30 (inner a)) GoodResp (only-back 0x30 any respOf inner GoodResp resp-back (λ a i. refl)) (λ a i. refl) (Resp x m t k) a h)
+    (only-back 0xA1 any (only 0x30 any respOf) (λ a. element 0x30 (inner a)) GoodResp
+    (only-back 0x30 any respOf inner GoodResp resp-back (λ a i. refl)) (λ a i. refl) (Resp x m t k) a h)

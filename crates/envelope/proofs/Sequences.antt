@@ -45,7 +45,10 @@ module _ (s : List ℕ) (at end : ℕ) (m : Listed) (m-says : Lists s end (mecha
           → Reads s end (initOf (part s at end)) (reads.Init (record { list = l; end = z; count = k; flags = F; token = T; checksum = K }))
       unfolding initOf
       init-found F T K e =
-          record { same = sym (rw (list-got m-says l z k a m-is, tail-got t-says F T K e)); placed = (list-placed m-says l z k a m-is, tail-placed t-says F T K e) }
+          record {
+            same = sym (rw (list-got m-says l z k a m-is, tail-got t-says F T K e));
+            placed = (list-placed m-says l z k a m-is, tail-placed t-says F T K e);
+          }
 
 pub ruleset inits = (init-no, init-behind, init-tail-no, init-found)
 
@@ -91,6 +94,9 @@ module _ (s : List ℕ) (at end : ℕ) (w : Bool) (w-is : w ≡ begins (part s a
             → Reads s end (respOf (part s at end)) (reads.Resp (record { state = X; mechanism = M; token = T; checksum = K }))
         unfolding respOf check
         resp-found M T K e =
-            record { same = sym (rw (← w-is, begun, option-got x-says X a x-is, tail-got t-says M T K e)); placed = (field-in s end X a (option-to x-says X a x-is), tail-placed t-says M T K e) }
+            record {
+              same = sym (rw (← w-is, begun, option-got x-says X a x-is, tail-got t-says M T K e));
+              placed = (field-in s end X a (option-to x-says X a x-is), tail-placed t-says M T K e);
+            }
 
 pub ruleset resps = (resp-other, resp-no, resp-behind, resp-tail-no, resp-found)

@@ -21,7 +21,8 @@ use Rattle.envelope.proofs.Holders.{closed-end, closed-left}
 use Rattle.envelope.proofs.Optionals.{option-got-no, option-got, option-to, option-behind, field-in}
 
 -- behind the token there is the checksum alone
-before : (s : List ℕ) (end : ℕ) (t k : Field) (a b : ℕ) → FieldTo s end t a → optional 0xA3 0x04 any (part s a end) ≡ ok (record { value = shown s k; rest = part s b end }) → b ≡ end → Before s end t k
+before : (s : List ℕ) (end : ℕ) (t k : Field) (a b : ℕ) → FieldTo s end t a
+    → optional 0xA3 0x04 any (part s a end) ≡ ok (record { value = shown s k; rest = part s b end }) → b ≡ end → Before s end t k
 before s end fields.Absent k a b w e z = tt
 before s end (fields.At f g) k a b w e z =
     let h = optional-forth 0xA3 0x04 any (part s a end) (record { value = shown s k; rest = part s b end }) e .0 in
@@ -52,7 +53,8 @@ module _ (s : List ℕ) (at end u : ℕ) (h : Holder s at end) (y : Optional) (y
         module _ (k : Optional) (k-says : Optionals s end (optional 0xA3 0x04 any (part s b end)) k) where
           pub tail-checksum-no : (n : ℕ) → k ≡ optionals.Refused n → Says (tails.Refused n)
           unfolding tailOf
-          tail-checksum-no n e = record { same = sym (rw (option-got y-says Y a y-is, option-got t-says T b t-is, option-got-no k-says n e)); placed = tt }
+          tail-checksum-no n e =
+              record { same = sym (rw (option-got y-says Y a y-is, option-got t-says T b t-is, option-got-no k-says n e)); placed = tt }
 
           module _ (K : Field) (c : ℕ) (k-is : k ≡ optionals.Field K c) where
             rest : Holder s c end
@@ -60,7 +62,13 @@ module _ (s : List ℕ) (at end u : ℕ) (h : Holder s at end) (y : Optional) (y
 
             pub tail-left : (c ≡ end → ⊥) → Says (tails.Refused 22)
             unfolding tailOf
-            tail-left e = record { same = sym (rw (option-got y-says Y a y-is, option-got t-says T b t-is, option-got k-says K c k-is) (closed-left s c end rest _ e)); placed = tt }
+            tail-left e =
+                record {
+                  same = sym
+                      (rw (option-got y-says Y a y-is, option-got t-says T b t-is, option-got k-says K c k-is) (closed-left s c end rest _ e));
+                  placed =
+                      tt;
+                }
 
             pub tail-found : c ≡ end → Says (tails.Fields Y T K)
             unfolding tailOf
@@ -70,7 +78,13 @@ module _ (s : List ℕ) (at end u : ℕ) (h : Holder s at end) (y : Optional) (y
                 let kt = option-to k-says K c k-is in
                 record {
                   same = sym (rw (option-got y-says Y a y-is, option-got t-says T b t-is, option-got k-says K c k-is) (closed-end s c end rest _ e));
-                  placed = record { second-in = field-in s end Y a yt; token-in = field-in s end T b tt'; checksum-in = field-in s end K c kt; last = before s end T K b c tt' (option-got k-says K c k-is) e };
+                  placed =
+                      record {
+                        second-in = field-in s end Y a yt;
+                        token-in = field-in s end T b tt';
+                        checksum-in = field-in s end K c kt;
+                        last = before s end T K b c tt' (option-got k-says K c k-is) e;
+                      };
                 }
 
 pub ruleset tailing = (tail-no, tail-second, tail-token-no, tail-third, tail-checksum-no, tail-left, tail-found)

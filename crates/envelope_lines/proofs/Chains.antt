@@ -51,11 +51,13 @@ module _ (t u : Text) (v : List ℕ) where
 
 pub ruleset octets = (octets-none, octets-some)
 
-pub octets-line : (t a b u : Text) (w v z : List ℕ) → a ≡ written (w ∷ []) t → b ≡ written (octetsText v) a → u ≡ written (z ∷ []) b → u ≡ written (w ∷ (octetsText v ++ (z ∷ []))) t
+pub octets-line : (t a b u : Text) (w v z : List ℕ) → a ≡ written (w ∷ []) t → b ≡ written (octetsText v) a → u ≡ written (z ∷ []) b
+    → u ≡ written (w ∷ (octetsText v ++ (z ∷ []))) t
 octets-line t a b u w v z f g h = then t a u _ _ f (then a b u _ _ g h)
 
 -- a mechanism's line
-module _ (t a b c u : Text) (k : ℕ) (v : List ℕ) (e1 : a ≡ written (quoted "mechanism " ∷ decimal64 k ∷ []) t) (e2 : b ≡ written (quoted " " ∷ []) a) (e3 : c ≡ written (octetsText v) b)
+module _ (t a b c u : Text) (k : ℕ) (v : List ℕ) (e1 : a ≡ written (quoted "mechanism " ∷ decimal64 k ∷ []) t) (e2 : b ≡ written (quoted " " ∷ []) a)
+    (e3 : c ≡ written (octetsText v) b)
     (w : Bool) (w-is : w ≡ isNegoex v) where
   whole : (z : List ℕ) → u ≡ written (z ∷ []) c → u ≡ written (quoted "mechanism " ∷ decimal64 k ∷ quoted " " ∷ (octetsText v ++ (z ∷ []))) t
   whole z e = then t a u _ _ e1 (then a b u _ _ e2 (then b c u _ _ e3 e))
@@ -74,20 +76,24 @@ pub ruleset mechanisms = (mechanism-negoex, mechanism-other)
 shown-mechanism : (v : List ℕ) (k : ℕ) → k < length (mechanismsIn v) → mechanismOf k v ≡ getD (mechanismsIn v) k []
 unfolding check
 shown-mechanism v k h = go (which (leb (length v) 65535)) (listOf v) refl h where
-  go : (leb (length v) 65535 ≡ true) ⊎ (leb (length v) 65535 ≡ false) → (g : Got (List (List ℕ))) → listOf v ≡ g → k < length (mechanismsIn v) → mechanismOf k v ≡ getD (mechanismsIn v) k []
+  go : (leb (length v) 65535 ≡ true) ⊎ (leb (length v) 65535 ≡ false) → (g : Got (List (List ℕ))) → listOf v ≡ g → k < length (mechanismsIn v)
+      → mechanismOf k v ≡ getD (mechanismsIn v) k []
   go (inl b) (ok ms) e h = rw (b, e) (each-mechanism v ms k (leb-true _ _ b) e)
   go (inl b) (no n) e h = let z : k < length {A = List ℕ} [] = rw (b, e) at h in absurd (omega arith)
   go (inr b) g e h = let z : k < length {A = List ℕ} [] = rw b at h in absurd (omega arith)
 
 module _ (v : List ℕ) (k : ℕ) (x t : Text) (inv : x ≡ written (mechanismLines k (drop k (mechanismsIn v))) t) where
-  pub mechanisms-more : (n : ℕ) → n ≡ length (mechanismsIn v) → k < n → (m : List ℕ) → m ≡ mechanismOf k v → (u : Text) → u ≡ written (mechanismLine k m) t
+  pub mechanisms-more : (n : ℕ) → n ≡ length (mechanismsIn v) → k < n → (m : List ℕ) → m ≡ mechanismOf k v → (u : Text)
+      → u ≡ written (mechanismLine k m) t
       → x ≡ written (mechanismLines (k + 1) (drop (k + 1) (mechanismsIn v))) u
   unfolding mechanismLines
   mechanisms-more n n-is h m m-is u e =
       let l : k < length (mechanismsIn v) = omega arith in
       let z : m ≡ getD (mechanismsIn v) k [] = m-is ∙ shown-mechanism v k l in
-      inv ∙ more (drop k (mechanismsIn v)) (getD (mechanismsIn v) k []) (drop (k + 1) (mechanismsIn v)) (rw add-one (drop-cons (mechanismsIn v) k [] l)) (e ∙ ap (λ (w : List ℕ). written (mechanismLine k w) t) z) where
-        more : (ms : List (List ℕ)) (m : List ℕ) (ns : List (List ℕ)) → ms ≡ m ∷ ns → u ≡ written (mechanismLine k m) t → written (mechanismLines k ms) t ≡ written (mechanismLines (k + 1) ns) u
+      inv ∙ more (drop k (mechanismsIn v)) (getD (mechanismsIn v) k []) (drop (k + 1) (mechanismsIn v))
+      (rw add-one (drop-cons (mechanismsIn v) k [] l)) (e ∙ ap (λ (w : List ℕ). written (mechanismLine k w) t) z) where
+        more : (ms : List (List ℕ)) (m : List ℕ) (ns : List (List ℕ)) → ms ≡ m ∷ ns → u ≡ written (mechanismLine k m) t
+            → written (mechanismLines k ms) t ≡ written (mechanismLines (k + 1) ns) u
         more ms m ns is e = rw is (sym (then t u (written (mechanismLines (k + 1) ns) u) (mechanismLine k m) (mechanismLines (k + 1) ns) e refl))
 
   pub mechanisms-end : (n : ℕ) → n ≡ length (mechanismsIn v) → n ≤ k → t ≡ x
@@ -127,7 +133,8 @@ module _ (t u : Text) (s : List ℕ) (f : Field) where
     unfolding namedLines
     named-there x = rw here x
 
-    pub state-there : (a : Text) (n : ℕ) → n ≡ getD v 0 0 → a ≡ written (quoted "state " ∷ decimal n ∷ []) t → u ≡ written (quoted "\n" ∷ []) a → u ≡ written (stateLine (shown s f)) t
+    pub state-there : (a : Text) (n : ℕ) → n ≡ getD v 0 0 → a ≡ written (quoted "state " ∷ decimal n ∷ []) t → u ≡ written (quoted "\n" ∷ []) a
+        → u ≡ written (stateLine (shown s f)) t
     unfolding stateLine
     state-there a n n-is x y = rw (here, ← n-is) (then t a u _ _ x y)
 
@@ -150,26 +157,31 @@ module _ (t : Text) (s : List ℕ) (f k : Field) (at : TokenAt s f k) (b e : ℕ
   place : tokenPlace s (part s b e) (shown s k) ≡ b
   place = let i = inside in omega (arith, size, behind)
 
-  pub token-there : (x y u : Text) → x ≡ written (quoted "token at=" ∷ decimal64 b ∷ []) t → y ≡ written (quoted " length=" ∷ decimal64 (e - b) ∷ []) x → u ≡ written (quoted "\n" ∷ []) y
+  pub token-there : (x y u : Text) → x ≡ written (quoted "token at=" ∷ decimal64 b ∷ []) t
+      → y ≡ written (quoted " length=" ∷ decimal64 (e - b) ∷ []) x → u ≡ written (quoted "\n" ∷ []) y
       → u ≡ written (tokenLine s (shown s f) (shown s k)) t
   unfolding tokenLine
   token-there x y u p q r = rw (there, place, size) (then t y u _ _ (then t x y _ _ p q) r)
 
 pub ruleset tokens = (token-absent, token-order, token-there)
 
-pub last-lines : (t a u : Text) (s : List ℕ) (f k : Option (List ℕ)) → a ≡ written (tokenLine s f k) t → u ≡ written (octetsLine (quoted "checksum ") k) a → u ≡ written (lastLines s f k) t
+pub last-lines : (t a u : Text) (s : List ℕ) (f k : Option (List ℕ)) → a ≡ written (tokenLine s f k) t
+    → u ≡ written (octetsLine (quoted "checksum ") k) a → u ≡ written (lastLines s f k) t
 unfolding lastLines
 last-lines t a u s f k e g = then t a u _ _ e g
 
-pub head-line : (t a u : Text) (w s : List ℕ) → a ≡ written (w ∷ decimal64 (length s) ∷ []) t → u ≡ written (quoted "\n" ∷ []) a → u ≡ written (headLine w s) t
+pub head-line : (t a u : Text) (w s : List ℕ) → a ≡ written (w ∷ decimal64 (length s) ∷ []) t → u ≡ written (quoted "\n" ∷ []) a
+    → u ≡ written (headLine w s) t
 unfolding headLine
 head-line t a u w s e g = then t a u _ _ e g
 
-pub refused-line : (t a u : Text) (n : ℕ) → a ≡ written (quoted "refused " ∷ decimal n ∷ []) t → u ≡ written (quoted " at=0\n" ∷ []) a → u ≡ written (refusedText n) t
+pub refused-line : (t a u : Text) (n : ℕ) → a ≡ written (quoted "refused " ∷ decimal n ∷ []) t → u ≡ written (quoted " at=0\n" ∷ []) a
+    → u ≡ written (refusedText n) t
 unfolding refusedText
 refused-line t a u n e g = then t a u _ _ e g
 
-pub wrote-line : (t a u : Text) (v : List ℕ) → a ≡ written (quoted "wrote " ∷ decimal64 (length v) ∷ []) t → u ≡ written (quoted " " ∷ (octetsText v ++ (quoted "\n" ∷ []))) a → u ≡ written (wroteLine v) t
+pub wrote-line : (t a u : Text) (v : List ℕ) → a ≡ written (quoted "wrote " ∷ decimal64 (length v) ∷ []) t
+    → u ≡ written (quoted " " ∷ (octetsText v ++ (quoted "\n" ∷ []))) a → u ≡ written (wroteLine v) t
 unfolding wroteLine
 wrote-line t a u v e g = then t a u _ _ e g
 
@@ -181,7 +193,9 @@ module _ (s : List ℕ) (i : Init) (t a b c u : Text) where
   pub init-token : InitAt s i → TokenAt s (i .token) (i .checksum)
   init-token p = record { inside = p .1 .token-in; last = p .1 .last }
 
-  pub init-text : a ≡ written (headLine (quoted "envelope init length=") s) t → b ≡ written (mechanismLines 0 (mechanismsIn (part s (i .list) (i .end)))) a → c ≡ written (octetsLine (quoted "flags ") (shown s (i .flags))) b
+  pub init-text : a ≡ written (headLine (quoted "envelope init length=") s) t
+      → b ≡ written (mechanismLines 0 (mechanismsIn (part s (i .list) (i .end)))) a
+      → c ≡ written (octetsLine (quoted "flags ") (shown s (i .flags))) b
       → u ≡ written (lastLines s (shown s (i .token)) (shown s (i .checksum))) c → u ≡ written (textOf s (toldInit s i)) t
   unfolding textOf
   init-text e f g h = then t a u _ _ e (then a b u _ _ f (then b c u _ _ g h))
@@ -190,7 +204,8 @@ module _ (s : List ℕ) (r : Resp) (t a b c u : Text) where
   pub resp-token : RespAt s r → TokenAt s (r .token) (r .checksum)
   resp-token p = record { inside = p .1 .token-in; last = p .1 .last }
 
-  pub resp-text : a ≡ written (headLine (quoted "envelope resp length=") s) t → b ≡ written (stateLine (shown s (r .state))) a → c ≡ written (namedLines (shown s (r .mechanism))) b
+  pub resp-text : a ≡ written (headLine (quoted "envelope resp length=") s) t → b ≡ written (stateLine (shown s (r .state))) a
+      → c ≡ written (namedLines (shown s (r .mechanism))) b
       → u ≡ written (lastLines s (shown s (r .token)) (shown s (r .checksum))) c → u ≡ written (textOf s (toldResp s r)) t
   unfolding textOf
   resp-text e f g h = then t a u _ _ e (then a b u _ _ f (then b c u _ _ g h))

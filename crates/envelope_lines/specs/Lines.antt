@@ -83,7 +83,8 @@ refusedText n = quoted "refused " ∷ decimal n ∷ quoted " at=0\n" ∷ []
 -- "in the order in which they stand in the file"
 unfoldable pub textOf : List ℕ → Got Envelope → List (List ℕ)
 textOf s (no n) = refusedText n
-textOf s (ok (Init ms f t k)) = headLine (quoted "envelope init length=") s ++ (mechanismLines 0 ms ++ (octetsLine (quoted "flags ") f ++ lastLines s t k))
+textOf s (ok (Init ms f t k)) =
+    headLine (quoted "envelope init length=") s ++ (mechanismLines 0 ms ++ (octetsLine (quoted "flags ") f ++ lastLines s t k))
 textOf s (ok (Resp x m t k)) = headLine (quoted "envelope resp length=") s ++ (stateLine x ++ (namedLines m ++ lastLines s t k))
 
 abbrev pub envelopeText : List ℕ → List (List ℕ)

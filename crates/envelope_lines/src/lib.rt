@@ -54,7 +54,8 @@ fn mechanism_lines(
     count: usize,
 ) -> usize
     requires { ⌜ count ≡ length (mechanismsIn (part (now s) list end)) ⌝ }
-    ensures { λ r. ⌜ text (now (d .exit)) r ≡ written (mechanismLines 0 (mechanismsIn (part (now (s .entry)) list end))) (text (now (d .entry)) at) ⌝ }
+    ensures { λ r. ⌜ text (now (d .exit)) r ≡ written (mechanismLines 0 (mechanismsIn (part (now (s .entry)) list end)))
+        (text (now (d .entry)) at) ⌝ }
 {
     let mut next = at;
     let mut k = 0;
@@ -67,7 +68,8 @@ fn mechanism_lines(
 
 // A line of octets behind a word.
 fn octets_line(d: &mut [u8], at: usize, word: &[u8], v: &[u8]) -> usize
-    ensures { λ r. ⌜ text (now (d .exit)) r ≡ written (now (word .entry) ∷ (octetsText (now (v .entry)) ++ (quoted "\n" ∷ []))) (text (now (d .entry)) at) ⌝ }
+    ensures { λ r. ⌜ text (now (d .exit)) r ≡ written (now (word .entry) ∷ (octetsText (now (v .entry)) ++ (quoted "\n" ∷ [])))
+        (text (now (d .entry)) at) ⌝ }
 {
     let a = append(d, at, word);
     let b = octets_text(d, a, v);
@@ -126,7 +128,8 @@ fn state_line(d: &mut [u8], at: usize, s: &[u8], f: Field) -> usize
 // The token's line, where it is there: its place in the buffer and its length.
 fn token_line(d: &mut [u8], at: usize, s: &[u8], f: Field, k: Field) -> usize
     requires { ⌜ TokenAt (now s) f k ⌝ }
-    ensures { λ r. ⌜ text (now (d .exit)) r ≡ written (tokenLine (now (s .entry)) (shown (now (s .entry)) f) (shown (now (s .entry)) k)) (text (now (d .entry)) at) ⌝ }
+    ensures { λ r. ⌜ text (now (d .exit)) r ≡ written (tokenLine (now (s .entry)) (shown (now (s .entry)) f) (shown (now (s .entry)) k))
+        (text (now (d .entry)) at) ⌝ }
 {
     match f {
         Field::Absent => at,
@@ -141,7 +144,8 @@ fn token_line(d: &mut [u8], at: usize, s: &[u8], f: Field, k: Field) -> usize
 // The lines of the token and the checksum.
 fn last_lines(d: &mut [u8], at: usize, s: &[u8], t: Field, k: Field) -> usize
     requires { ⌜ TokenAt (now s) t k ⌝ }
-    ensures { λ r. ⌜ text (now (d .exit)) r ≡ written (lastLines (now (s .entry)) (shown (now (s .entry)) t) (shown (now (s .entry)) k)) (text (now (d .entry)) at) ⌝ }
+    ensures { λ r. ⌜ text (now (d .exit)) r ≡ written (lastLines (now (s .entry)) (shown (now (s .entry)) t) (shown (now (s .entry)) k))
+        (text (now (d .entry)) at) ⌝ }
 {
     let a = token_line(d, at, s, t, k);
     field_line(d, a, b"checksum ", s, k)

@@ -23,7 +23,8 @@ module _ (s : List ℕ) (b e : ℕ) where
 
   pub part-beyond : length s < e → take (length s - b) (drop b s) ≡ part s b e
   unfolding part
-  part-beyond h = take-all (length s - b) (drop b s) (omega (arith, length-drop b s)) ∙ sym (take-all (e - b) (drop b s) (omega (arith, length-drop b s)))
+  part-beyond h =
+      take-all (length s - b) (drop b s) (omega (arith, length-drop b s)) ∙ sym (take-all (e - b) (drop b s) (omega (arith, length-drop b s)))
 
   pub part-inside : take (e - b) (drop b s) ≡ part s b e
   unfolding part

@@ -30,7 +30,8 @@ Shows j = (v : List ℕ) (ms : List (List ℕ)) (k : ℕ) → identifiersOf j v 
 empty : (v : List ℕ) (ms : List (List ℕ)) (k : ℕ) → filled v ≡ false → [] ≡ ms → identifierOf k v ≡ getD ms k []
 empty v ms k b is = rw (filled-false v b, ← is) (nothing k)
 
-one : (j : ℕ) (v : List ℕ) (ms : List (List ℕ)) (k : ℕ) (q : Part (List ℕ)) (l : List (List ℕ)) → cut 0x06 any v ≡ ok q → identifiersOf j (q .rest) ≡ ok l → q .value ∷ l ≡ ms → Shows j
+one : (j : ℕ) (v : List ℕ) (ms : List (List ℕ)) (k : ℕ) (q : Part (List ℕ)) (l : List (List ℕ)) → cut 0x06 any v ≡ ok q
+    → identifiersOf j (q .rest) ≡ ok l → q .value ∷ l ≡ ms → Shows j
     → identifierOf k v ≡ getD ms k []
 unfolding identifierOf
 one j v ms zero q l e1 e3 is f = rw (← is, e1)

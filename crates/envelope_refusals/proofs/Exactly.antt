@@ -39,23 +39,27 @@ same-false a b h = go (which (sameOctets a b)) where
 abbrev F : (t : ℕ) (p : List ℕ → Bool) (s : List ℕ) → ℕ → Type 0
 F t p s n = ElementFault t p (t ∷ s) n
 
-judge-no : (t : ℕ) (p : List ℕ → Bool) (s : List ℕ) → leadOf s + sizeOf s ≤ length s → (n : ℕ) → judged (p (framed s .contents)) (framed s) ≡ no n → F t p s n
+judge-no : (t : ℕ) (p : List ℕ → Bool) (s : List ℕ) → leadOf s + sizeOf s ≤ length s → (n : ℕ) → judged (p (framed s .contents)) (framed s) ≡ no n
+    → F t p s n
 unfolding judged check
-judge-no t p s fits n = go (which (p (framed s .contents))) (which (indefinite (framed s .lead))) (which (shortest (framed s .lead) (length (framed s .contents)))) where
-  go : (p (framed s .contents) ≡ true) ⊎ (p (framed s .contents) ≡ false) → (indefinite (framed s .lead) ≡ true) ⊎ (indefinite (framed s .lead) ≡ false)
-      → (shortest (framed s .lead) (length (framed s .contents)) ≡ true) ⊎ (shortest (framed s .lead) (length (framed s .contents)) ≡ false)
-      → judged (p (framed s .contents)) (framed s) ≡ no n → F t p s n
-  go (inl a) b (inl c) e = ok-no _ n (rw (a, c) at e)
-  go (inl a) b (inr c) e = rw (← number-is 21 n (rw (a, c) at e)) (long s fits (inl a) (not-same _ _ c))
-  go (inr a) (inl b) (inl c) e = ok-no _ n (rw (a, b, c) at e)
-  go (inr a) (inl b) (inr c) e = rw (← number-is 21 n (rw (a, b, c) at e)) (long s fits (inr (same-eq _ _ b)) (not-same _ _ c))
-  go (inr a) (inr b) c e = rw (← number-is 20 n (rw (a, b) at e)) (contents s fits a (not-same _ _ b))
+judge-no t p s fits n =
+    go (which (p (framed s .contents))) (which (indefinite (framed s .lead))) (which (shortest (framed s .lead) (length (framed s .contents)))) where
+      go : (p (framed s .contents) ≡ true) ⊎ (p (framed s .contents) ≡ false)
+          → (indefinite (framed s .lead) ≡ true) ⊎ (indefinite (framed s .lead) ≡ false)
+          → (shortest (framed s .lead) (length (framed s .contents)) ≡ true) ⊎ (shortest (framed s .lead) (length (framed s .contents)) ≡ false)
+          → judged (p (framed s .contents)) (framed s) ≡ no n → F t p s n
+      go (inl a) b (inl c) e = ok-no _ n (rw (a, c) at e)
+      go (inl a) b (inr c) e = rw (← number-is 21 n (rw (a, c) at e)) (long s fits (inl a) (not-same _ _ c))
+      go (inr a) (inl b) (inl c) e = ok-no _ n (rw (a, b, c) at e)
+      go (inr a) (inl b) (inr c) e = rw (← number-is 21 n (rw (a, b, c) at e)) (long s fits (inr (same-eq _ _ b)) (not-same _ _ c))
+      go (inr a) (inr b) c e = rw (← number-is 20 n (rw (a, b) at e)) (contents s fits a (not-same _ _ b))
 
 cut-no : (t : ℕ) (p : List ℕ → Bool) (s : List ℕ) (n : ℕ) → cut t p s ≡ no n → ElementFault t p s n
 unfolding cut frame framedFrom check
 cut-no t p [] n e = rw (← number-is 20 n e) missing
 cut-no t p (x ∷ s) n e = go (which (eqb x t)) (which (leb (leadOf s + sizeOf s) (length s))) where
-  go : (eqb x t ≡ true) ⊎ (eqb x t ≡ false) → (leb (leadOf s + sizeOf s) (length s) ≡ true) ⊎ (leb (leadOf s + sizeOf s) (length s) ≡ false) → ElementFault t p (x ∷ s) n
+  go : (eqb x t ≡ true) ⊎ (eqb x t ≡ false) → (leb (leadOf s + sizeOf s) (length s) ≡ true) ⊎ (leb (leadOf s + sizeOf s) (length s) ≡ false)
+      → ElementFault t p (x ∷ s) n
   go (inl a) (inl b) = rw (eqb-true x t a) (judge-no t p s (leb-true _ _ b) n (rw (a, b) at e))
   go (inl a) (inr b) = rw (eqb-true x t a, ← number-is 20 n (rw (a, b) at e)) (past s (leb-false _ _ b))
   go (inr a) b = rw (← number-is 20 n (rw a at e)) (tag x s (eqb-false x t a))
@@ -67,10 +71,11 @@ no-cut {t} (tag x s h) = rw (ne-eqb x t h)
 no-cut {t} (past s h) = rw (eq-eqb t t refl, lt-leb (leadOf s + sizeOf s) (length s) h)
 no-cut {t} (contents s fits a b) = rw (eq-eqb t t refl, le-leb (leadOf s + sizeOf s) (length s) fits, a, same-false _ _ b)
 no-cut {t} (long s fits (inl a) c) = rw (eq-eqb t t refl, le-leb (leadOf s + sizeOf s) (length s) fits, a, same-false _ _ c)
-no-cut {t} {p} (long s fits (inr b) c) = rw (eq-eqb t t refl, le-leb (leadOf s + sizeOf s) (length s) fits, passes (p (framed s .contents)), same-false _ _ c) where
-  passes : (x : Bool) → x || indefinite (framed s .lead) ≡ true
-  passes true = refl
-  passes false = ap (λ (v : List ℕ). sameOctets v (0x80 ∷ [])) b ∙ same-refl (0x80 ∷ [])
+no-cut {t} {p} (long s fits (inr b) c) =
+    rw (eq-eqb t t refl, le-leb (leadOf s + sizeOf s) (length s) fits, passes (p (framed s .contents)), same-false _ _ c) where
+      passes : (x : Bool) → x || indefinite (framed s .lead) ≡ true
+      passes true = refl
+      passes false = ap (λ (v : List ℕ). sameOctets v (0x80 ∷ [])) b ∙ same-refl (0x80 ∷ [])
 
 pub element-exactly : ElementExactly
 element-exactly t p s = record { only-then = cut-no t p s; then = λ n f. no-cut f }
@@ -79,7 +84,9 @@ element-exactly t p s = record { only-then = cut-no t p s; then = λ n f. no-cut
 pub within-exactly : WithinExactly
 unfolding within
 within-exactly A t p body s = record { only-then = λ n e. go n (cut t p s) refl e; then = λ n f. back f } where
-  go : (n : ℕ) (g : Got (Part (List ℕ))) → cut t p s ≡ g → bind {B = Part A} g (λ q. bind {B = Part A} (body (q .value)) (λ a. ok (record { value = a; rest = q .rest }))) ≡ no n → WithinFault t p body s n
+  go : (n : ℕ) (g : Got (Part (List ℕ))) → cut t p s ≡ g
+      → bind {B = Part A} g (λ q. bind {B = Part A} (body (q .value)) (λ a. ok (record { value = a; rest = q .rest }))) ≡ no n
+      → WithinFault t p body s n
   go n (no m) k e = outer n (rw (← number-is m n e) (cut-no t p s m k))
   go n (ok q) k e = two (body (q .value)) refl e where
     two : (h : Got A) → body (q .value) ≡ h → bind {B = Part A} h (λ a. ok (record { value = a; rest = q .rest })) ≡ no n → WithinFault t p body s n
@@ -162,14 +169,17 @@ found (suc k) s e = go (which (filled s)) (found k) where
           further = w .further;
           number = ap suc (w .number);
           one = w .one;
-          same = cut-forth 0x06 any s q h .0 ∙ ap (λ (r : List ℕ). element 0x06 (q .value) ++ r) (w .same) ∙ sym (append-assoc (element 0x06 (q .value)) (identifiers (w .read)) (w .behind));
+          same = cut-forth 0x06 any s q h .0 ∙ ap (λ (r : List ℕ). element 0x06 (q .value) ++ r) (w .same)
+              ∙ sym (append-assoc (element 0x06 (q .value)) (identifiers (w .read)) (w .behind));
         }
 
-    four : (q : Part (List ℕ)) (g : Got (List (List ℕ))) → identifiersOf k (q .rest) ≡ g → bind g (λ ms. ok (q .value ∷ ms)) ≡ no 23 → identifiersOf k (q .rest) ≡ no 23
+    four : (q : Part (List ℕ)) (g : Got (List (List ℕ))) → identifiersOf k (q .rest) ≡ g → bind g (λ ms. ok (q .value ∷ ms)) ≡ no 23
+        → identifiersOf k (q .rest) ≡ no 23
     four q (ok ms) h e = ok-no _ 23 e
     four q (no n) h e = h ∙ ap no (number-is n 23 e)
 
-    two : (g : Got (Part (List ℕ))) → cut 0x06 any s ≡ g → bind g (λ q. bind (identifiersOf k (q .rest)) (λ ms. ok (q .value ∷ ms))) ≡ no 23 → Found (suc k) s
+    two : (g : Got (Part (List ℕ))) → cut 0x06 any s ≡ g → bind g (λ q. bind (identifiersOf k (q .rest)) (λ ms. ok (q .value ∷ ms))) ≡ no 23
+        → Found (suc k) s
     two (ok q) h e = three q h (f (q .rest) (four q (identifiersOf k (q .rest)) refl e))
     two (no n) h e = no-element-23 0x06 any s (h ∙ ap no (number-is n 23 e))
 

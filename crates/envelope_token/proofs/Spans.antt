@@ -79,10 +79,12 @@ module _ (s : List ℕ) (r : Read) (says : Reads s (length s) (envelopeOf s) r) 
         let placed : Placed s (length s) (reads.Resp i) = rw e at (says .placed) in
         record { inside = placed .1 .token-in; last = placed .1 .last; short = short }
 
-  pub carried-init : (i : Init) → r ≡ reads.Init i → (x : Carried) → said x ≡ spanIn s (shown s (i .token)) (shown s (i .checksum)) → said x ≡ carriedOf s
+  pub carried-init : (i : Init) → r ≡ reads.Init i → (x : Carried) → said x ≡ spanIn s (shown s (i .token)) (shown s (i .checksum))
+      → said x ≡ carriedOf s
   carried-init i e x x-is = x-is ∙ carried-is _ (rw e at (says .same))
 
-  pub carried-resp : (i : Resp) → r ≡ reads.Resp i → (x : Carried) → said x ≡ spanIn s (shown s (i .token)) (shown s (i .checksum)) → said x ≡ carriedOf s
+  pub carried-resp : (i : Resp) → r ≡ reads.Resp i → (x : Carried) → said x ≡ spanIn s (shown s (i .token)) (shown s (i .checksum))
+      → said x ≡ carriedOf s
   carried-resp i e x x-is = x-is ∙ carried-is _ (rw e at (says .same))
 
 pub ruleset carries = (carried-long, carried-refused, init-at, resp-at, carried-init, carried-resp)

@@ -50,7 +50,8 @@ ids-first (n ∷ ns) s d at h r =
     record { room = rw e (omega arith); small = omega arith }
 
 pub ids-rest : (ns s d : List ℕ) (at : ℕ) (d1 : List ℕ) (a1 : ℕ) → (length ns ≡ 0 → ⊥) → IdentifiersRoom ns s d at
-    → Written d at (elementSize (length (take (getD ns 0 0) s))) (element 0x06 (take (getD ns 0 0) s)) d1 a1 → IdentifiersRoom (Tail ns) (Rest ns s) d1 a1
+    → Written d at (elementSize (length (take (getD ns 0 0) s))) (element 0x06 (take (getD ns 0 0) s)) d1 a1
+    → IdentifiersRoom (Tail ns) (Rest ns s) d1 a1
 unfolding sumOf identifiersSize
 ids-rest [] s d at d1 a1 h r w = absurd (h refl)
 ids-rest (n ∷ ns) s d at d1 a1 h r w =
@@ -62,7 +63,8 @@ ids-rest (n ∷ ns) s d at d1 a1 h r w =
     let a : a1 ≡ at + elementSize n = w .after ∙ rw e in
     let u : length s ≡ n + sumOf ns = r .sum in
     let q = r .small in
-    rw (tail-is n ns, rest-is n ns s) (record { sum = rw (length-drop n s) (omega arith); small = rw (length-drop n s) (omega arith); room = omega arith })
+    rw (tail-is n ns, rest-is n ns s)
+    (record { sum = rw (length-drop n s) (omega arith); small = rw (length-drop n s) (omega arith); room = omega arith })
 
 pub ids-put : (ns s d : List ℕ) (at : ℕ) (d1 : List ℕ) (a1 : ℕ) (d2 : List ℕ) (a2 : ℕ) → (length ns ≡ 0 → ⊥) → IdentifiersRoom ns s d at
     → Written d at (elementSize (length (take (getD ns 0 0) s))) (element 0x06 (take (getD ns 0 0) s)) d1 a1

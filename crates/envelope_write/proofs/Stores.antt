@@ -24,7 +24,8 @@ use Rattle.envelope_write.specs.Writing.{Outcome, stored, unstored, stor
 use Rattle.envelope_write.proofs.Puts.{length-tail}
 
 -- Any envelope that passes 20 and 23, and whose size is known as far as it counts.
-module _ (d : List ℕ) (e : Envelope) (all : ℕ) (is-fine : fine e ≡ true) (is-few : few e ≡ true) (near : capped all ≡ capped (length (encoded e))) where
+module _ (d : List ℕ) (e : Envelope) (all : ℕ) (is-fine : fine e ≡ true) (is-few : few e ≡ true)
+    (near : capped all ≡ capped (length (encoded e))) where
   store-long : 65535 < all → unstored 1 d ≡ storing d e
   unfolding storing
   store-long h = let g : 65535 < length (encoded e) = omega (arith, near) in rw (is-fine, is-few, lt-leb (length (encoded e)) 65535 g)
@@ -50,7 +51,8 @@ module _ (bx : Bool) (x : ℕ) (bm : Bool) (m : List ℕ) (bt : Bool) (t : List 
   length-resp =
       let fields = sequence 0x0A 0x06 (given bx (x ∷ [])) (given bm m) (given bt t) (given bk k) in
       let n : length fields ≡ fieldSize bx 1 + tailSize bm (length m) bt (length t) bk (length k) =
-      length-append (fieldOctets 0xA0 0x0A (given bx (x ∷ []))) (tailOctets 0x06 (given bm m) (given bt t) (given bk k)) ∙ rw (length-field 0xA0 0x0A bx (x ∷ []), length-tail 0x06 bm m bt t bk k) in
+      length-append (fieldOctets 0xA0 0x0A (given bx (x ∷ []))) (tailOctets 0x06 (given bm m) (given bt t) (given bk k))
+      ∙ rw (length-field 0xA0 0x0A bx (x ∷ []), length-tail 0x06 bm m bt t bk k) in
       length-element 0xA1 (element 0x30 fields) ∙ rw (length-element 0x30 fields, n)
 
   resp-few : few (respGiven bx x bm m bt t bk k) ≡ true
@@ -61,7 +63,8 @@ module _ (bx : Bool) (x : ℕ) (bm : Bool) (m : List ℕ) (bt : Bool) (t : List 
   unfolding fine respGiven
   resp-fine e = e
 
-  module _ (d : List ℕ) (inner sequence' all : ℕ) (z : RespSized (given bx (x ∷ [])) inner (fieldSize bx 1) (tailSize bm (length m) bt (length t) bk (length k)))
+  module _ (d : List ℕ) (inner sequence' all : ℕ)
+      (z : RespSized (given bx (x ∷ [])) inner (fieldSize bx 1) (tailSize bm (length m) bt (length t) bk (length k)))
       (sequence-is : sequence' ≡ elementSize inner) (all-is : all ≡ elementSize sequence') where
     near : capped all ≡ capped (length (encoded (respGiven bx x bm m bt t bk k)))
     near =
@@ -85,14 +88,17 @@ module _ (bx : Bool) (x : ℕ) (bm : Bool) (m : List ℕ) (bt : Bool) (t : List 
             let g : inner ≡ fieldSize bx 1 + tailSize bm (length m) bt (length t) bk (length k) = omega arith in
             record { fields = g; small = rw whole-is short; room = rw whole-is room }
 
-        pub resp-stored : (d' : List ℕ) (n : ℕ) → Written d 0 (respSize inner) (encoded (respGiven bx x bm m bt t bk k)) d' n → stored n d' ≡ storing d (respGiven bx x bm m bt t bk k)
+        pub resp-stored : (d' : List ℕ) (n : ℕ) → Written d 0 (respSize inner) (encoded (respGiven bx x bm m bt t bk k)) d' n
+            → stored n d' ≡ storing d (respGiven bx x bm m bt t bk k)
         resp-stored d' n w = store-done d (respGiven bx x bm m bt t bk k) all (resp-fine (z .passed)) resp-few near short room d' n (rw whole-is at w)
 
-  pub resp-unfine : (d : List ℕ) (b : Bool) → b ≡ fineState (given bx (x ∷ [])) → b ≡ false → unstored 20 d ≡ storing d (respGiven bx x bm m bt t bk k)
+  pub resp-unfine : (d : List ℕ) (b : Bool) → b ≡ fineState (given bx (x ∷ [])) → b ≡ false
+      → unstored 20 d ≡ storing d (respGiven bx x bm m bt t bk k)
   unfolding storing fine respGiven
   resp-unfine d b is h = rw (← is, h)
 
-pub resp-sized : (state : Option (List ℕ)) (first tail x t : ℕ) (b : Bool) → b ≡ fineState state → b ≡ true → x ≡ capped first → t ≡ capped tail → RespSized state (x + t) first tail
+pub resp-sized : (state : Option (List ℕ)) (first tail x t : ℕ) (b : Bool) → b ≡ fineState state → b ≡ true → x ≡ capped first → t ≡ capped tail
+    → RespSized state (x + t) first tail
 resp-sized state first tail x t b is fine e f = record { passed = sym is ∙ fine; near = omega arith; limit = omega arith }
 
 pub resp-limit : (inner a : ℕ) → inner ≤ 131072 → a ≡ elementSize inner → a ≤ 1000000
@@ -113,7 +119,8 @@ length-identifiers (n ∷ ns) s h =
     let f : n ≤ length s = omega arith in
     let e : length (take n s) ≡ n = length-take-le n s f in
     let r : length (drop n s) ≡ sumOf ns = rw (length-drop n s) (omega arith) in
-    length-append (element 0x06 (take n s)) (identifiers (splitBy ns (drop n s))) ∙ rw (length-element 0x06 (take n s), e, length-identifiers ns (drop n s) r)
+    length-append (element 0x06 (take n s)) (identifiers (splitBy ns (drop n s)))
+    ∙ rw (length-element 0x06 (take n s), e, length-identifiers ns (drop n s) r)
 
 module _ (ns s : List ℕ) (bf : Bool) (f : List ℕ) (bt : Bool) (t : List ℕ) (bk : Bool) (k : List ℕ) where
   abbrev e : Envelope
@@ -128,10 +135,12 @@ module _ (ns s : List ℕ) (bf : Bool) (f : List ℕ) (bt : Bool) (t : List ℕ)
       let c = identifiers (splitBy ns s) in
       let fields = sequence 0x30 0x03 (some c) (given bf f) (given bt t) (given bk k) in
       let n : length fields ≡ whole =
-      length-append (fieldOctets 0xA0 0x30 (given true c)) (tailOctets 0x03 (given bf f) (given bt t) (given bk k)) ∙ rw (length-field 0xA0 0x30 true c, length-identifiers ns s h, length-tail 0x03 bf f bt t bk k) in
+      length-append (fieldOctets 0xA0 0x30 (given true c)) (tailOctets 0x03 (given bf f) (given bt t) (given bk k))
+      ∙ rw (length-field 0xA0 0x30 true c, length-identifiers ns s h, length-tail 0x03 bf f bt t bk k) in
       let i : headSize 6 ≡ 2 = size-one 6 (omega arith) in
       let w : length (element 0x06 spnego ++ element 0xA0 (element 0x30 fields)) ≡ 8 + elementSize (elementSize whole) =
-      length-append (element 0x06 spnego) (element 0xA0 (element 0x30 fields)) ∙ rw (length-element 0x06 spnego, length-element 0xA0 (element 0x30 fields), length-element 0x30 fields, n, i) in
+      length-append (element 0x06 spnego) (element 0xA0 (element 0x30 fields))
+      ∙ rw (length-element 0x06 spnego, length-element 0xA0 (element 0x30 fields), length-element 0x30 fields, n, i) in
       length-element 0x60 (element 0x06 spnego ++ element 0xA0 (element 0x30 fields)) ∙ rw w
 
   init-fine : 1 ≤ length ns → fine e ≡ true
@@ -146,9 +155,11 @@ module _ (ns s : List ℕ) (bf : Bool) (f : List ℕ) (bt : Bool) (t : List ℕ)
       (sequence-is : sequence' ≡ elementSize inner) (token-is : token ≡ elementSize sequence') (all-is : all ≡ elementSize (8 + token)) where
     init-near : capped all ≡ capped (length (encoded e))
     init-near =
-        let x : capped (elementSize (elementSize inner)) ≡ capped (elementSize (elementSize whole)) = capped-element (elementSize inner) (elementSize whole) (capped-element inner whole (z .near)) in
+        let x : capped (elementSize (elementSize inner)) ≡ capped (elementSize (elementSize whole)) =
+        capped-element (elementSize inner) (elementSize whole) (capped-element inner whole (z .near)) in
         let y : capped (8 + elementSize (elementSize inner)) ≡ capped (8 + elementSize (elementSize whole)) = omega arith in
-        rw (all-is, token-is, sequence-is, length-init (z .passed .sum)) (capped-element (8 + elementSize (elementSize inner)) (8 + elementSize (elementSize whole)) y)
+        rw (all-is, token-is, sequence-is, length-init (z .passed .sum))
+        (capped-element (8 + elementSize (elementSize inner)) (8 + elementSize (elementSize whole)) y)
 
     pub init-long : 65535 < all → unstored 1 d ≡ storing d (initGiven ns s bf f bt t bk k)
     init-long = store-long d e all (init-fine (z .passed .some)) (init-few (z .passed .few)) init-near
@@ -169,8 +180,10 @@ module _ (ns s : List ℕ) (bf : Bool) (f : List ℕ) (bt : Bool) (t : List ℕ)
             let l : list ≡ identifiersSize ns = omega arith in
             record { sum = z .passed .sum; is = l; fields = rw l j; small = rw init-whole short; room = rw init-whole room }
 
-        pub init-stored : (d' : List ℕ) (n : ℕ) → Written d 0 (initSize inner) (encoded (initGiven ns s bf f bt t bk k)) d' n → stored n d' ≡ storing d (initGiven ns s bf f bt t bk k)
-        init-stored d' n w = store-done d e all (init-fine (z .passed .some)) (init-few (z .passed .few)) init-near short room d' n (rw init-whole at w)
+        pub init-stored : (d' : List ℕ) (n : ℕ) → Written d 0 (initSize inner) (encoded (initGiven ns s bf f bt t bk k)) d' n
+            → stored n d' ≡ storing d (initGiven ns s bf f bt t bk k)
+        init-stored d' n w =
+            store-done d e all (init-fine (z .passed .some)) (init-few (z .passed .few)) init-near short room d' n (rw init-whole at w)
 
 pub init-limit : (inner a b : ℕ) → inner ≤ 131072 → a ≡ elementSize inner → b ≡ elementSize a → 8 + b ≤ 1000000
 init-limit inner a b h e g = let i = size-bounds inner in let j = size-bounds a in omega arith
@@ -181,7 +194,8 @@ near-sum x y tail first t e f g = omega arith
 limit-sum : (x tail first t : ℕ) → first ≡ capped x → t ≡ capped tail → first + t ≤ 131072
 limit-sum x tail first t f g = omega arith
 
-pub init-sized : (ns s : List ℕ) (list first tail t : ℕ) → Mechanisms ns s → list ≡ capped (identifiersSize ns) → first ≡ capped (fieldSize true list) → t ≡ capped tail → InitSized ns s list (first + t) tail
+pub init-sized : (ns s : List ℕ) (list first tail t : ℕ) → Mechanisms ns s → list ≡ capped (identifiersSize ns) → first ≡ capped (fieldSize true list)
+    → t ≡ capped tail → InitSized ns s list (first + t) tail
 init-sized ns s list first tail t p e f g =
     let x : capped list ≡ capped (identifiersSize ns) = omega arith in
     let y : capped (elementSize (elementSize list)) ≡ capped (elementSize (elementSize (identifiersSize ns))) =
@@ -194,18 +208,21 @@ pub ruleset inits = (init-long, init-crowded, init-room, init-stored, init-limit
 pub mechanisms-pass : (ns s : List ℕ) (n : ℕ) → n ≡ mechanismsRefusal ns (length s) → n ≡ 0 → Mechanisms ns s
 unfolding mechanismsRefusal
 mechanisms-pass ns s n is h = go (which (eqb (length s) (sumOf ns))) (which (leb 1 (length ns))) (which (leb (length ns) 16)) (sym is ∙ h) where
-  go : (eqb (length s) (sumOf ns) ≡ true) ⊎ (eqb (length s) (sumOf ns) ≡ false) → (leb 1 (length ns) ≡ true) ⊎ (leb 1 (length ns) ≡ false) → (leb (length ns) 16 ≡ true) ⊎ (leb (length ns) 16 ≡ false)
+  go : (eqb (length s) (sumOf ns) ≡ true) ⊎ (eqb (length s) (sumOf ns) ≡ false) → (leb 1 (length ns) ≡ true) ⊎ (leb 1 (length ns) ≡ false)
+      → (leb (length ns) 16 ≡ true) ⊎ (leb (length ns) 16 ≡ false)
       → mechanismsRefusal ns (length s) ≡ 0 → Mechanisms ns s
   go (inl a) (inl b) (inl c) z = record { sum = eqb-true _ _ a; some = leb-true _ _ b; few = leb-true _ _ c }
   go (inl a) (inl b) (inr c) z = let y : _≡_ {A = ℕ} 23 0 = rw (a, b, c) at z in absurd (omega arith)
   go (inl a) (inr b) c z = let y : _≡_ {A = ℕ} 20 0 = rw (a, b) at z in absurd (omega arith)
   go (inr a) b c z = let y : _≡_ {A = ℕ} 20 0 = rw a at z in absurd (omega arith)
 
-module _ (ns s : List ℕ) (bf : Bool) (f : List ℕ) (bt : Bool) (t : List ℕ) (bk : Bool) (k : List ℕ) (d : List ℕ) (n : ℕ) (is : n ≡ mechanismsRefusal ns (length s)) where
+module _ (ns s : List ℕ) (bf : Bool) (f : List ℕ) (bt : Bool) (t : List ℕ) (bk : Bool) (k : List ℕ) (d : List ℕ) (n : ℕ)
+    (is : n ≡ mechanismsRefusal ns (length s)) where
   pub init-refused : (n ≡ 0 → ⊥) → unstored n d ≡ storingInit d ns s bf f bt t bk k
   unfolding mechanismsRefusal storingInit storing fine few initGiven
   init-refused h = go (which (eqb (length s) (sumOf ns))) (which (leb 1 (length ns))) (which (leb (length ns) 16)) where
-    go : (eqb (length s) (sumOf ns) ≡ true) ⊎ (eqb (length s) (sumOf ns) ≡ false) → (leb 1 (length ns) ≡ true) ⊎ (leb 1 (length ns) ≡ false) → (leb (length ns) 16 ≡ true) ⊎ (leb (length ns) 16 ≡ false)
+    go : (eqb (length s) (sumOf ns) ≡ true) ⊎ (eqb (length s) (sumOf ns) ≡ false) → (leb 1 (length ns) ≡ true) ⊎ (leb 1 (length ns) ≡ false)
+        → (leb (length ns) 16 ≡ true) ⊎ (leb (length ns) 16 ≡ false)
         → unstored n d ≡ storingInit d ns s bf f bt t bk k
     go (inl a) (inl b) (inl c) = let z : n ≡ 0 = is ∙ rw (a, b, c) in absurd (h z)
     go (inl a) (inl b) (inr c) = let z : n ≡ 23 = is ∙ rw (a, b, c) in rw (z, a, length-split ns s, b, c)

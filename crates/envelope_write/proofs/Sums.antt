@@ -40,7 +40,8 @@ module _ (ns : List ℕ) (n i left : ℕ) (inv : eqb n (sumOf ns) ≡ eqb left (
     sum-past h = sym (inv ∙ ne-eqb left (sumOf (drop i ns)) (λ e. omega (arith, next)))
 
     pub sum-more : getD ns i 0 ≤ left → eqb n (sumOf ns) ≡ eqb (left - getD ns i 0) (sumOf (drop (i + 1) ns))
-    sum-more h = inv ∙ eqb-same left (sumOf (drop i ns)) (left - getD ns i 0) (sumOf (drop (i + 1) ns)) (λ e. omega (arith, next)) (λ e. omega (arith, next))
+    sum-more h =
+        inv ∙ eqb-same left (sumOf (drop i ns)) (left - getD ns i 0) (sumOf (drop (i + 1) ns)) (λ e. omega (arith, next)) (λ e. omega (arith, next))
 
 pub ruleset sums = (sum-end, sum-past, sum-more)
 
@@ -61,7 +62,8 @@ module _ (ns : List ℕ) (n i : ℕ) (inv : capped (identifiersSize ns) ≡ capp
   unfolding identifiersSize
   sizes-end h k = sym (inv ∙ rw (drop-of-length-le ns h) (omega arith))
 
-  pub sizes-more : i < length ns → (m : ℕ) → m ≡ capped (n + elementSize (getD ns i 0)) → capped (identifiersSize ns) ≡ capped (m + identifiersSize (drop (i + 1) ns))
+  pub sizes-more : i < length ns → (m : ℕ) → m ≡ capped (n + elementSize (getD ns i 0))
+      → capped (identifiersSize ns) ≡ capped (m + identifiersSize (drop (i + 1) ns))
   unfolding identifiersSize
   sizes-more h m e = inv ∙ rw (drop-cons ns i 0 h, add-one) (omega arith)
 
@@ -73,7 +75,8 @@ sizes-limit n x m e = omega arith
 
 pub ruleset sizes = (sizes-end, sizes-more, sizes-limit)
 
-pub tail-size : (by : Bool) (y : ℕ) (bt : Bool) (t : ℕ) (bk : Bool) (k y' t' k' r : ℕ) → y' ≡ capped (fieldSize by y) → t' ≡ capped (fieldSize bt t) → k' ≡ capped (fieldSize bk k)
+pub tail-size : (by : Bool) (y : ℕ) (bt : Bool) (t : ℕ) (bk : Bool) (k y' t' k' r : ℕ) → y' ≡ capped (fieldSize by y) → t' ≡ capped (fieldSize bt t)
+    → k' ≡ capped (fieldSize bk k)
     → r ≡ capped (y' + (t' + k')) → r ≡ capped (tailSize by y bt t bk k)
 unfolding tailSize
 tail-size by y bt t bk k y' t' k' r a b c e = omega arith

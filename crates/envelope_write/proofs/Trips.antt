@@ -25,13 +25,15 @@ no-stored k n d d' e = let z : _≡_ {A = ℕ} 0 1 = cc in absurd (omega arith)
 
 -- the four tests, in order
 data Test (d : List ℕ) (e : Envelope) : Type 0 where
-  done : fine e ≡ true → few e ≡ true → leb (length (encoded e)) 65535 ≡ true → storing d e ≡ stored (length (encoded e)) (put d 0 (encoded e)) → Test d e
+  done : fine e ≡ true → few e ≡ true → leb (length (encoded e)) 65535 ≡ true → storing d e ≡ stored (length (encoded e)) (put d 0 (encoded e))
+      → Test d e
   refused : (n : ℕ) → storing d e ≡ unstored n d → Test d e
 
 test : (d : List ℕ) (e : Envelope) → Test d e
 unfolding storing
 test d e = go (which (fine e)) (which (few e)) (which (leb (length (encoded e)) 65535)) (which (leb (length (encoded e)) (length d))) where
-  go : (fine e ≡ true) ⊎ (fine e ≡ false) → (few e ≡ true) ⊎ (few e ≡ false) → (leb (length (encoded e)) 65535 ≡ true) ⊎ (leb (length (encoded e)) 65535 ≡ false)
+  go : (fine e ≡ true) ⊎ (fine e ≡ false) → (few e ≡ true) ⊎ (few e ≡ false)
+      → (leb (length (encoded e)) 65535 ≡ true) ⊎ (leb (length (encoded e)) 65535 ≡ false)
       → (leb (length (encoded e)) (length d) ≡ true) ⊎ (leb (length (encoded e)) (length d) ≡ false) → Test d e
   go (inl a) (inl b) (inl c) (inl f) = done a b c (rw (a, b, c, f))
   go (inl a) (inl b) (inl c) (inr f) = refused 16 (rw (a, b, c, f))

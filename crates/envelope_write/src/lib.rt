@@ -87,7 +87,8 @@ fn tail_size(
 // Identifiers, each as an element; `sizes` cuts `octets` into them.
 fn put_identifiers(d: &mut [u8], at: usize, sizes: &[usize], octets: &[u8]) -> usize
     requires { ⌜ IdentifiersRoom (now sizes) (now octets) (now d) at ⌝ }
-    ensures { λ r. ⌜ Written (now (d .entry)) at (identifiersSize (now (sizes .entry))) (identifiers (splitBy (now (sizes .entry)) (now (octets .entry)))) (now (d .exit)) r ⌝ }
+    ensures { λ r. ⌜ Written (now (d .entry)) at (identifiersSize (now (sizes .entry)))
+        (identifiers (splitBy (now (sizes .entry)) (now (octets .entry)))) (now (d .exit)) r ⌝ }
 {
     if sizes.len() == 0 {
         return at;
@@ -100,7 +101,8 @@ fn put_identifiers(d: &mut [u8], at: usize, sizes: &[usize], octets: &[u8]) -> u
 // The list of mechanisms; `size` is that of its identifiers.
 fn put_list(d: &mut [u8], at: usize, sizes: &[usize], octets: &[u8], size: usize) -> usize
     requires { ⌜ ListRoom (now sizes) (now octets) (now d) at size ⌝ }
-    ensures { λ r. ⌜ Written (now (d .entry)) at (fieldSize true size) (fieldOctets 0xA0 0x30 (some (identifiers (splitBy (now (sizes .entry)) (now (octets .entry)))))) (now (d .exit)) r ⌝ }
+    ensures { λ r. ⌜ Written (now (d .entry)) at (fieldSize true size)
+        (fieldOctets 0xA0 0x30 (some (identifiers (splitBy (now (sizes .entry)) (now (octets .entry)))))) (now (d .exit)) r ⌝ }
 {
     let inner = element_size(size);
     let a = put_head(d, at, 0xA0, inner);
@@ -121,7 +123,10 @@ fn put_tail(
     checksum: &[u8],
 ) -> usize
     requires { ⌜ TailRoom (now d) at (tailSize named (length (now second)) carried (length (now token)) checked (length (now checksum))) ⌝ }
-    ensures { λ r. ⌜ Written (now (d .entry)) at (tailSize named (length (now (second .entry))) carried (length (now (token .entry))) checked (length (now (checksum .entry)))) (tailOctets inner (given named (now (second .entry))) (given carried (now (token .entry))) (given checked (now (checksum .entry)))) (now (d .exit)) r ⌝ }
+    ensures { λ r. ⌜ Written (now (d .entry)) at
+        (tailSize named (length (now (second .entry))) carried (length (now (token .entry))) checked (length (now (checksum .entry))))
+        (tailOctets inner (given named (now (second .entry))) (given carried (now (token .entry))) (given checked (now (checksum .entry))))
+        (now (d .exit)) r ⌝ }
 {
     let a = put_field(d, at, 0xA1, inner, named, second);
     let b = put_field(d, a, 0xA2, 0x04, carried, token);
@@ -142,8 +147,11 @@ fn put_init(
     checked: bool,
     checksum: &[u8],
 ) -> usize
-    requires { ⌜ InitRoom (now sizes) (now octets) (now d) list inner (tailSize flagged (length (now flags)) carried (length (now token)) checked (length (now checksum))) ⌝ }
-    ensures { λ r. ⌜ Written (now (d .entry)) 0 (initSize inner) (encoded (initGiven (now (sizes .entry)) (now (octets .entry)) flagged (now (flags .entry)) carried (now (token .entry)) checked (now (checksum .entry)))) (now (d .exit)) r ⌝ }
+    requires { ⌜ InitRoom (now sizes) (now octets) (now d) list inner
+        (tailSize flagged (length (now flags)) carried (length (now token)) checked (length (now checksum))) ⌝ }
+    ensures { λ r. ⌜ Written (now (d .entry)) 0 (initSize inner)
+        (encoded (initGiven (now (sizes .entry)) (now (octets .entry)) flagged (now (flags .entry)) carried (now (token .entry)) checked
+        (now (checksum .entry)))) (now (d .exit)) r ⌝ }
 {
     let spnego = [0x2B, 0x06, 0x01, 0x05, 0x05, 0x02];
     let sequence = element_size(inner);
@@ -180,8 +188,11 @@ fn store_init(
     checked: bool,
     checksum: &[u8],
 ) -> Stored
-    requires { ⌜ InitSized (now sizes) (now octets) list inner (tailSize flagged (length (now flags)) carried (length (now token)) checked (length (now checksum))) ⌝ }
-    ensures { λ r. ⌜ told r (now (d .exit)) ≡ storing (now (d .entry)) (initGiven (now (sizes .entry)) (now (octets .entry)) flagged (now (flags .entry)) carried (now (token .entry)) checked (now (checksum .entry))) ⌝ }
+    requires { ⌜ InitSized (now sizes) (now octets) list inner
+        (tailSize flagged (length (now flags)) carried (length (now token)) checked (length (now checksum))) ⌝ }
+    ensures { λ r. ⌜ told r (now (d .exit)) ≡ storing (now (d .entry))
+        (initGiven (now (sizes .entry)) (now (octets .entry)) flagged (now (flags .entry)) carried (now (token .entry)) checked
+        (now (checksum .entry))) ⌝ }
 {
     let all = element_size(8 + element_size(element_size(inner)));
     if 65535 < all {
@@ -218,7 +229,9 @@ fn size_init(
     checksum: &[u8],
 ) -> Stored
     requires { ⌜ Mechanisms (now sizes) (now octets) ⌝ }
-    ensures { λ r. ⌜ told r (now (d .exit)) ≡ storing (now (d .entry)) (initGiven (now (sizes .entry)) (now (octets .entry)) flagged (now (flags .entry)) carried (now (token .entry)) checked (now (checksum .entry))) ⌝ }
+    ensures { λ r. ⌜ told r (now (d .exit)) ≡ storing (now (d .entry))
+        (initGiven (now (sizes .entry)) (now (octets .entry)) flagged (now (flags .entry)) carried (now (token .entry)) checked
+        (now (checksum .entry))) ⌝ }
 {
     let list = identifiers_size(sizes);
     let tail = tail_size(
@@ -272,7 +285,8 @@ pub fn write_init(
     checked: bool,
     checksum: &[u8],
 ) -> Stored
-    ensures { λ r. ⌜ told r (now (d .exit)) ≡ storingInit (now (d .entry)) (now (sizes .entry)) (now (octets .entry)) flagged (now (flags .entry)) carried (now (token .entry)) checked (now (checksum .entry)) ⌝ }
+    ensures { λ r. ⌜ told r (now (d .exit)) ≡ storingInit (now (d .entry)) (now (sizes .entry)) (now (octets .entry)) flagged
+        (now (flags .entry)) carried (now (token .entry)) checked (now (checksum .entry)) ⌝ }
 {
     let n = mechanisms_refusal(sizes, octets.len());
     if n != 0 {
@@ -314,8 +328,11 @@ fn put_resp(
     checked: bool,
     checksum: &[u8],
 ) -> usize
-    requires { ⌜ RespRoom (now d) inner (fieldSize stated 1) (tailSize named (length (now mechanism)) carried (length (now token)) checked (length (now checksum))) ⌝ }
-    ensures { λ r. ⌜ Written (now (d .entry)) 0 (respSize inner) (encoded (respGiven stated state named (now (mechanism .entry)) carried (now (token .entry)) checked (now (checksum .entry)))) (now (d .exit)) r ⌝ }
+    requires { ⌜ RespRoom (now d) inner (fieldSize stated 1)
+        (tailSize named (length (now mechanism)) carried (length (now token)) checked (length (now checksum))) ⌝ }
+    ensures { λ r. ⌜ Written (now (d .entry)) 0 (respSize inner)
+        (encoded (respGiven stated state named (now (mechanism .entry)) carried (now (token .entry)) checked (now (checksum .entry))))
+        (now (d .exit)) r ⌝ }
 {
     let octet = [state];
     let sequence = element_size(inner);
@@ -348,8 +365,10 @@ fn store_resp(
     checked: bool,
     checksum: &[u8],
 ) -> Stored
-    requires { ⌜ RespSized (given stated (state ∷ [])) inner (fieldSize stated 1) (tailSize named (length (now mechanism)) carried (length (now token)) checked (length (now checksum))) ⌝ }
-    ensures { λ r. ⌜ told r (now (d .exit)) ≡ storing (now (d .entry)) (respGiven stated state named (now (mechanism .entry)) carried (now (token .entry)) checked (now (checksum .entry))) ⌝ }
+    requires { ⌜ RespSized (given stated (state ∷ [])) inner (fieldSize stated 1)
+        (tailSize named (length (now mechanism)) carried (length (now token)) checked (length (now checksum))) ⌝ }
+    ensures { λ r. ⌜ told r (now (d .exit)) ≡ storing (now (d .entry))
+        (respGiven stated state named (now (mechanism .entry)) carried (now (token .entry)) checked (now (checksum .entry))) ⌝ }
 {
     let all = element_size(element_size(inner));
     if 65535 < all {
@@ -384,7 +403,8 @@ pub fn write_resp(
     checked: bool,
     checksum: &[u8],
 ) -> Stored
-    ensures { λ r. ⌜ told r (now (d .exit)) ≡ storing (now (d .entry)) (respGiven stated state named (now (mechanism .entry)) carried (now (token .entry)) checked (now (checksum .entry))) ⌝ }
+    ensures { λ r. ⌜ told r (now (d .exit)) ≡ storing (now (d .entry))
+        (respGiven stated state named (now (mechanism .entry)) carried (now (token .entry)) checked (now (checksum .entry))) ⌝ }
 {
     if fine_state(stated, state) {} else {
         return Stored::Refused(20);

@@ -31,20 +31,32 @@ use Rattle.faults.proofs.Spots.{at-3, at-4, at-5, at-6, at-7, at-8, at-
 
 -- ---- lists of checks
 -- those of vectors that all keep their rule pass
-vectors-pass : (shape : Shape) (len : ℕ) (m : List ℕ) (vs : List Vector) (k n : ℕ) (x : Spot) (cs : List Check) → allKeepRule (headerOf shape) len vs ≡ true → FirstCheck n x cs → FirstCheck n x (vectorChecks shape len m vs k ++ cs)
+vectors-pass : (shape : Shape) (len : ℕ) (m : List ℕ) (vs : List Vector) (k n : ℕ) (x : Spot) (cs : List Check)
+    → allKeepRule (headerOf shape) len vs ≡ true → FirstCheck n x cs → FirstCheck n x (vectorChecks shape len m vs k ++ cs)
 unfolding vectorChecks allKeepRule
 vectors-pass shape len m [] k n x cs e f = f
 vectors-pass shape len m (v ∷ vs) k n x cs e f =
-    inr (and-l (keepsRule (headerOf shape) len v) (allKeepRule (headerOf shape) len vs) e, vectors-pass shape len m vs (k + 1) n x cs (and-r (keepsRule (headerOf shape) len v) (allKeepRule (headerOf shape) len vs) e) f)
+    inr (
+      and-l (keepsRule (headerOf shape) len v) (allKeepRule (headerOf shape) len vs) e,
+      vectors-pass shape len m vs (k + 1) n x cs
+          (and-r (keepsRule (headerOf shape) len v) (allKeepRule (headerOf shape) len vs) e) f,
+    )
 
 -- and where one breaks it, the first that does is found
-vectors-fail : (shape : Shape) (len : ℕ) (m : List ℕ) (vs : List Vector) (k : ℕ) (cs : List Check) → allKeepRule (headerOf shape) len vs ≡ false → FirstCheck 11 (vectorSpot shape m (firstBroken (headerOf shape) len vs k)) (vectorChecks shape len m vs k ++ cs)
+vectors-fail : (shape : Shape) (len : ℕ) (m : List ℕ) (vs : List Vector) (k : ℕ) (cs : List Check) → allKeepRule (headerOf shape) len vs ≡ false
+    → FirstCheck 11 (vectorSpot shape m (firstBroken (headerOf shape) len vs k)) (vectorChecks shape len m vs k ++ cs)
 unfolding vectorChecks allKeepRule firstBroken
 vectors-fail shape len m [] k cs e = absurd (no e) where
   no : true ≡ false → ⊥
   no p = let z : _≡_ {A = ℕ} 0 1 = cc in omega arith
 vectors-fail shape len m (v ∷ vs) k cs e = elim (which (keepsRule (headerOf shape) len v)) [
-  | inl t ↦ inr (t, subst (λ (b : Bool). FirstCheck 11 (vectorSpot shape m (cond b (firstBroken (headerOf shape) len vs (k + 1)) k)) (vectorChecks shape len m vs (k + 1) ++ cs)) (sym t) (vectors-fail shape len m vs (k + 1) cs (sym (ap (λ (b : Bool). b && allKeepRule (headerOf shape) len vs) t) ∙ e)))
+  | inl t ↦ inr (
+    t,
+    subst
+        (λ (b : Bool). FirstCheck 11 (vectorSpot shape m (cond b (firstBroken (headerOf shape) len vs (k + 1)) k))
+        (vectorChecks shape len m vs (k + 1) ++ cs)) (sym t)
+        (vectors-fail shape len m vs (k + 1) cs (sym (ap (λ (b : Bool). b && allKeepRule (headerOf shape) len vs) t) ∙ e)),
+  )
   | inr t ↦ inl (t, (refl, sym (ap (λ (b : Bool). vectorSpot shape m (cond b (firstBroken (headerOf shape) len vs (k + 1)) k)) t)))
 ]
 
@@ -58,14 +70,29 @@ broken-few header len (v ∷ vs) k e = elim (which (keepsRule header len v)) [
   | inr t ↦ rw t (omega arith)
 ]
 
-criticals-fail : (m : List ℕ) (es : List Element) (k : ℕ) → noneCritical es ≡ false → FirstCheck 12 (spot 27 (firstCritical es k) (extensionVector m .offset .0 + 12 * firstCritical es k) 4) (criticalChecks m es k)
+criticals-fail : (m : List ℕ) (es : List Element) (k : ℕ) → noneCritical es ≡ false
+    → FirstCheck 12 (spot 27 (firstCritical es k) (extensionVector m .offset .0 + 12 * firstCritical es k) 4) (criticalChecks m es k)
 unfolding criticalChecks noneCritical firstCritical
 criticals-fail m [] k e = absurd (no e) where
   no : true ≡ false → ⊥
   no p = let z : _≡_ {A = ℕ} 0 1 = cc in omega arith
 criticals-fail m (x ∷ es) k e = elim (which (not (negative (signed32 (x .type))))) [
-  | inl t ↦ inr (t, subst (λ (b : Bool). FirstCheck 12 (spot 27 (cond b (firstCritical es (k + 1)) k) (extensionVector m .offset .0 + 12 * cond b (firstCritical es (k + 1)) k) 4) (criticalChecks m es (k + 1))) (sym t) (criticals-fail m es (k + 1) (sym (ap (λ (b : Bool). b && noneCritical es) t) ∙ e)))
-  | inr t ↦ inl (t, (refl, sym (ap (λ (b : Bool). spot 27 (cond b (firstCritical es (k + 1)) k) (extensionVector m .offset .0 + 12 * cond b (firstCritical es (k + 1)) k) 4) t)))
+  | inl t ↦ inr (
+    t,
+    subst
+        (λ (b : Bool). FirstCheck 12
+        (spot 27 (cond b (firstCritical es (k + 1)) k) (extensionVector m .offset .0 + 12 * cond b (firstCritical es (k + 1)) k) 4)
+        (criticalChecks m es (k + 1))) (sym t) (criticals-fail m es (k + 1) (sym (ap (λ (b : Bool). b && noneCritical es) t) ∙ e)),
+  )
+  | inr t ↦ inl (
+    t,
+    (
+      refl,
+      sym
+          (ap (λ (b : Bool). spot 27 (cond b (firstCritical es (k + 1)) k) (extensionVector m .offset .0 + 12 * cond b (firstCritical es (k + 1)) k) 4)
+          t),
+    ),
+  )
 ]
 
 -- a check list with nothing behind it
@@ -78,25 +105,33 @@ behind-none n x (c ∷ cs) (inr (t, f)) = inr (t, behind-none n x cs f)
 module _ (m : List ℕ) (shape : Shape) (is : shapeOf (headOf m .kind) ≡ shape) (room : headerOf shape ≤ length m) where
   own-vectors : vectorsIn m ≡ vectorsOf (contentOf shape m)
   unfolding vectorsIn
-  own-vectors = let h : headerIn m ≤ length m = subst (λ (x : Shape). headerOf x ≤ length m) (sym is) room in (rw (le-leb _ _ h) refl) ∙ ap (λ (x : Shape). vectorsOf (contentOf x m)) is
+  own-vectors =
+      let h : headerIn m ≤ length m =
+      subst (λ (x : Shape). headerOf x ≤ length m) (sym is) room in (rw (le-leb _ _ h) refl) ∙ ap (λ (x : Shape). vectorsOf (contentOf x m)) is
 
-  pub broken-is : allKeepRule (headerOf shape) (length m) (vectorsOf (contentOf shape m)) ≡ false → vectorSpot shape m (firstBroken (headerOf shape) (length m) (vectorsOf (contentOf shape m)) 0) ≡ brokenSpot m
+  pub broken-is : allKeepRule (headerOf shape) (length m) (vectorsOf (contentOf shape m)) ≡ false
+      → vectorSpot shape m (firstBroken (headerOf shape) (length m) (vectorsOf (contentOf shape m)) 0) ≡ brokenSpot m
   unfolding brokenSpot
   broken-is e =
       let b : brokenIn m ≡ firstBroken (headerOf shape) (length m) (vectorsOf (contentOf shape m)) 0 =
-      ap (λ (x : Shape). firstBroken (headerOf x) (length m) (vectorsIn m) 0) is ∙ ap (λ (vs : List Vector). firstBroken (headerOf shape) (length m) vs 0) own-vectors in
-      let few : brokenIn m < length (vectorsIn m) = omega (arith, b, ap length own-vectors, broken-few (headerOf shape) (length m) (vectorsOf (contentOf shape m)) 0 e) in
+      ap (λ (x : Shape). firstBroken (headerOf x) (length m) (vectorsIn m) 0) is
+      ∙ ap (λ (vs : List Vector). firstBroken (headerOf shape) (length m) vs 0) own-vectors in
+      let few : brokenIn m < length (vectorsIn m) =
+      omega (arith, b, ap length own-vectors, broken-few (headerOf shape) (length m) (vectorsOf (contentOf shape m)) 0 e) in
       sym (
       ap (λ (c : Bool). cond c (vectorSpot (shapeOf (headOf m .kind)) m (brokenIn m)) noSpot) (lt-ltb _ _ few)
       ∙ ap (λ (x : Shape). vectorSpot x m (brokenIn m)) is
       ∙ ap (vectorSpot shape m) b
       )
 
-  pub vector-fault : (n : ℕ) → 11 ≡ n → allKeepRule (headerOf shape) (length m) (vectorsOf (contentOf shape m)) ≡ false → (cs : List Check) → FirstCheck n (spotOf n m) (vectorChecks shape (length m) m (vectorsOf (contentOf shape m)) 0 ++ cs)
+  pub vector-fault : (n : ℕ) → 11 ≡ n → allKeepRule (headerOf shape) (length m) (vectorsOf (contentOf shape m)) ≡ false → (cs : List Check)
+      → FirstCheck n (spotOf n m) (vectorChecks shape (length m) m (vectorsOf (contentOf shape m)) 0 ++ cs)
   vector-fault n e f cs =
-      let at : vectorSpot shape m (firstBroken (headerOf shape) (length m) (vectorsOf (contentOf shape m)) 0) ≡ spotOf 11 m = at-11 11 m _ refl (broken-is f) in
+      let at : vectorSpot shape m (firstBroken (headerOf shape) (length m) (vectorsOf (contentOf shape m)) 0) ≡ spotOf 11 m =
+      at-11 11 m _ refl (broken-is f) in
       subst (λ (k : ℕ). FirstCheck k (spotOf k m) (vectorChecks shape (length m) m (vectorsOf (contentOf shape m)) 0 ++ cs)) e
-      (subst (λ (x : Spot). FirstCheck 11 x (vectorChecks shape (length m) m (vectorsOf (contentOf shape m)) 0 ++ cs)) at (vectors-fail shape (length m) m (vectorsOf (contentOf shape m)) 0 cs f))
+      (subst (λ (x : Spot). FirstCheck 11 x (vectorChecks shape (length m) m (vectorsOf (contentOf shape m)) 0 ++ cs)) at
+      (vectors-fail shape (length m) m (vectorsOf (contentOf shape m)) 0 cs f))
 
 -- the rule of a NEGO's extension vector, which stands second
 pub second-keeps : (m : List ℕ) → allKeepRule 96 (length m) (vectorsOf (contentOf nego m)) ≡ true → keepsRule 96 (length m) (extensionVector m) ≡ true
@@ -108,7 +143,8 @@ second-keeps m e =
     and-l (keepsRule 96 (length m) (extensionVector m)) (allKeepRule 96 (length m) vs) rest
 
 pub critical-is : (m : List ℕ) → 96 ≤ length m → keepsRule 96 (length m) (extensionVector m) ≡ true
-    → spot 27 (firstCritical (elementsOf (part m (extensionVector m))) 0) (extensionVector m .offset .0 + 12 * firstCritical (elementsOf (part m (extensionVector m))) 0) 4 ≡ criticalSpot m
+    → spot 27 (firstCritical (elementsOf (part m (extensionVector m))) 0)
+    (extensionVector m .offset .0 + 12 * firstCritical (elementsOf (part m (extensionVector m))) 0) 4 ≡ criticalSpot m
 unfolding criticalSpot shown
 critical-is m h e = sym (simp (le-leb _ _ h, e))
 
@@ -130,9 +166,11 @@ content-fault m nego is room n f = elim f [
     elim (a .1) [
       | inl b ↦ vector-fault m nego is room n (b .1) (b .0) (criticalChecks m (elementsOf (part m (extensionVector m))) 0)
       | inr b ↦ elim (b .1) [
-        | inl c ↦ vectors-pass nego (length m) m (vectorsOf (contentOf nego m)) 0 n (spotOf n m) (criticalChecks m (elementsOf (part m (extensionVector m))) 0) (b .0)
+        | inl c ↦ vectors-pass nego (length m) m (vectorsOf (contentOf nego m)) 0 n (spotOf n m)
+            (criticalChecks m (elementsOf (part m (extensionVector m))) 0) (b .0)
             (subst (λ (k : ℕ). FirstCheck k (spotOf k m) (criticalChecks m (elementsOf (part m (extensionVector m))) 0)) (c .1)
-            (subst (λ (x : Spot). FirstCheck 12 x (criticalChecks m (elementsOf (part m (extensionVector m))) 0)) (at-12 12 m _ refl (critical-is m room (second-keeps m (b .0))))
+            (subst (λ (x : Spot). FirstCheck 12 x (criticalChecks m (elementsOf (part m (extensionVector m))) 0))
+            (at-12 12 m _ refl (critical-is m room (second-keeps m (b .0))))
             (criticals-fail m (elementsOf (part m (extensionVector m))) 0 (c .0))))
         | inr c ↦ elim (c .1) [ inl d ↦ no-true (sym (d .0)) | inr d ↦ absurd (d .1) ]
       ]
@@ -142,7 +180,8 @@ content-fault m nego is room n f = elim f [
 content-fault m exchange is room n f = elim f [
   | inl a ↦ no-true (sym (a .0))
   | inr a ↦ elim (a .1) [
-    | inl b ↦ behind-none n (spotOf n m) (vectorChecks exchange (length m) m (vectorsOf (contentOf exchange m)) 0) (vector-fault m exchange is room n (b .1) (b .0) [])
+    | inl b ↦ behind-none n (spotOf n m) (vectorChecks exchange (length m) m (vectorsOf (contentOf exchange m)) 0)
+        (vector-fault m exchange is room n (b .1) (b .0) [])
     | inr b ↦ elim (b .1) [
       | inl c ↦ no-true (sym (c .0))
       | inr c ↦ elim (c .1) [ inl d ↦ no-true (sym (d .0)) | inr d ↦ absurd (d .1) ]
@@ -157,7 +196,14 @@ content-fault m verify is room n f = elim f [
       | inl c ↦ no-true (sym (c .0))
       | inr c ↦ elim (c .1) [
         | inl d ↦ vectors-pass verify (length m) m (vectorsOf (contentOf verify m)) 0 n (spotOf n m) _ (b .0) (elim (which (eqb (le 4 m 56) 20)) [
-          | inl t ↦ inr (t, inl (sym (ap (λ (x : Bool). x && eqb (le 4 m 60) 1) t) ∙ d .0, (d .1, at-13 n m (spot 14 0 60 4) (sym (d .1)) (checksum-scheme-is m room t))))
+          | inl t ↦ inr (
+            t,
+            inl (
+              sym (ap (λ (x : Bool). x && eqb (le 4 m 60) 1) t)
+                  ∙ d .0,
+              (d .1, at-13 n m (spot 14 0 60 4) (sym (d .1)) (checksum-scheme-is m room t)),
+            ),
+          )
           | inr t ↦ inl (t, (d .1, at-13 n m (spot 13 0 56 4) (sym (d .1)) (checksum-header-is m room t)))
         ])
         | inr d ↦ absurd (d .1)
@@ -168,7 +214,8 @@ content-fault m verify is room n f = elim f [
 content-fault m alert is room n f = elim f [
   | inl a ↦ no-true (sym (a .0))
   | inr a ↦ elim (a .1) [
-    | inl b ↦ behind-none n (spotOf n m) (vectorChecks alert (length m) m (vectorsOf (contentOf alert m)) 0) (vector-fault m alert is room n (b .1) (b .0) [])
+    | inl b ↦ behind-none n (spotOf n m) (vectorChecks alert (length m) m (vectorsOf (contentOf alert m)) 0)
+        (vector-fault m alert is room n (b .1) (b .0) [])
     | inr b ↦ elim (b .1) [
       | inl c ↦ no-true (sym (c .0))
       | inr c ↦ elim (c .1) [ inl d ↦ no-true (sym (d .0)) | inr d ↦ absurd (d .1) ]
@@ -181,7 +228,8 @@ at-2 : (n : ℕ) (m : List ℕ) → 2 ≡ n → noSpot ≡ spotOf n m
 unfolding spotOf
 at-2 n m e = rw (← e)
 
-body-fault : (s : List ℕ) (n : ℕ) → allPass (commonRows (length s) (headOf s)) ≡ true → FirstFails n (frontRows s) → FirstCheck n (spotOf n (firstOf s)) (contentChecks (shapeOf (headOf s .kind)) (size s) (front s))
+body-fault : (s : List ℕ) (n : ℕ) → allPass (commonRows (length s) (headOf s)) ≡ true → FirstFails n (frontRows s)
+    → FirstCheck n (spotOf n (firstOf s)) (contentChecks (shapeOf (headOf s .kind)) (size s) (front s))
 unfolding frontRows bodyRows firstOf
 body-fault s n ok f =
     let z = common-sized (length s) (headOf s) ok in
@@ -191,7 +239,8 @@ body-fault s n ok f =
     let first : firstOf s ≡ front s = simp (le-leb _ _ (z .forty), le-leb _ _ (z .within)) in
     let found : FirstCheck n (spotOf n (front s)) (contentChecks (shapeOf (headOf s .kind)) (length (front s)) (front s)) =
     content-fault (front s) (shapeOf (headOf s .kind)) is (omega (arith, z .header, z .holds)) n
-    (subst (λ (k : ℕ). FirstFails n (contentRows (headerOf (shapeOf (headOf s .kind))) k (contentOf (shapeOf (headOf s .kind)) (front s)))) (sym long) f) in
+    (subst (λ (k : ℕ). FirstFails n (contentRows (headerOf (shapeOf (headOf s .kind))) k (contentOf (shapeOf (headOf s .kind)) (front s))))
+    (sym long) f) in
     subst (λ (l : List ℕ). FirstCheck n (spotOf n l) (contentChecks (shapeOf (headOf s .kind)) (size s) (front s))) (sym first)
     (subst (λ (k : ℕ). FirstCheck n (spotOf n (front s)) (contentChecks (shapeOf (headOf s .kind)) k (front s))) long found)
 
@@ -227,7 +276,11 @@ front-fault s q v n f = elim f [
                             h .0,
                             elim (h .1) [
                               | inl i ↦ inl (i .0, (i .1, at-8 n (firstOf s) (spot 6 0 24 16) (sym (i .1)) refl))
-                              | inr i ↦ inr (i .0, body-fault s n (giving (commonRows (length s) (headOf s)) (a .0, (b .0, (c .0, (d .0, (e .0, (g .0, tt))))))) (i .1))
+                              | inr i ↦ inr (
+                                i .0,
+                                body-fault s n (giving (commonRows (length s) (headOf s)) (a .0, (b .0, (c .0, (d .0, (e .0, (g .0, tt)))))))
+                                    (i .1),
+                              )
                             ],
                           )
                         ],

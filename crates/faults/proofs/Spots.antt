@@ -26,31 +26,39 @@ use Rattle.faults.specs.Faults.{spot, firstBroken, brokenIn, vectorSpot,
 pub type-room : (m : List ℕ) → headerIn m ≤ length m → 8 + 4 ≤ length m
 type-room m h = omega (arith, header-least (shapeOf (headOf m .kind)))
 
-pub broken-begin : (m : List ℕ) (kind : ℕ) → kind ≡ le 4 m 8 → (h : ℕ) → h ≡ headerOf (shapeOf kind) → brokenIn m ≡ firstBroken h (length m) (drop 0 (vectorsIn m)) 0
+pub broken-begin : (m : List ℕ) (kind : ℕ) → kind ≡ le 4 m 8 → (h : ℕ) → h ≡ headerOf (shapeOf kind)
+    → brokenIn m ≡ firstBroken h (length m) (drop 0 (vectorsIn m)) 0
 unfolding headOf
 broken-begin m kind kind-is h e = ap (λ (x : ℕ). firstBroken x (length m) (vectorsIn m) 0) (sym (e ∙ ap (λ (x : ℕ). headerOf (shapeOf x)) kind-is))
 
 module _ (m : List ℕ) (h k : ℕ) (on : brokenIn m ≡ firstBroken h (length m) (drop k (vectorsIn m)) k) where
   pub broken-end : (n : ℕ) → n ≡ length (vectorsIn m) → n ≤ k → k ≡ brokenIn m
   unfolding firstBroken
-  broken-end n n-is g = sym (on ∙ ap (λ (l : List Vector). firstBroken h (length m) l k) (none (drop k (vectorsIn m)) (omega (arith, length-drop k (vectorsIn m))))) where
-    none : (l : List Vector) → length l ≡ 0 → l ≡ []
-    none [] e = refl
-    none (x ∷ l) e = absurd (omega arith)
+  broken-end n n-is g =
+      sym (on ∙ ap (λ (l : List Vector). firstBroken h (length m) l k)
+      (none (drop k (vectorsIn m)) (omega (arith, length-drop k (vectorsIn m))))) where
+        none : (l : List Vector) → length l ≡ 0 → l ≡ []
+        none [] e = refl
+        none (x ∷ l) e = absurd (omega arith)
 
-  module _ (n : ℕ) (n-is : n ≡ length (vectorsIn m)) (more : k < n) (v : Vector) (v-is : v ≡ vectorIn m k) (b : Bool) (b-is : b ≡ keepsRule h (length m) v) where
+  module _ (n : ℕ) (n-is : n ≡ length (vectorsIn m)) (more : k < n) (v : Vector) (v-is : v ≡ vectorIn m k) (b : Bool)
+      (b-is : b ≡ keepsRule h (length m) v) where
     next-is : drop k (vectorsIn m) ≡ v ∷ drop (k + 1) (vectorsIn m)
-    next-is = drop-cons (vectorsIn m) k noVector (omega arith) ∙ ap (λ (x : Vector). x ∷ drop (suc k) (vectorsIn m)) (sym v-is) ∙ ap (λ (j : ℕ). v ∷ drop j (vectorsIn m)) (sym (add-one k))
+    next-is =
+        drop-cons (vectorsIn m) k noVector (omega arith) ∙ ap (λ (x : Vector). x ∷ drop (suc k) (vectorsIn m)) (sym v-is)
+        ∙ ap (λ (j : ℕ). v ∷ drop j (vectorsIn m)) (sym (add-one k))
 
     pub broken-here : b ≡ false → k ≡ brokenIn m
     unfolding firstBroken
     broken-here t =
-        sym (on ∙ ap (λ (l : List Vector). firstBroken h (length m) l k) next-is ∙ ap (λ (x : Bool). cond x (firstBroken h (length m) (drop (k + 1) (vectorsIn m)) (k + 1)) k) (sym b-is ∙ t))
+        sym (on ∙ ap (λ (l : List Vector). firstBroken h (length m) l k) next-is
+        ∙ ap (λ (x : Bool). cond x (firstBroken h (length m) (drop (k + 1) (vectorsIn m)) (k + 1)) k) (sym b-is ∙ t))
 
     pub broken-next : b ≡ true → brokenIn m ≡ firstBroken h (length m) (drop (k + 1) (vectorsIn m)) (k + 1)
     unfolding firstBroken
     broken-next t =
-        on ∙ ap (λ (l : List Vector). firstBroken h (length m) l k) next-is ∙ ap (λ (x : Bool). cond x (firstBroken h (length m) (drop (k + 1) (vectorsIn m)) (k + 1)) k) (sym b-is ∙ t)
+        on ∙ ap (λ (l : List Vector). firstBroken h (length m) l k) next-is
+        ∙ ap (λ (x : Bool). cond x (firstBroken h (length m) (drop (k + 1) (vectorsIn m)) (k + 1)) k) (sym b-is ∙ t)
 
 pub ruleset broken = (broken-begin, broken-end, broken-here, broken-next)
 
@@ -64,7 +72,8 @@ module _ (a : List ℕ) (n k : ℕ) (on : firstCritical (elementsOf a) 0 ≡ fir
   critical-end h = let e : n - k ≡ 0 = omega arith in sym (on ∙ ap (λ (j : ℕ). firstCritical (elementsAt j a (12 * k)) k) e)
 
   module _ (more : k < n) (b : Bool) (b-is : b ≡ negative (signed32 (le 4 a (12 * k)))) where
-    step-is : firstCritical (elementsAt (n - k) a (12 * k)) k ≡ cond (not (negative (signed32 (le 4 a (12 * k))))) (firstCritical (elementsAt (n - (k + 1)) a (12 * (k + 1))) (k + 1)) k
+    step-is : firstCritical (elementsAt (n - k) a (12 * k)) k
+        ≡ cond (not (negative (signed32 (le 4 a (12 * k))))) (firstCritical (elementsAt (n - (k + 1)) a (12 * (k + 1))) (k + 1)) k
     unfolding firstCritical elementsAt
     step-is =
         let e : n - k ≡ suc (n - (k + 1)) = omega arith in
@@ -73,10 +82,12 @@ module _ (a : List ℕ) (n k : ℕ) (on : firstCritical (elementsOf a) 0 ≡ fir
         ∙ ap (λ (j : ℕ). cond (not (negative (signed32 (le 4 a (12 * k))))) (firstCritical (elementsAt (n - (k + 1)) a j) (k + 1)) k) f
 
     pub critical-here : b ≡ true → k ≡ firstCritical (elementsOf a) 0
-    critical-here t = sym (on ∙ step-is ∙ ap (λ (x : Bool). cond (not x) (firstCritical (elementsAt (n - (k + 1)) a (12 * (k + 1))) (k + 1)) k) (sym b-is ∙ t))
+    critical-here t =
+        sym (on ∙ step-is ∙ ap (λ (x : Bool). cond (not x) (firstCritical (elementsAt (n - (k + 1)) a (12 * (k + 1))) (k + 1)) k) (sym b-is ∙ t))
 
     pub critical-next : b ≡ false → firstCritical (elementsOf a) 0 ≡ firstCritical (elementsAt (n - (k + 1)) a (12 * (k + 1))) (k + 1)
-    critical-next t = on ∙ step-is ∙ ap (λ (x : Bool). cond (not x) (firstCritical (elementsAt (n - (k + 1)) a (12 * (k + 1))) (k + 1)) k) (sym b-is ∙ t)
+    critical-next t =
+        on ∙ step-is ∙ ap (λ (x : Bool). cond (not x) (firstCritical (elementsAt (n - (k + 1)) a (12 * (k + 1))) (k + 1)) k) (sym b-is ∙ t)
 
 pub ruleset critical = (critical-begin, critical-end, critical-here, critical-next)
 
@@ -88,13 +99,15 @@ module _ (m : List ℕ) (k : ℕ) where
   pub nego-second : (k ≡ 0 → ⊥) → k ≡ 1 → (x : Spot) → x ≡ spot 10 0 88 6 → x ≡ vectorSpot nego m k
   nego-second h e x x-is = rw e x-is
 
-  pub nego-value : (k ≡ 0 → ⊥) → (k ≡ 1 → ⊥) → (v : Vector) → v ≡ extensionVector m → _≡_ {A = Spot} (record { what = 28; number = k - 2; at = v .offset .0 + 12 * (k - 2) + 4; size = 8 }) (vectorSpot nego m k)
+  pub nego-value : (k ≡ 0 → ⊥) → (k ≡ 1 → ⊥) → (v : Vector) → v ≡ extensionVector m
+      → _≡_ {A = Spot} (record { what = 28; number = k - 2; at = v .offset .0 + 12 * (k - 2) + 4; size = 8 }) (vectorSpot nego m k)
   nego-value h g v v-is = rw v-is (simp (ne-eqb k 0 h, ne-eqb k 1 g))
 
   pub alert-first : k ≡ 0 → (x : Spot) → x ≡ spot 18 0 60 6 → x ≡ vectorSpot alert m k
   alert-first e x x-is = rw e x-is
 
-  pub alert-value : (k ≡ 0 → ⊥) → (v : Vector) → v ≡ alertVector m → _≡_ {A = Spot} (record { what = 30; number = k - 1; at = v .offset .0 + 12 * (k - 1) + 4; size = 8 }) (vectorSpot alert m k)
+  pub alert-value : (k ≡ 0 → ⊥) → (v : Vector) → v ≡ alertVector m
+      → _≡_ {A = Spot} (record { what = 30; number = k - 1; at = v .offset .0 + 12 * (k - 1) + 4; size = 8 }) (vectorSpot alert m k)
   alert-value h v v-is = rw v-is (simp (ne-eqb k 0 h))
 
   module _ (kind : ℕ) (x : Spot) where
@@ -120,10 +133,16 @@ part-short m v = omega (arith, length-take (v .count * v .size) (drop (v .offset
 
 few-of : (m : List ℕ) (kind : ℕ) → length (vectorsOf (contentOf (shapeOf kind) m)) ≤ 2 + length m / 12
 few-of m kind = elim (which (leb kind 1)) [
-  | inl e ↦ omega (arith, count-nego m kind (leb-true _ _ e) (extensionVector m) refl (part m (extensionVector m)) refl, part-short m (extensionVector m))
+  | inl e ↦ omega
+      (arith, count-nego m kind (leb-true _ _ e) (extensionVector m) refl (part m (extensionVector m)) refl, part-short m (extensionVector m))
   | inr e ↦ elim (which (leb kind 6)) [
     | inl g ↦ omega (arith, count-one m kind (leb-false _ _ e) (leb-true _ _ g))
-    | inr g ↦ omega (arith, count-alert m kind (leb-false _ _ e) (leb-false _ _ g) (alertVector m) refl (part m (alertVector m)) refl, part-short m (alertVector m))
+    | inr g ↦ omega (
+      arith,
+      count-alert m kind (leb-false _ _ e) (leb-false _ _ g) (alertVector m) refl (part m (alertVector m)) refl,
+      part-short m
+          (alertVector m),
+    )
   ]
 ]
 
@@ -197,7 +216,8 @@ module _ (m : List ℕ) where
 
   module _ (a : List ℕ) (a-is : a ≡ shown 96 m (extensionVector m)) (k : ℕ) (k-is : k ≡ firstCritical (elementsOf a) 0) where
     critical-few : length m ≤ 65535 → k < 65536
-    critical-few h = omega (arith, critical-most (elementsOf a) 0, elements-length (length a / 12) a 0, ap length a-is, shown-short m (extensionVector m))
+    critical-few h =
+        omega (arith, critical-most (elementsOf a) 0, elements-length (length a / 12) a 0, ap length a-is, shown-short m (extensionVector m))
 
     pub critical-cast : length m ≤ 65535 → k < 2 ^ 32
     critical-cast h = omega (arith, critical-few h)
@@ -208,7 +228,8 @@ module _ (m : List ℕ) where
     pub critical-sum : length m ≤ 65535 → (o : ℕ) → o < 2 ^ 32 → o + 12 * k < 2 ^ 64
     critical-sum h o g = omega (arith, critical-few h)
 
-    pub critical-some : 96 ≤ length m → (v : Vector) → v ≡ extensionVector m → _≡_ {A = Spot} (record { what = 27; number = k; at = v .offset .0 + 12 * k; size = 4 }) (criticalSpot m)
+    pub critical-some : 96 ≤ length m → (v : Vector) → v ≡ extensionVector m
+        → _≡_ {A = Spot} (record { what = 27; number = k; at = v .offset .0 + 12 * k; size = 4 }) (criticalSpot m)
     unfolding criticalSpot
     critical-some h v v-is = rw (v-is, k-is, a-is) (sym (simp (le-leb _ _ h)))
 
@@ -274,8 +295,23 @@ module _ (n : ℕ) (m : List ℕ) (x : Spot) where
   unfolding spotOf
   at-13 e f = rw e f
 
-  pub at-none : (n ≡ 3 → ⊥) → (n ≡ 4 → ⊥) → (n ≡ 5 → ⊥) → (n ≡ 6 → ⊥) → (n ≡ 7 → ⊥) → (n ≡ 8 → ⊥) → (n ≡ 10 → ⊥) → (n ≡ 11 → ⊥) → (n ≡ 12 → ⊥) → (n ≡ 13 → ⊥) → x ≡ spot 0 0 0 0 → At
+  pub at-none : (n ≡ 3 → ⊥) → (n ≡ 4 → ⊥) → (n ≡ 5 → ⊥) → (n ≡ 6 → ⊥) → (n ≡ 7 → ⊥) → (n ≡ 8 → ⊥) → (n ≡ 10 → ⊥) → (n ≡ 11 → ⊥) → (n ≡ 12 → ⊥)
+      → (n ≡ 13 → ⊥) → x ≡ spot 0 0 0 0 → At
   unfolding spotOf
-  at-none a b c d e f g h i j k = k ∙ sym (simp (ne-eqb n 3 a, ne-eqb n 4 b, ne-eqb n 5 c, ne-eqb n 6 d, ne-eqb n 7 e, ne-eqb n 8 f, ne-eqb n 10 g, ne-eqb n 11 h, ne-eqb n 12 i, ne-eqb n 13 j))
+  at-none a b c d e f g h i j k =
+      k ∙ sym
+      (simp (
+        ne-eqb n 3 a,
+        ne-eqb n 4 b,
+        ne-eqb n 5 c,
+        ne-eqb n 6 d,
+        ne-eqb n 7 e,
+        ne-eqb n 8 f,
+        ne-eqb n 10 g,
+        ne-eqb n 11 h,
+        ne-eqb n 12 i,
+        ne-eqb n
+            13 j,
+      ))
 
 pub ruleset spots = (at-3, at-4, at-5, at-6, at-7, at-8, at-10, at-11, at-12, at-13, at-none)

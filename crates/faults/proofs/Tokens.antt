@@ -78,7 +78,8 @@ module _ (s : List ℕ) (r : Answer) (r-is : told r ≡ outcomeOf (tokenOf s)) w
     unfolding faultOf
     fault-none n here f = f ∙ sym (ap (λ (x : Reading). faultIn x s) (answer-accepts s r r-is n here)) ∙ sym (simp (le-leb _ _ h))
 
-    pub fault-some : (n : ℕ) (place : TokenPlace) → r ≡ answer.Refused n place → e ≡ faultAt (place .0) (length (messagesOf (tokenOf (take (place .0) s)))) (drop (place .0) s) n → e ≡ faultOf s
+    pub fault-some : (n : ℕ) (place : TokenPlace) → r ≡ answer.Refused n place
+        → e ≡ faultAt (place .0) (length (messagesOf (tokenOf (take (place .0) s)))) (drop (place .0) s) n → e ≡ faultOf s
     unfolding faultOf
     fault-some n place here f = f ∙ sym (ap (λ (x : Reading). faultIn x s) (answer-refuses s r r-is n place here)) ∙ sym (simp (le-leb _ _ h))
 
@@ -109,11 +110,13 @@ module _ (s : List ℕ) (p : ℕ) (h : p ≤ length s) (short : length s ≤ 655
   rest-first m e = omega (arith, ap length e, first-short (take (length s - p) (drop p s)), rest-length)
 
   module _ (i n : ℕ) (i-is : i ≡ length (messagesOf (tokenOf (take p s)))) (e : Entry) where
-    pub left-rest : n ≡ 2 → e ≡ restEntry p i (length (take (length s - p) (drop p s))) → e ≡ faultAt p (length (messagesOf (tokenOf (take p s)))) (drop p s) n
+    pub left-rest : n ≡ 2 → e ≡ restEntry p i (length (take (length s - p) (drop p s)))
+        → e ≡ faultAt p (length (messagesOf (tokenOf (take p s)))) (drop p s) n
     unfolding faultAt
     left-rest z f = (rw (i-is, tail-all s p) at f) ∙ sym (simp (eq-eqb n 2 z))
 
-    pub left-field : (n ≡ 2 → ⊥) → (m : List ℕ) → m ≡ firstOf (take (length s - p) (drop p s)) → (x : Spot) → x ≡ spotOf n m → e ≡ faultEntry p i (take (length s - p) (drop p s)) x → e ≡ faultAt p (length (messagesOf (tokenOf (take p s)))) (drop p s) n
+    pub left-field : (n ≡ 2 → ⊥) → (m : List ℕ) → m ≡ firstOf (take (length s - p) (drop p s)) → (x : Spot) → x ≡ spotOf n m
+        → e ≡ faultEntry p i (take (length s - p) (drop p s)) x → e ≡ faultAt p (length (messagesOf (tokenOf (take p s)))) (drop p s) n
     unfolding faultAt
     left-field z m m-is x x-is f = (rw (i-is, x-is, m-is, tail-all s p) at f) ∙ sym (simp (ne-eqb n 2 z))
 

@@ -35,7 +35,8 @@ element-ends : (m : List ℕ) (v : Vector) (j : ℕ) → j < length (part m v) /
 element-ends m v j h = omega (arith, length-take (extent v) (drop (v .offset .0) m), length-drop (v .offset .0) m)
 
 -- ---- where a vector's offset and size stand
-vector-within : (shape : Shape) (m : List ℕ) (k : ℕ) → headerOf shape ≤ length m → k < length (vectorsOf (contentOf shape m)) → Within (vectorSpot shape m k) (length m)
+vector-within : (shape : Shape) (m : List ℕ) (k : ℕ) → headerOf shape ≤ length m → k < length (vectorsOf (contentOf shape m))
+    → Within (vectorSpot shape m k) (length m)
 unfolding vectorsOf contentOf
 vector-within nego m k h g = elim (which (eqb k 0)) [
   | inl e ↦ rw e (record { some = omega arith; inside = omega arith })
@@ -44,7 +45,8 @@ vector-within nego m k h g = elim (which (eqb k 0)) [
     | inr f ↦ rw f (
         let a : (k ≡ 0) → ⊥ = eqb-false _ _ e in
         let b : (k ≡ 1) → ⊥ = eqb-false _ _ f in
-        let few : k - 2 < length (part m (extensionVector m)) / 12 = omega (arith, values-length (length (part m (extensionVector m)) / 12) (part m (extensionVector m)) 0) in
+        let few : k - 2 < length (part m (extensionVector m)) / 12 =
+        omega (arith, values-length (length (part m (extensionVector m)) / 12) (part m (extensionVector m)) 0) in
         record { some = omega arith; inside = omega (arith, element-ends m (extensionVector m) (k - 2) few) }
         )
   ])
@@ -55,7 +57,8 @@ vector-within alert m k h g = elim (which (eqb k 0)) [
   | inl e ↦ rw e (record { some = omega arith; inside = omega arith })
   | inr e ↦ rw e (
       let a : (k ≡ 0) → ⊥ = eqb-false _ _ e in
-      let few : k - 1 < length (part m (alertVector m)) / 12 = omega (arith, values-length (length (part m (alertVector m)) / 12) (part m (alertVector m)) 0) in
+      let few : k - 1 < length (part m (alertVector m)) / 12 =
+      omega (arith, values-length (length (part m (alertVector m)) / 12) (part m (alertVector m)) 0) in
       record { some = omega arith; inside = omega (arith, element-ends m (alertVector m) (k - 1) few) }
       )
 ]
@@ -76,12 +79,14 @@ wider x y n k e h w = subst (λ (z : Spot). Within z k) e (record { some = w .so
 before-80 : (m : List ℕ) (n : ℕ) (x : Spot) → x ≡ spotOf n m → 2 ≤ x .size → x .at + x .size ≤ 80 → 80 ≤ length m → Within (spotOf n m) (length m)
 before-80 m n x e a b h = wider x (spotOf n m) 80 (length m) e h (record { some = a; inside = b })
 
-broken-within : (m : List ℕ) (shape : Shape) → shapeOf (headOf m .kind) ≡ shape → headerOf shape ≤ length m → (n : ℕ) → 11 ≡ n → allKeepRule (headerOf shape) (length m) (vectorsOf (contentOf shape m)) ≡ false → Within (spotOf n m) (length m)
+broken-within : (m : List ℕ) (shape : Shape) → shapeOf (headOf m .kind) ≡ shape → headerOf shape ≤ length m → (n : ℕ) → 11 ≡ n
+    → allKeepRule (headerOf shape) (length m) (vectorsOf (contentOf shape m)) ≡ false → Within (spotOf n m) (length m)
 broken-within m shape is room n e f =
     wider (vectorSpot shape m (firstBroken (headerOf shape) (length m) (vectorsOf (contentOf shape m)) 0)) (spotOf n m) (length m) (length m)
     (broken-is m shape is room f ∙ at-11 n m (brokenSpot m) (sym e) refl)
     (omega arith)
-    (vector-within shape m (firstBroken (headerOf shape) (length m) (vectorsOf (contentOf shape m)) 0) room (let a = broken-few (headerOf shape) (length m) (vectorsOf (contentOf shape m)) 0 f in omega arith))
+    (vector-within shape m (firstBroken (headerOf shape) (length m) (vectorsOf (contentOf shape m)) 0) room
+    (let a = broken-few (headerOf shape) (length m) (vectorsOf (contentOf shape m)) 0 f in omega arith))
 
 content-within : (m : List ℕ) (shape : Shape) → shapeOf (headOf m .kind) ≡ shape → headerOf shape ≤ length m → (n : ℕ)
     → FirstFails n (contentRows (headerOf shape) (length m) (contentOf shape m)) → Within (spotOf n m) (length m)
@@ -93,7 +98,9 @@ content-within m nego is room n f = elim f [
     | inr b ↦ elim (b .1) [
       | inl c ↦
           let es = elementsOf (part m (extensionVector m)) in
-          let few : firstCritical es 0 < length (part m (extensionVector m)) / 12 = (let z = critical-few es 0 (c .0) in omega (arith, elements-length (length (part m (extensionVector m)) / 12) (part m (extensionVector m)) 0)) in
+          let few : firstCritical es 0 < length (part m (extensionVector m)) / 12 =
+          (let z = critical-few es 0 (c .0) in
+          omega (arith, elements-length (length (part m (extensionVector m)) / 12) (part m (extensionVector m)) 0)) in
           wider (spot 27 (firstCritical es 0) (extensionVector m .offset .0 + 12 * firstCritical es 0) 4) (spotOf n m) (length m) (length m)
           (critical-is m room (second-keeps m (b .0)) ∙ at-12 n m (criticalSpot m) (sym (c .1)) refl)
           (omega arith)
@@ -120,8 +127,10 @@ content-within m verify is room n f = elim f [
       | inl c ↦ no-true (sym (c .0))
       | inr c ↦ elim (c .1) [
         | inl d ↦ elim (which (eqb (le 4 m 56) 20)) [
-          | inl t ↦ before-80 m n (spot 14 0 60 4) (at-13 n m (spot 14 0 60 4) (sym (d .1)) (checksum-scheme-is m room t)) (omega arith) (omega arith) room
-          | inr t ↦ before-80 m n (spot 13 0 56 4) (at-13 n m (spot 13 0 56 4) (sym (d .1)) (checksum-header-is m room t)) (omega arith) (omega arith) room
+          | inl t ↦ before-80 m n (spot 14 0 60 4) (at-13 n m (spot 14 0 60 4) (sym (d .1)) (checksum-scheme-is m room t)) (omega arith)
+              (omega arith) room
+          | inr t ↦ before-80 m n (spot 13 0 56 4) (at-13 n m (spot 13 0 56 4) (sym (d .1)) (checksum-header-is m room t)) (omega arith)
+              (omega arith) room
         ]
         | inr d ↦ absurd (d .1)
       ]
@@ -140,7 +149,8 @@ content-within m alert is room n f = elim f [
 ]
 
 -- ---- the message at the front of s
-body-within : (s : List ℕ) (n : ℕ) → allPass (commonRows (length s) (headOf s)) ≡ true → FirstFails n (frontRows s) → Within (spotOf n (firstOf s)) (length s)
+body-within : (s : List ℕ) (n : ℕ) → allPass (commonRows (length s) (headOf s)) ≡ true → FirstFails n (frontRows s)
+    → Within (spotOf n (firstOf s)) (length s)
 unfolding frontRows bodyRows firstOf
 body-within s n ok f =
     let z = common-sized (length s) (headOf s) ok in
@@ -150,11 +160,13 @@ body-within s n ok f =
     let first : firstOf s ≡ front s = simp (le-leb _ _ (z .forty), le-leb _ _ (z .within)) in
     let found : Within (spotOf n (front s)) (length (front s)) =
     content-within (front s) (shapeOf (headOf s .kind)) is (omega (arith, z .header, z .holds)) n
-    (subst (λ (k : ℕ). FirstFails n (contentRows (headerOf (shapeOf (headOf s .kind))) k (contentOf (shapeOf (headOf s .kind)) (front s)))) (sym long) f) in
+    (subst (λ (k : ℕ). FirstFails n (contentRows (headerOf (shapeOf (headOf s .kind))) k (contentOf (shapeOf (headOf s .kind)) (front s))))
+    (sym long) f) in
     wider (spotOf n (front s)) (spotOf n (firstOf s)) (length (front s)) (length s) (ap (spotOf n) (sym first)) (omega (arith, z .within)) found
 
 -- a field of the common header
-early : (s : List ℕ) (n : ℕ) (x : Spot) → leb 40 (length s) ≡ true → x ≡ spotOf n (firstOf s) → 2 ≤ x .size → x .at + x .size ≤ 40 → Within (spotOf n (firstOf s)) (length s)
+early : (s : List ℕ) (n : ℕ) (x : Spot) → leb 40 (length s) ≡ true → x ≡ spotOf n (firstOf s) → 2 ≤ x .size → x .at + x .size ≤ 40
+    → Within (spotOf n (firstOf s)) (length s)
 early s n x t e a b = wider x (spotOf n (firstOf s)) 40 (length s) e (leb-true _ _ t) (record { some = a; inside = b })
 
 front-within : (s : List ℕ) (q : ℕ) (v : List ℕ) (n : ℕ) → (n ≡ 2 → ⊥) → FirstFails n (nextRows s q v) → Within (spotOf n (firstOf s)) (length s)

@@ -9,7 +9,8 @@
 --   FirstCheck n x cs  the first check that fails has the number n and the spot x: all before it pass
 --   Within x n         the spot x has two octets at the least, and lies in n octets
 --   FaultWithin        of a refused token with a field at fault, that field lies in what is left of it: faultEntry shows it
---   FaultFirst         of a token that is refused with n at a place, the field that spotOf names for n is the one whose check is the first to fail, for the message at that place
+--   FaultFirst         of a token that is refused with n at a place, the field that spotOf names for n is the one whose check is the first to fail, for the
+--                      message at that place
 use Prim.Native.Nat.{ℕ, _+_, _*_, _<_, _≤_}
 use mathlib.Core.Path.{_≡_}
 use mathlib.Core.Bool.{Bool, true, false, not}

@@ -266,7 +266,8 @@ fn count_before(token: &[u8], place: usize) -> u32
 // The fault of a token that is refused with a number at a place.
 fn fault_at(token: &[u8], number: u32, place: TokenPlace) -> Entry
     requires { ⌜ (place .0 ≤ length (now token)) × (length (now token) ≤ 65535) ⌝ }
-    ensures { λ r. ⌜ r ≡ faultAt (place .0) (length (messagesOf (tokenOf (take (place .0) (now (token .entry)))))) (drop (place .0) (now (token .entry))) number ⌝ }
+    ensures { λ r. ⌜ r ≡ faultAt (place .0) (length (messagesOf (tokenOf (take (place .0) (now (token .entry))))))
+        (drop (place .0) (now (token .entry))) number ⌝ }
 {
     let from = place.0;
     let message = count_before(token, from);

@@ -72,7 +72,8 @@ module _ (s d : List ℕ) where
   pub pairs-start : pairsOf s ≡ behindAll (take 0 d) (pairsOf (drop 0 s))
   pairs-start = behind-none (pairsOf s)
 
-module _ (s d d₀ : List ℕ) (n i : ℕ) (half : n ≡ length s / 2) (sized : length d ≡ length d₀) (rest : drop n d ≡ drop n d₀) (inv : pairsOf s ≡ behindAll (take i d) (pairsOf (drop (2 * i) s))) where
+module _ (s d d₀ : List ℕ) (n i : ℕ) (half : n ≡ length s / 2) (sized : length d ≡ length d₀) (rest : drop n d ≡ drop n d₀)
+    (inv : pairsOf s ≡ behindAll (take i d) (pairsOf (drop (2 * i) s))) where
   -- d afterwards, where it is not written any more
   left : (r : Decoded) → decodedAs r d ≡ fit (length d₀) (pairsOf s) → Decodes s d₀ (pairsOf s) r d
   left r e = record { says = e; behind = rw (← half) rest }
@@ -110,7 +111,9 @@ module _ (s d d₀ : List ℕ) (n i : ℕ) (half : n ≡ length s / 2) (sized : 
     pairs-even h enough =
         let a : length s ≤ 2 * i = omega arith in
         let e : n ≡ i = omega arith in
-        left (decoded.Octets n) (fits (length d₀) n (pairsOf s) (take n d) (inv ∙ rw (drop-of-length-le s a, e) (ap of (append-nil (take i d)))) (length-take-le n d enough) (omega arith))
+        left (decoded.Octets n)
+        (fits (length d₀) n (pairsOf s) (take n d) (inv ∙ rw (drop-of-length-le s a, e) (ap of (append-nil (take i d))))
+        (length-take-le n d enough) (omega arith))
 
 module _ (s d : List ℕ) where
   -- a field that says what another does, of as many digits
@@ -154,7 +157,8 @@ module _ (s : List ℕ) (a : ℕ) (a-is : a ≡ getD s 8 0) where
       dash-last h e e-is = rw (← a-is, ← b-is, ← c-is, ← e-is, eq-eqb _ _ first, eq-eqb _ _ second, eq-eqb _ _ h)
 
 module _ (s places o : List ℕ) (i : ℕ) (x : Octets) (inv : x ≡ behindAll (take i o) (octetsAt s (drop i places))) where
-  module _ (more : i < 16) (sized : length places ≡ 16) (v : ℕ) (v-is : v ≡ pairOf (getD s (getD places i 0) 0) (getD s (getD places i 0 + 1) 0)) where
+  module _ (more : i < 16) (sized : length places ≡ 16) (v : ℕ)
+      (v-is : v ≡ pairOf (getD s (getD places i 0) 0) (getD s (getD places i 0 + 1) 0)) where
     place-next : octetsAt s (drop i places) ≡ cond (ltb 255 v) none (behindAll (v ∷ []) (octetsAt s (drop (i + 1) places)))
     unfolding octetsAt
     place-next = let a : i < length places = omega arith in rw (drop-cons places i 0 a, v-is, add-one i)
@@ -189,6 +193,19 @@ module _ (s : List ℕ) where
     unfolding idOf
     id-octets h x e = rw (eq-eqb _ _ sized, ← b-is, h) e
 
-pub ruleset pair-octets = (pairs-short, pairs-start, pairs-bad, pairs-more, pairs-behind, pairs-odd, pairs-even, octets-empty, octets-dash, octets-pairs, random-size, random-pairs)
+pub ruleset pair-octets = (
+  pairs-short,
+  pairs-start,
+  pairs-bad,
+  pairs-more,
+  pairs-behind,
+  pairs-odd,
+  pairs-even,
+  octets-empty,
+  octets-dash,
+  octets-pairs,
+  random-size,
+  random-pairs,
+)
 
 pub ruleset ids = (dash-first, dash-second, dash-third, dash-last, at-bad, at-more, at-end, at-start, id-size, id-dashes, id-octets)

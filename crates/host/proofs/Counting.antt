@@ -61,18 +61,25 @@ pub record Counted (total : ℕ) (rest : List ℕ) (n : ℕ) : Type 0 where
 pub count-begin : (s : List ℕ) → Accepts s → Counted (length (allLines (messagesOf (tokenOf s)))) s 0
 count-begin s a =
     let (w, places) = whole s a in
-    record { left = w; place = 0; few = lines-few s a; come = ap (λ (ps : List Placed). length (allLines ps)) (sym places) ∙ zero-front (length (allLines (placedFrom 0 (w .ms)))) } where
+    record {
+      left = w;
+      place = 0;
+      few = lines-few s a;
+      come = ap (λ (ps : List Placed). length (allLines ps)) (sym places) ∙ zero-front (length (allLines (placedFrom 0 (w .ms))));
+    } where
       zero-front : (k : ℕ) → k ≡ 0 + k
       zero-front k = omega arith
 
-lines-first : (place : ℕ) (m : List ℕ) (ms : List (List ℕ)) → length (allLines (placedFrom place (m ∷ ms))) ≡ 1 + length (linesIn (shapeIn m) m) + length (allLines (placedFrom (place + length m) ms))
+lines-first : (place : ℕ) (m : List ℕ) (ms : List (List ℕ))
+    → length (allLines (placedFrom place (m ∷ ms))) ≡ 1 + length (linesIn (shapeIn m) m) + length (allLines (placedFrom (place + length m) ms))
 unfolding allLines messageLines
 lines-first place m ms = omega (arith, length-append (messageLines place m) (allLines (placedFrom (place + length m) ms)))
 
 module _ (total : ℕ) (rest : List ℕ) (n : ℕ) (on : Counted total rest n) where
   pub count-end : length rest ≤ 0 → n ≡ total
   count-end h = go (on .left .ms) (on .left .joins) (on .left .numbered) (on .come) where
-    go : (ms : List (List ℕ)) → join ms ≡ rest → Numbered (on .left .q) (on .left .v) ms → total ≡ n + length (allLines (placedFrom (on .place) ms)) → n ≡ total
+    go : (ms : List (List ℕ)) → join ms ≡ rest → Numbered (on .left .q) (on .left .v) ms → total ≡ n + length (allLines (placedFrom (on .place) ms))
+        → n ≡ total
     go [] j e c = omega (arith, c, none) where
       none : length (allLines []) ≡ 0
       none = unfold allLines in refl
@@ -94,9 +101,14 @@ module _ (total : ℕ) (rest : List ℕ) (n : ℕ) (on : Counted total rest n) w
     module _ (c : ℕ) (c-is : c ≡ 1 + length (linesIn (shapeIn m) m)) where
       total-is : total ≡ n + c + length (allLines (placedFrom (on .place + length m) (here .left .ms)))
       total-is =
-          let own : length (linesIn (shapeIn (firstOf rest)) (firstOf rest)) ≡ length (linesIn (shapeIn m) m) = ap (λ (l : List ℕ). length (linesIn (shapeIn l) l)) (sym m-is) in
-          let far : length (allLines (placedFrom (on .place + length (firstOf rest)) (here .left .ms))) ≡ length (allLines (placedFrom (on .place + length m) (here .left .ms))) = ap (λ (l : List ℕ). length (allLines (placedFrom (on .place + length l) (here .left .ms)))) (sym m-is) in
-          let all : length (allLines (placedFrom (on .place) (on .left .ms))) ≡ length (allLines (placedFrom (on .place) (firstOf rest ∷ here .left .ms))) = ap (λ (ms : List (List ℕ)). length (allLines (placedFrom (on .place) ms))) (here .messages) in
+          let own : length (linesIn (shapeIn (firstOf rest)) (firstOf rest)) ≡ length (linesIn (shapeIn m) m) =
+          ap (λ (l : List ℕ). length (linesIn (shapeIn l) l)) (sym m-is) in
+          let far : length (allLines (placedFrom (on .place + length (firstOf rest)) (here .left .ms))) ≡ length (allLines
+          (placedFrom (on .place + length m) (here .left .ms))) =
+          ap (λ (l : List ℕ). length (allLines (placedFrom (on .place + length l) (here .left .ms)))) (sym m-is) in
+          let all : length (allLines (placedFrom (on .place) (on .left .ms))) ≡ length (allLines
+          (placedFrom (on .place) (firstOf rest ∷ here .left .ms))) =
+          ap (λ (ms : List (List ℕ)). length (allLines (placedFrom (on .place) ms))) (here .messages) in
           omega (arith, on .come, lines-first (on .place) (firstOf rest) (here .left .ms))
 
       pub count-small : n + c < 2 ^ 64

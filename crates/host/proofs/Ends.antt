@@ -40,7 +40,14 @@ unfolding decimalTo
 ends-decimal zero n = unfold lineEnds in refl
 ends-decimal (suc most) n = elim (which (ltb n 10)) [
   | inl e ↦ rw e (none-in (48 + n) (λ z. omega arith))
-  | inr e ↦ rw e (omega (arith, ends-append (decimalTo most (n / 10)) ((48 + n % 10) ∷ []), ends-decimal most (n / 10), none-in (48 + n % 10) (λ z. omega arith)))
+  | inr e ↦ rw e
+      (omega (
+        arith,
+        ends-append (decimalTo most (n / 10)) ((48 + n % 10) ∷ []),
+        ends-decimal most (n / 10),
+        none-in (48 + n % 10)
+            (λ z. omega arith),
+      ))
 ]
 
 hex-is : (d : ℕ) → hexDigit d ≡ 10 → ⊥
@@ -50,7 +57,14 @@ hex-is d h = elim (which (ltb d 10)) [
 ]
 
 ends-hex : (x : ℕ) → lineEnds (hexOf x) ≡ 0
-ends-hex x = omega (arith, ends-append (hexDigit (x / 16) ∷ []) (hexDigit (x % 16) ∷ []), none-in (hexDigit (x / 16)) (hex-is (x / 16)), none-in (hexDigit (x % 16)) (hex-is (x % 16)))
+ends-hex x =
+    omega (
+      arith,
+      ends-append (hexDigit (x / 16) ∷ []) (hexDigit (x % 16) ∷ []),
+      none-in (hexDigit (x / 16)) (hex-is (x / 16)),
+      none-in
+          (hexDigit (x % 16)) (hex-is (x % 16)),
+    )
 
 ends-glyph : (i : List ℕ) (k : ℕ) → lineEnds (glyphOf i k) ≡ 0
 ends-glyph i k = elim (which (eqb k 16)) [
@@ -105,7 +119,15 @@ one-scheme k i = omega (arith, ends-decimal 20 k, pieces-append (idText i) (quot
 
 one-extension : (k : ℕ) (e : Element) → One (extensionLine k e)
 unfolding extensionLine pieceEnds lineEnds
-one-extension k e = omega (arith, ends-decimal 20 k, pieces-append (signed (signed32 (e .type))) (span (e .value)), ends-signed (signed32 (e .type)), one-span (e .value))
+one-extension k e =
+    omega (
+      arith,
+      ends-decimal 20 k,
+      pieces-append (signed (signed32 (e .type))) (span (e .value)),
+      ends-signed (signed32 (e .type)),
+      one-span
+          (e .value),
+    )
 
 one-exchange : (v : Vector) → One (exchangeLine v)
 unfolding exchangeLine pieceEnds lineEnds

@@ -78,7 +78,10 @@ module _ (s : List ℕ) (first end : ℕ) (d : List ℕ) where
 
   text-ends : lineEnds (joined shown) ≡ length shown
   unfolding shown shownBy
-  text-ends = ends-joined shown (each-fitting (length d) (range first end (linesOf s)) (each-take (end - first) (drop first (linesOf s)) (each-drop first (linesOf s) (lines-ends s))))
+  text-ends =
+      ends-joined shown
+      (each-fitting (length d) (range first end (linesOf s))
+      (each-take (end - first) (drop first (linesOf s)) (each-drop first (linesOf s) (lines-ends s))))
 
   of-text : Reply (List ℕ) → List ℕ
   of-text r = textIn (writtenIn d r)
@@ -88,7 +91,8 @@ module _ (s : List ℕ) (first end : ℕ) (d : List ℕ) where
   reply-text = elim (which (leb (length (linesOf s)) first)) [
     | inl e ↦
         let h : length (linesOf s) ≤ first = leb-true _ _ e in
-        let none : length (range first end (linesOf s)) ≡ 0 = omega (arith, length-take (end - first) (drop first (linesOf s)), length-drop first (linesOf s)) in
+        let none : length (range first end (linesOf s)) ≡ 0 =
+        omega (arith, length-take (end - first) (drop first (linesOf s)), length-drop first (linesOf s)) in
         ap of-text (text-beyond (linesOf s) first end d h) ∙ sym (none-shown none)
     | inr e ↦ inside (leb-false _ _ e)
   ] where
@@ -102,7 +106,9 @@ module _ (s : List ℕ) (first end : ℕ) (d : List ℕ) where
     ] where
       asked : first < length (linesOf s) → first < end → of-text (windowText (linesOf s) first end (length d)) ≡ joined shown
       asked i g = elim (which (leb (length shown) 0)) [
-        | inl e ↦ let none : length shown ≡ 0 = (let z : length shown ≤ 0 = leb-true _ _ e in omega arith) in ap of-text (text-full (linesOf s) first end d i g none) ∙ sym (none-joined shown none)
+        | inl e ↦ let none : length shown ≡ 0 =
+            (let z : length shown ≤ 0 = leb-true _ _ e in omega arith) in
+            ap of-text (text-full (linesOf s) first end d i g none) ∙ sym (none-joined shown none)
         | inr e ↦ ap of-text (text-some (linesOf s) first end d i (leb-false _ _ e)) ∙ front
       ]
 
@@ -121,16 +127,19 @@ shown-following : (s : List ℕ) → Accepts s → (first : ℕ) (qs : List Requ
 unfolding shownFrom following
 shown-following s a first [] = refl
 shown-following s a first (q ∷ qs) =
-    ap (λ (t : List ℕ). t ++ shownFrom s (first + lineEnds (textIn (windowAnswer s first (q .end) (q .buffer)))) qs) (host-text s first (q .end) (q .buffer) a)
+    ap (λ (t : List ℕ). t ++ shownFrom s (first + lineEnds (textIn (windowAnswer s first (q .end) (q .buffer)))) qs)
+    (host-text s first (q .end) (q .buffer) a)
     ∙ ap (λ (n : ℕ). textOf (windowOf (linesOf s) first (q .end) (q .buffer)) ++ shownFrom s n qs) (host-lines s first (q .end) (q .buffer) a)
-    ∙ ap (λ (l : List ℕ). textOf (windowOf (linesOf s) first (q .end) (q .buffer)) ++ l) (shown-following s a (first + windowOf (linesOf s) first (q .end) (q .buffer) .lines) qs)
+    ∙ ap (λ (l : List ℕ). textOf (windowOf (linesOf s) first (q .end) (q .buffer)) ++ l)
+    (shown-following s a (first + windowOf (linesOf s) first (q .end) (q .buffer) .lines) qs)
 
 fits-shows : (s : List ℕ) → Accepts s → (first : ℕ) (qs : List Request) → EachFits s first qs → EachShows (linesOf s) first qs
 unfolding EachFits EachShows
 fits-shows s a first [] h = tt
 fits-shows s a first (q ∷ qs) h = (
   λ inside. let g = h .0 inside in gets-on (linesOf s) first (q .end) (q .buffer) (g .0) inside (g .1),
-  fits-shows s a (first + windowOf (linesOf s) first (q .end) (q .buffer) .lines) qs (subst (λ (n : ℕ). EachFits s n qs) (host-lines s first (q .end) (q .buffer) a) (h .1)),
+  fits-shows s a (first + windowOf (linesOf s) first (q .end) (q .buffer) .lines) qs
+      (subst (λ (n : ℕ). EachFits s n qs) (host-lines s first (q .end) (q .buffer) a) (h .1)),
 )
 
 reached-following : (s : List ℕ) → Accepts s → (first : ℕ) (qs : List Request) → reachedFrom s first qs ≡ reached (linesOf s) first qs

@@ -48,11 +48,17 @@ module _ (ls : List (List ℕ)) (first end : ℕ) (d : List ℕ) where
   shownBy = fitting (length d) (range first end ls)
 
   pub text-beyond : length ls ≤ first → windowText ls first end (length d) ≡ refused 19
-  text-beyond h = ap (λ (x : Reply (List ℕ)). andThen x (λ l. cond (ltb first end) (andThen (fits (length d) l) (λ v. given (joined (fitting (length d) (range first end ls))))) (given []))) (item-refused ls first h)
+  text-beyond h =
+      ap (λ (x : Reply (List ℕ)). andThen x
+      (λ l. cond (ltb first end) (andThen (fits (length d) l) (λ v. given (joined (fitting (length d) (range first end ls))))) (given [])))
+      (item-refused ls first h)
 
   module _ (inside : first < length ls) where
-    here : windowText ls first end (length d) ≡ cond (ltb first end) (andThen (fits (length d) (getD ls first [])) (λ v. given (joined (fitting (length d) (range first end ls))))) (given [])
-    here = ap (λ (x : Reply (List ℕ)). andThen x (λ l. cond (ltb first end) (andThen (fits (length d) l) (λ v. given (joined (fitting (length d) (range first end ls))))) (given []))) (item-given ls first [] inside)
+    here : windowText ls first end (length d) ≡ cond (ltb first end)
+        (andThen (fits (length d) (getD ls first [])) (λ v. given (joined (fitting (length d) (range first end ls))))) (given [])
+    here = ap (λ (x : Reply (List ℕ)). andThen x
+        (λ l. cond (ltb first end) (andThen (fits (length d) l) (λ v. given (joined (fitting (length d) (range first end ls))))) (given [])))
+        (item-given ls first [] inside)
 
     pub text-none : end ≤ first → windowText ls first end (length d) ≡ given []
     text-none h = here ∙ simp (le-ltb _ _ h)
@@ -71,7 +77,8 @@ module _ (ls : List (List ℕ)) (first end : ℕ) (d : List ℕ) where
     text-some some =
         let asked : first < end = omega (arith, fitting-few (length d) (range first end ls) some, length-take (end - first) (drop first ls)) in
         let e : first + 0 ≡ first = omega arith in
-        let is : getD (range first end ls) 0 [] ≡ getD ls first [] = getD-take (end - first) (drop first ls) 0 [] (omega arith) ∙ getD-drop first ls 0 [] ∙ ap (λ (k : ℕ). getD ls k []) e in
+        let is : getD (range first end ls) 0 [] ≡ getD ls first [] =
+        getD-take (end - first) (drop first ls) 0 [] (omega arith) ∙ getD-drop first ls 0 [] ∙ ap (λ (k : ℕ). getD ls k []) e in
         let room : length (getD ls first []) ≤ length d = omega (arith, ap length is, head-fits (length d) (range first end ls) some) in
         here ∙ simp (lt-ltb _ _ asked, le-leb _ _ room)
 
@@ -131,7 +138,8 @@ module _ (s : List ℕ) (a : Accepts s) (n : ℕ) (n-is : n ≡ length (allLines
           ∙ sym (ap (writtenIn d) (text-none (linesOf s) first end d held h))
           ∙ answer-is
 
-pub window-small : (s : List ℕ) (first end : ℕ) (d d' : List ℕ) (w : Shown) → asWindow w d' ≡ windowOf (linesOf s) first end d → length d * 1 < 2 ^ 63 → w .octets < 2 ^ 63
+pub window-small : (s : List ℕ) (first end : ℕ) (d d' : List ℕ) (w : Shown) → asWindow w d' ≡ windowOf (linesOf s) first end d → length d * 1 < 2 ^ 63
+    → w .octets < 2 ^ 63
 window-small s first end d d' w is h = omega (arith, window-octets (linesOf s) first end d d' w is)
 
 pub ruleset windows = (window-beyond, window-some, window-full, window-none, window-small)

@@ -58,15 +58,18 @@ module _ (t u : Text) where
       (then t a b _ _ f₁ (read (field (quoted " seq=")) q _ a b q-is f₂))
       (read (field (quoted " type=")) k _ b c k-is f₃)) f₄
 
-  pub scheme-text : (a b c : Text) (k : ℕ) (i : List ℕ) → a ≡ written (quoted "scheme " ∷ decimal64 k ∷ []) t → b ≡ written (quoted " " ∷ []) a → c ≡ written (idText i) b → u ≡ written (quoted "\n" ∷ []) c → u ≡ written (schemeLine k i) t
+  pub scheme-text : (a b c : Text) (k : ℕ) (i : List ℕ) → a ≡ written (quoted "scheme " ∷ decimal64 k ∷ []) t → b ≡ written (quoted " " ∷ []) a
+      → c ≡ written (idText i) b → u ≡ written (quoted "\n" ∷ []) c → u ≡ written (schemeLine k i) t
   unfolding schemeLine
   scheme-text a b c k i f₁ f₂ f₃ f₄ = then t b u _ _ (then t a b _ _ f₁ f₂) (then b c u _ _ f₃ f₄)
 
-  pub span-text : (a b : Text) (v : Vector) → a ≡ written (quoted " at=" ∷ decimal (v .offset .0) ∷ []) t → b ≡ written (quoted " length=" ∷ decimal (v .count) ∷ []) a → u ≡ written (quoted "\n" ∷ []) b → u ≡ written (span v) t
+  pub span-text : (a b : Text) (v : Vector) → a ≡ written (quoted " at=" ∷ decimal (v .offset .0) ∷ []) t
+      → b ≡ written (quoted " length=" ∷ decimal (v .count) ∷ []) a → u ≡ written (quoted "\n" ∷ []) b → u ≡ written (span v) t
   unfolding span
   span-text a b v f₁ f₂ f₃ = then t b u _ _ (then t a b _ _ f₁ f₂) f₃
 
-  pub extension-text : (a b c : Text) (k at : ℕ) (array : List ℕ) (z : ℤ) (f : SFits w32 z) (v : Vector) → z ≡ signed32 (le 4 array at) → v ≡ octetVector array (at + 4)
+  pub extension-text : (a b c : Text) (k at : ℕ) (array : List ℕ) (z : ℤ) (f : SFits w32 z) (v : Vector) → z ≡ signed32 (le 4 array at)
+      → v ≡ octetVector array (at + 4)
       → a ≡ written (quoted "extension " ∷ decimal64 k ∷ []) t
       → b ≡ written (quoted " type=" ∷ []) a
       → c ≡ written (signed (toZ w32 (ofZ w32 z))) b
@@ -87,25 +90,30 @@ module _ (t u : Text) where
       then t b u _ _ (then t a b _ _ f₁ (read (field (quoted " type=")) x _ a b x-is f₂)) (read span v _ b u v-is f₃)
 
   module _ (a : Text) (m : List ℕ) where
-    pub exchange-text : (v : Vector) → v ≡ exchangeVector m → a ≡ written (quoted "exchange" ∷ []) t → u ≡ written (span v) a → u ≡ written (exchangeLine (exchangeVector m)) t
+    pub exchange-text : (v : Vector) → v ≡ exchangeVector m → a ≡ written (quoted "exchange" ∷ []) t → u ≡ written (span v) a
+        → u ≡ written (exchangeLine (exchangeVector m)) t
     unfolding exchangeLine
     exchange-text v v-is f₁ f₂ = then t a u _ _ f₁ (read span v _ a u v-is f₂)
 
     module _ (b : Text) (z : ℤ) (f : SFits w32 z) where
-      pub checksum-text : 80 ≤ length m → (v : Vector) → z ≡ checksumType m → v ≡ checksumVector m → a ≡ written (quoted "checksum type=" ∷ []) t → b ≡ written (signed (toZ w32 (ofZ w32 z))) a → u ≡ written (span v) b → u ≡ written (checksumLine (le 4 m 64) (checksumVector m)) t
+      pub checksum-text : 80 ≤ length m → (v : Vector) → z ≡ checksumType m → v ≡ checksumVector m → a ≡ written (quoted "checksum type=" ∷ []) t
+          → b ≡ written (signed (toZ w32 (ofZ w32 z))) a → u ≡ written (span v) b → u ≡ written (checksumLine (le 4 m 64) (checksumVector m)) t
       unfolding checksumLine
       checksum-text h v z-is v-is f₁ f₂ f₃ =
           then t a u _ _ f₁ (then a b u _ _ (signed-text z _ a b f (field-is 80 m 64 z h z-is) f₂) (read span v _ b u v-is f₃))
 
-      pub error-text : 72 ≤ length m → z ≡ errorCode m → a ≡ written (quoted "error code=" ∷ []) t → b ≡ written (signed (toZ w32 (ofZ w32 z))) a → u ≡ written (quoted "\n" ∷ []) b → u ≡ written (errorLine (le 4 m 56)) t
+      pub error-text : 72 ≤ length m → z ≡ errorCode m → a ≡ written (quoted "error code=" ∷ []) t → b ≡ written (signed (toZ w32 (ofZ w32 z))) a
+          → u ≡ written (quoted "\n" ∷ []) b → u ≡ written (errorLine (le 4 m 56)) t
       unfolding errorLine
       error-text h z-is f₁ f₂ f₃ = then t a u _ _ f₁ (then a b u _ _ (signed-text z _ a b f (field-is 72 m 56 z h z-is) f₂) f₃)
 
   module _ (a b : Text) (n k : ℕ) where
-    pub end-text : a ≡ written (quoted "end messages=" ∷ decimal n ∷ []) t → b ≡ written (quoted " octets=" ∷ decimal64 k ∷ []) a → u ≡ written (quoted "\n" ∷ []) b → u ≡ written (endLine n k) t
+    pub end-text : a ≡ written (quoted "end messages=" ∷ decimal n ∷ []) t → b ≡ written (quoted " octets=" ∷ decimal64 k ∷ []) a
+        → u ≡ written (quoted "\n" ∷ []) b → u ≡ written (endLine n k) t
     unfolding endLine
     end-text f₁ f₂ f₃ = then t b u _ _ (then t a b _ _ f₁ f₂) f₃
 
-    pub refused-text : a ≡ written (quoted "refused " ∷ decimal n ∷ []) t → b ≡ written (quoted " at=" ∷ decimal64 k ∷ []) a → u ≡ written (quoted "\n" ∷ []) b → u ≡ written (refusedLine n k) t
+    pub refused-text : a ≡ written (quoted "refused " ∷ decimal n ∷ []) t → b ≡ written (quoted " at=" ∷ decimal64 k ∷ []) a
+        → u ≡ written (quoted "\n" ∷ []) b → u ≡ written (refusedLine n k) t
     unfolding refusedLine
     refused-text f₁ f₂ f₃ = then t b u _ _ (then t a b _ _ f₁ f₂) f₃

@@ -44,7 +44,8 @@ same t x k l e h = h ∙ ap (λ (p : List (List ℕ)). written p t) e
 size : (f : ℕ → Element → List (List ℕ)) (a : List ℕ) → length (numbered f (elementsOf a)) ≡ length a / 12
 size f a = length-numbered f 0 (elementsOf a) ∙ length-elements (length a / 12) a 0
 
-element : (f : ℕ → Element → List (List ℕ)) (a : List ℕ) (k : ℕ) → k < length a / 12 → getD (numbered f (elementsOf a)) k [] ≡ f k (elementAt a (12 * k))
+element : (f : ℕ → Element → List (List ℕ)) (a : List ℕ) (k : ℕ) → k < length a / 12
+    → getD (numbered f (elementsOf a)) k [] ≡ f k (elementAt a (12 * k))
 element f a k h =
     let n : k < length (elementsOf a) = omega (arith, length-elements (length a / 12) a 0) in
     let i : 0 + k ≡ k = omega arith in
@@ -77,8 +78,10 @@ module _ (m : List ℕ) (fit : Fit nego m) where
     nego-lines : (b : List ℕ) → b ≡ shown 96 m (extensionVector m) → linesIn nego m ≡ schemes ++ others b
     unfolding schemes others contentOf
     nego-lines b b-is =
-        sym (ap (λ (l : List ℕ). numbered schemeLine (idsOf l) ++ numbered extensionLine (elementsOf b)) (kept 96 m (schemeVector m) a (nego-rules .0) a-is)
-        ∙ ap (λ (l : List ℕ). numbered schemeLine (idsOf (part m (schemeVector m))) ++ numbered extensionLine (elementsOf l)) (kept 96 m (extensionVector m) b (nego-rules .1) b-is))
+        sym (ap (λ (l : List ℕ). numbered schemeLine (idsOf l) ++ numbered extensionLine (elementsOf b))
+        (kept 96 m (schemeVector m) a (nego-rules .0) a-is)
+        ∙ ap (λ (l : List ℕ). numbered schemeLine (idsOf (part m (schemeVector m))) ++ numbered extensionLine (elementsOf l))
+        (kept 96 m (extensionVector m) b (nego-rules .1) b-is))
 
     pub nego-count : (b : List ℕ) → b ≡ shown 96 m (extensionVector m) → 1 + (length a / 16 + length b / 12) ≡ 1 + length (linesIn nego m)
     unfolding others
@@ -87,7 +90,8 @@ module _ (m : List ℕ) (fit : Fit nego m) where
         omega (arith, n, length-schemes, size extensionLine b)
 
     module _ (j : ℕ) (t x : Text) where
-      pub nego-scheme : j < length a / 16 → x ≡ written (schemeLine j (take (16 * j + 16 - 16 * j) (drop (16 * j) a))) t → x ≡ written (getD (linesIn nego m) j []) t
+      pub nego-scheme : j < length a / 16 → x ≡ written (schemeLine j (take (16 * j + 16 - 16 * j) (drop (16 * j) a))) t
+          → x ≡ written (getD (linesIn nego m) j []) t
       unfolding schemes
       nego-scheme h e =
           let n : j < length (idsOf a) = omega (arith, length-ids (length a / 16) a) in
@@ -108,13 +112,15 @@ module _ (m : List ℕ) (fit : Fit nego m) where
             ap (λ (ls : List (List (List ℕ))). getD ls j []) (nego-lines b b-is)
             ∙ in-second schemes (others b) j (length a / 16) [] length-schemes past
 
-        pub nego-extension : j - length a / 16 < length b / 12 → x ≡ written (extensionLine (j - length a / 16) (elementAt b (12 * (j - length a / 16)))) t → x ≡ written (getD (linesIn nego m) j []) t
+        pub nego-extension : j - length a / 16 < length b / 12
+            → x ≡ written (extensionLine (j - length a / 16) (elementAt b (12 * (j - length a / 16)))) t → x ≡ written (getD (linesIn nego m) j []) t
         unfolding others
         nego-extension h e = same t x _ _ (sym (behind ∙ element extensionLine b (j - length a / 16) h)) e
 
         pub nego-past : length b / 12 ≤ j - length a / 16 → t ≡ written (getD (linesIn nego m) j []) t
         unfolding others
-        nego-past h = written-none t _ (behind ∙ List·getD-eq-default (numbered extensionLine (elementsOf b)) [] (omega (arith, size extensionLine b)))
+        nego-past h =
+            written-none t _ (behind ∙ List·getD-eq-default (numbered extensionLine (elementsOf b)) [] (omega (arith, size extensionLine b)))
 
 -- an id where the message has room for it
 scheme-is : (m i : List ℕ) → 56 ≤ length m → i ≡ idAt m 40 → i ≡ octets 16 m 40
@@ -122,7 +128,8 @@ unfolding idAt
 scheme-is m i h e = e ∙ simp (le-leb 56 (length m) h)
 
 -- a message of one scheme: its line, the next one, and the others
-module _ (shape : Shape) (m : List ℕ) (l : List (List ℕ)) (ls : List (List (List ℕ))) (is : linesIn shape m ≡ schemeLine 0 (octets 16 m 40) ∷ l ∷ ls) (j : ℕ) where
+module _ (shape : Shape) (m : List ℕ) (l : List (List ℕ)) (ls : List (List (List ℕ))) (is : linesIn shape m ≡ schemeLine 0 (octets 16 m 40) ∷ l ∷ ls)
+    (j : ℕ) where
   line-first : 56 ≤ length m → j ≡ 0 → (i : List ℕ) → i ≡ idAt m 40 → schemeLine 0 i ≡ getD (linesIn shape m) j []
   line-first room h i i-is =
       ap (schemeLine 0) (scheme-is m i room i-is)
@@ -166,11 +173,13 @@ module _ (m : List ℕ) (fit : Fit verify m) (j : ℕ) (t x : Text) where
 
 -- an ALERT: its scheme, its error, its alerts
 module _ (m : List ℕ) (fit : Fit alert m) where
-  alert-lines : (b : List ℕ) → b ≡ shown 72 m (alertVector m) → linesIn alert m ≡ schemeLine 0 (octets 16 m 40) ∷ errorLine (le 4 m 56) ∷ numbered alertLine (elementsOf b)
+  alert-lines : (b : List ℕ) → b ≡ shown 72 m (alertVector m)
+      → linesIn alert m ≡ schemeLine 0 (octets 16 m 40) ∷ errorLine (le 4 m 56) ∷ numbered alertLine (elementsOf b)
   unfolding contentOf vectorsOf allKeepRule
   alert-lines b b-is =
       let a = both (keepsRule 72 (length m) (alertVector m)) _ (fit .rule) in
-      ap (λ (l : List ℕ). schemeLine 0 (octets 16 m 40) ∷ errorLine (le 4 m 56) ∷ numbered alertLine (elementsOf l)) (sym (kept 72 m (alertVector m) b (a .0) b-is))
+      ap (λ (l : List ℕ). schemeLine 0 (octets 16 m 40) ∷ errorLine (le 4 m 56) ∷ numbered alertLine (elementsOf l))
+      (sym (kept 72 m (alertVector m) b (a .0) b-is))
 
   pub alert-count : (b : List ℕ) → b ≡ shown 72 m (alertVector m) → 3 + length b / 12 ≡ 1 + length (linesIn alert m)
   alert-count b b-is = let n = ap length (alert-lines b b-is) in omega (arith, n, size alertLine b)
@@ -183,15 +192,31 @@ module _ (m : List ℕ) (fit : Fit alert m) where
     alert-error h e = same t x _ _ (line-second alert m _ _ (alert-lines _ refl) j h) e
 
     module _ (some : j ≡ 0 → ⊥) (more : j ≡ 1 → ⊥) (b : List ℕ) (b-is : b ≡ shown 72 m (alertVector m)) where
-      pub alert-element : j - 2 < length b / 12 → x ≡ written (alertLine (j - 2) (elementAt b (12 * (j - 2)))) t → x ≡ written (getD (linesIn alert m) j []) t
+      pub alert-element : j - 2 < length b / 12 → x ≡ written (alertLine (j - 2) (elementAt b (12 * (j - 2)))) t
+          → x ≡ written (getD (linesIn alert m) j []) t
       alert-element h e = same t x _ _ (sym (line-other alert m _ _ (alert-lines b b-is) j some more ∙ element alertLine b (j - 2) h)) e
 
       pub alert-past : length b / 12 ≤ j - 2 → t ≡ written (getD (linesIn alert m) j []) t
       alert-past h =
           written-none t _
-          (line-other alert m _ _ (alert-lines b b-is) j some more ∙ List·getD-eq-default (numbered alertLine (elementsOf b)) [] (omega (arith, size alertLine b)))
+          (line-other alert m _ _ (alert-lines b b-is) j some more
+          ∙ List·getD-eq-default (numbered alertLine (elementsOf b)) [] (omega (arith, size alertLine b)))
 
-pub ruleset contents = (nego-scheme, nego-extension, nego-past, exchange-scheme, exchange-value, exchange-past, verify-scheme, verify-checksum, verify-past, alert-scheme, alert-error, alert-element, alert-past)
+pub ruleset contents = (
+  nego-scheme,
+  nego-extension,
+  nego-past,
+  exchange-scheme,
+  exchange-value,
+  exchange-past,
+  verify-scheme,
+  verify-checksum,
+  verify-past,
+  alert-scheme,
+  alert-error,
+  alert-element,
+  alert-past,
+)
 
 -- the message's kind decides the layout
 module _ (m : List ℕ) (fit : Fit (shapeIn m) m) where
@@ -224,14 +249,20 @@ module _ (m : List ℕ) (fit : Fit (shapeIn m) m) where
     counted : (s : Shape) → shapeOf kind ≡ s → (n : ℕ) → n ≡ 1 + length (linesIn s m) → n ≡ 1 + length (linesIn (shapeIn m) m)
     counted s e n h = h ∙ ap (λ (g : Shape). 1 + length (linesIn g m)) (sym (shape-of s e))
 
-    pub count-nego : kind ≤ 1 → (a b : List ℕ) → a ≡ shown 96 m (schemeVector m) → b ≡ shown 96 m (extensionVector m) → 1 + (length a / 16 + length b / 12) ≡ 1 + length (linesIn (shapeIn m) m)
+    pub count-nego : kind ≤ 1 → (a b : List ℕ) → a ≡ shown 96 m (schemeVector m) → b ≡ shown 96 m (extensionVector m)
+        → 1 + (length a / 16 + length b / 12) ≡ 1 + length (linesIn (shapeIn m) m)
     count-nego p a b a-is b-is = counted nego (shape-nego kind p) _ (nego-count m (as-nego p) a a-is b b-is)
 
     three : (s : Shape) → shapeOf kind ≡ s → length (linesIn s m) ≡ 2 → 3 ≡ 1 + length (linesIn (shapeIn m) m)
     three s e h = counted s e 3 (omega (arith, h))
 
     pub count-three : 1 < kind → kind ≤ 6 → 3 ≡ 1 + length (linesIn (shapeIn m) m)
-    count-three p q = elim (which (leb kind 5)) [ inl e ↦ three exchange (shape-exchange kind p (leb-true _ _ e)) (unfold contentOf in refl) | inr e ↦ let g : 5 < kind = leb-false _ _ e in three verify (shape-verify kind p g (omega arith)) (unfold contentOf in refl) ]
+    count-three p q =
+        elim (which (leb kind 5)) [
+          | inl e ↦ three exchange (shape-exchange kind p (leb-true _ _ e)) (unfold contentOf in refl)
+          | inr e ↦ let g : 5 < kind = leb-false _ _ e in
+              three verify (shape-verify kind p g (omega arith)) (unfold contentOf in refl)
+        ]
 
     pub count-alert : 1 < kind → 6 < kind → (b : List ℕ) → b ≡ shown 72 m (alertVector m) → 3 + length b / 12 ≡ 1 + length (linesIn (shapeIn m) m)
     count-alert p q b b-is =
@@ -240,7 +271,8 @@ module _ (m : List ℕ) (fit : Fit (shapeIn m) m) where
 
     -- the line with an index, by the kind
     module _ (place index : ℕ) (some : index ≡ 0 → ⊥) (t x : Text) where
-      behind-line : (s : Shape) → shapeOf kind ≡ s → x ≡ written (getD (linesIn s m) (index - 1) []) t → x ≡ written (getD (messageLines place m) index []) t
+      behind-line : (s : Shape) → shapeOf kind ≡ s → x ≡ written (getD (linesIn s m) (index - 1) []) t
+          → x ≡ written (getD (messageLines place m) index []) t
       unfolding messageLines
       behind-line s e h =
           let n : index ≡ suc (index - 1) = omega arith in
@@ -251,17 +283,36 @@ module _ (m : List ℕ) (fit : Fit (shapeIn m) m) where
       pub line-nego : kind ≤ 1 → x ≡ written (getD (linesIn nego m) (index - 1) []) t → x ≡ written (getD (messageLines place m) index []) t
       line-nego p h = behind-line nego (shape-nego kind p) h
 
-      pub line-exchange : 1 < kind → kind ≤ 5 → x ≡ written (getD (linesIn exchange m) (index - 1) []) t → x ≡ written (getD (messageLines place m) index []) t
+      pub line-exchange : 1 < kind → kind ≤ 5 → x ≡ written (getD (linesIn exchange m) (index - 1) []) t
+          → x ≡ written (getD (messageLines place m) index []) t
       line-exchange p q h = behind-line exchange (shape-exchange kind p q) h
 
-      pub line-verify : 1 < kind → 5 < kind → kind ≡ 6 → x ≡ written (getD (linesIn verify m) (index - 1) []) t → x ≡ written (getD (messageLines place m) index []) t
+      pub line-verify : 1 < kind → 5 < kind → kind ≡ 6 → x ≡ written (getD (linesIn verify m) (index - 1) []) t
+          → x ≡ written (getD (messageLines place m) index []) t
       line-verify p q e h = behind-line verify (shape-verify kind p q e) h
 
-      pub line-alert : 1 < kind → 5 < kind → (kind ≡ 6 → ⊥) → x ≡ written (getD (linesIn alert m) (index - 1) []) t → x ≡ written (getD (messageLines place m) index []) t
+      pub line-alert : 1 < kind → 5 < kind → (kind ≡ 6 → ⊥) → x ≡ written (getD (linesIn alert m) (index - 1) []) t
+          → x ≡ written (getD (messageLines place m) index []) t
       line-alert p q e h = behind-line alert (shape-alert kind p q e) h
 
-pub line-own : (m : List ℕ) (place index : ℕ) (t x : Text) → index ≡ 0 → x ≡ written (messageLine place (headOf m)) t → x ≡ written (getD (messageLines place m) index []) t
+pub line-own : (m : List ℕ) (place index : ℕ) (t x : Text) → index ≡ 0 → x ≡ written (messageLine place (headOf m)) t
+    → x ≡ written (getD (messageLines place m) index []) t
 unfolding messageLines
 line-own m place index t x e h = rw e h
 
-pub ruleset kinds = (fit-head, fit-kind, as-nego, as-exchange, as-verify, as-alert, count-nego, count-three, count-alert, line-own, line-nego, line-exchange, line-verify, line-alert)
+pub ruleset kinds = (
+  fit-head,
+  fit-kind,
+  as-nego,
+  as-exchange,
+  as-verify,
+  as-alert,
+  count-nego,
+  count-three,
+  count-alert,
+  line-own,
+  line-nego,
+  line-exchange,
+  line-verify,
+  line-alert,
+)

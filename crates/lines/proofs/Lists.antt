@@ -14,11 +14,13 @@ unfolding numberedFrom
 length-numbered f k [] = refl
 length-numbered f k (x ∷ xs) = ap suc (length-numbered f (k + 1) xs)
 
-pub getD-numbered : {A : Type 0} (f : ℕ → A → List (List ℕ)) (k : ℕ) (xs : List A) (i : ℕ) (z : A) → i < length xs → getD (numberedFrom f k xs) i [] ≡ f (k + i) (getD xs i z)
+pub getD-numbered : {A : Type 0} (f : ℕ → A → List (List ℕ)) (k : ℕ) (xs : List A) (i : ℕ) (z : A) → i < length xs
+    → getD (numberedFrom f k xs) i [] ≡ f (k + i) (getD xs i z)
 unfolding numberedFrom
 getD-numbered f k [] i z h = absurd (omega arith)
 getD-numbered f k (x ∷ xs) zero z h = let e : k ≡ k + 0 = omega arith in ap (λ (n : ℕ). f n x) e
-getD-numbered f k (x ∷ xs) (suc i) z h = let e : k + 1 + i ≡ k + suc i = omega arith in getD-numbered f (k + 1) xs i z (omega arith) ∙ ap (λ (n : ℕ). f n (getD xs i z)) e
+getD-numbered f k (x ∷ xs) (suc i) z h =
+    let e : k + 1 + i ≡ k + suc i = omega arith in getD-numbered f (k + 1) xs i z (omega arith) ∙ ap (λ (n : ℕ). f n (getD xs i z)) e
 
 pub length-elements : (n : ℕ) (a : List ℕ) (at : ℕ) → length (elementsAt n a at) ≡ n
 unfolding elementsAt
@@ -29,7 +31,8 @@ pub getD-elements : (n : ℕ) (a : List ℕ) (at i : ℕ) (z : Element) → i < 
 unfolding elementsAt
 getD-elements zero a at i z h = absurd (omega arith)
 getD-elements (suc n) a at zero z h = let e : at ≡ at + 12 * 0 = omega arith in ap (elementAt a) e
-getD-elements (suc n) a at (suc i) z h = let e : at + 12 + 12 * i ≡ at + 12 * suc i = omega arith in getD-elements n a (at + 12) i z (omega arith) ∙ ap (elementAt a) e
+getD-elements (suc n) a at (suc i) z h =
+    let e : at + 12 + 12 * i ≡ at + 12 * suc i = omega arith in getD-elements n a (at + 12) i z (omega arith) ∙ ap (elementAt a) e
 
 -- a place in two lists, one behind the other
 module _ {A : Type 0} (xs ys : List A) (i n : ℕ) (z : A) (size : length xs ≡ n) where

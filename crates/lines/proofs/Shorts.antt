@@ -26,7 +26,8 @@ length-lengths h = simp length-append (omega (arith, length-decimal 10 (h .heade
 
 short-message : (place : ℕ) (h : Head) → Short (messageLine place h)
 unfolding messageLine
-short-message place h = simp length-append (omega (arith, length-decimal 20 place, length-decimal 10 (h .sequence), length-decimal 10 (h .kind), length-lengths h))
+short-message place h =
+    simp length-append (omega (arith, length-decimal 20 place, length-decimal 10 (h .sequence), length-decimal 10 (h .kind), length-lengths h))
 
 length-span : (v : Vector) → length (joined (span v)) ≤ 33
 unfolding span
@@ -38,7 +39,8 @@ short-scheme k i = simp (length-append, length-joined) (omega (arith, length-dec
 
 short-extension : (k : ℕ) (e : Element) → Short (extensionLine k e)
 unfolding extensionLine
-short-extension k e = simp (length-append, length-joined) (omega (arith, length-decimal 20 k, length-signed (signed32 (e .type)), length-span (e .value)))
+short-extension k e =
+    simp (length-append, length-joined) (omega (arith, length-decimal 20 k, length-signed (signed32 (e .type)), length-span (e .value)))
 
 short-exchange : (v : Vector) → Short (exchangeLine v)
 unfolding exchangeLine
@@ -103,7 +105,8 @@ line-is l d d' r s h e =
     record { counts = (omega (arith, f, n), f .0 ∙ sym (ap length (f .1))); is = f .1; holds = front-put l d d' r (omega arith) e }
 
 module _ (d d' : List ℕ) (r : ℕ) (h : length d ≡ 128) where
-  pub message-line : (place : ℕ) (m : List ℕ) (index : ℕ) → text d' r ≡ written (getD (messageLines place m) index []) (text d 0) → LineIs r d d' (getD (messageLines place m) index [])
+  pub message-line : (place : ℕ) (m : List ℕ) (index : ℕ) → text d' r ≡ written (getD (messageLines place m) index []) (text d 0)
+      → LineIs r d d' (getD (messageLines place m) index [])
   message-line place m index e = line-is _ d d' r (short-at (messageLines place m) index (shorts-message place m)) h e
 
   pub end-line : (n k : ℕ) → text d' r ≡ written (endLine n k) (text d 0) → LineIs r d d' (endLine n k)

@@ -90,7 +90,8 @@ pub(crate) fn exchange(d: &mut [u8], m: &[u8]) -> usize
 // A VERIFY's checksum.
 pub(crate) fn checksum(d: &mut [u8], m: &[u8]) -> usize
     requires { ⌜ 80 ≤ length (now m) ⌝ }
-    ensures { λ r. ⌜ text (now (d .exit)) r ≡ written (checksumLine (le 4 (now (m .entry)) 64) (checksumVector (now (m .entry)))) (text (now (d .entry)) 0) ⌝ }
+    ensures { λ r. ⌜ text (now (d .exit)) r ≡ written (checksumLine (le 4 (now (m .entry)) 64) (checksumVector (now (m .entry))))
+        (text (now (d .entry)) 0) ⌝ }
 {
     let type_start = append(d, 0, b"checksum type=");
     let type_end = signed(d, type_start, checksum_type(m));

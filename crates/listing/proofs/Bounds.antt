@@ -44,14 +44,28 @@ all-few : (ms : List (List ℕ)) (place q : ℕ) (v : List ℕ) → Numbered q v
 unfolding allLines
 all-few [] place q v e = omega arith
 all-few (m ∷ ms) place q v e =
-    omega (arith, length-append (messageLines place m) (allLines (placedFrom (place + length m) ms)), length-append m (join ms), message-few place q v m (e .0), all-few ms (place + length m) (q + 1) v (e .1))
+    omega (
+      arith,
+      length-append (messageLines place m) (allLines (placedFrom (place + length m) ms)),
+      length-append m
+          (join ms),
+      message-few place q v m (e .0),
+      all-few ms (place + length m) (q + 1) v (e .1),
+    )
 
 reading-few : (s : List ℕ) (r : Reading) → tokenOf s ≡ r → length (readingLines r (length s)) ≤ length s + 1
 unfolding readingLines
 reading-few s (Accepted ps) e =
     let (ms, (split, places)) = accepted-splits s ps e in
     let n : length (allLines ps) ≡ length (allLines (placedFrom 0 ms)) = ap (λ (l : List Placed). length (allLines l)) (sym places) in
-    omega (arith, length-append (allLines ps) (endLine (length ps) (length s) ∷ []), n, all-few ms 0 (headOf s .sequence) (headOf s .conversation) (split .numbered), ap length (split .joins))
+    omega (
+      arith,
+      length-append (allLines ps) (endLine (length ps) (length s) ∷ []),
+      n,
+      all-few ms 0 (headOf s .sequence) (headOf s .conversation)
+          (split .numbered),
+      ap length (split .joins),
+    )
 reading-few s (Refused n p) e = omega arith
 
 pub few-lines : FewLines

@@ -16,7 +16,8 @@ pub short-lines : ShortLines
 unfolding linesOf
 short-lines s k = rw (getD-texts (tokenLines s) k) (short-at (tokenLines s) k (shorts-token s))
 
-each-shows : (s : List ℕ) (qs : List Request) (first : ℕ) → ((q : Request) → List·Memᴰ q qs → (128 ≤ length (q .buffer)) × (length (linesOf s) ≤ q .end)) → EachShows (linesOf s) first qs
+each-shows : (s : List ℕ) (qs : List Request) (first : ℕ)
+    → ((q : Request) → List·Memᴰ q qs → (128 ≤ length (q .buffer)) × (length (linesOf s) ≤ q .end)) → EachShows (linesOf s) first qs
 unfolding EachShows
 each-shows s [] first h = tt
 each-shows s (q ∷ qs) first h =

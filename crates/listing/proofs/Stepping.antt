@@ -14,7 +14,8 @@ use Rattle.lines.specs.Lines.{messageLines}
 use Rattle.lines.specs.Fit.{shapeIn, linesIn, LineIs}
 
 -- a line that stands in an array
-pub line-put : (x : State) (t : State) (k : ℕ) (lent out : List ℕ) (l : List (List ℕ)) → LineIs k lent out l → x ≡ step t (take k out) → x ≡ step t (joined l)
+pub line-put : (x : State) (t : State) (k : ℕ) (lent out : List ℕ) (l : List (List ℕ)) → LineIs k lent out l → x ≡ step t (take k out)
+    → x ≡ step t (joined l)
 line-put x t k lent out l i e = e ∙ ap (step t) (i .is)
 
 -- the lines of one message, in the words of `show_message` and `show_lines`: n is their number, x what they come to
@@ -33,7 +34,8 @@ module _ (place : ℕ) (m : List ℕ) (n : ℕ) (count : n ≡ 1 + length (lines
     unfolding own
     over-all h = ap (λ (k : ℕ). within (at-skip p (p .skip - k)) d) length-own ∙ steps-over own (p .skip) p d some (omega (arith, length-own))
 
-    pub into-all : p .skip < n → (x : State) → x ≡ steps (drop (p .skip) (texts (messageLines place m))) (state 0 (p .left) (p .lines) (p .octets) d) → x ≡ steps (texts (messageLines place m)) (within p d)
+    pub into-all : p .skip < n → (x : State) → x ≡ steps (drop (p .skip) (texts (messageLines place m))) (state 0 (p .left) (p .lines) (p .octets) d)
+        → x ≡ steps (texts (messageLines place m)) (within p d)
     unfolding own
     into-all h x e = e ∙ sym (steps-into own (p .skip) p d some (omega (arith, length-own)))
 
@@ -45,7 +47,8 @@ module _ (place : ℕ) (m : List ℕ) (n : ℕ) (count : n ≡ 1 + length (lines
     unfolding own steps
     lines-end h = sym (inv ∙ ap (λ (ts : List (List ℕ)). steps ts (within q e)) (drop-of-length-le own {i = i} (omega (arith, length-own))))
 
-    pub lines-turn : i < n → (q' : Progress) (e' : List ℕ) → within q' e' ≡ step (within q e) (joined (getD (messageLines place m) i [])) → x ≡ steps (drop (i + 1) (texts (messageLines place m))) (within q' e')
+    pub lines-turn : i < n → (q' : Progress) (e' : List ℕ) → within q' e' ≡ step (within q e) (joined (getD (messageLines place m) i []))
+        → x ≡ steps (drop (i + 1) (texts (messageLines place m))) (within q' e')
     unfolding own
     lines-turn h q' e' s =
         inv ∙ steps-turn own i (within q e) (omega (arith, length-own))

@@ -47,7 +47,8 @@ pub record Going-on (x : State) (rest : List ℕ) (place : ℕ) (t : State) : Ty
 pub begin : (s : List ℕ) (t : State) → Accepts s → Going-on (steps (texts (allLines (messagesOf (tokenOf s)))) t) s 0 t
 begin s t a = let (w, places) = whole s a in record { left = w; come = ap (λ (ps : List Placed). steps (texts (allLines ps)) t) (sym places) }
 
-lines-first : (place : ℕ) (m : List ℕ) (ms : List (List ℕ)) → allLines (placedFrom place (m ∷ ms)) ≡ messageLines place m ++ allLines (placedFrom (place + length m) ms)
+lines-first : (place : ℕ) (m : List ℕ) (ms : List (List ℕ))
+    → allLines (placedFrom place (m ∷ ms)) ≡ messageLines place m ++ allLines (placedFrom (place + length m) ms)
 unfolding allLines
 lines-first place m ms = refl
 
@@ -77,22 +78,29 @@ module _ (x : State) (rest : List ℕ) (place : ℕ) (t : State) (on : Going-on 
     pub walk-small : (L : ℕ) → place + length rest ≡ L → L ≤ 65535 → length m < 2 ^ 32
     walk-small L e h = omega (arith, walk-fits)
 
-    pub walk-place : (next L : ℕ) → next ≡ place + length m → place + length rest ≡ L → next + length (take (length rest - length m) (drop (length m) rest)) ≡ L
+    pub walk-place : (next L : ℕ) → next ≡ place + length m → place + length rest ≡ L
+        → next + length (take (length rest - length m) (drop (length m) rest)) ≡ L
     walk-place next L e h = omega (arith, left-length, walk-fits)
 
-    pub walk-on : (next : ℕ) → next ≡ place + length m → (u : State) → u ≡ steps (texts (messageLines place m)) t → Going-on x (take (length rest - length m) (drop (length m) rest)) next u
+    pub walk-on : (next : ℕ) → next ≡ place + length m → (u : State) → u ≡ steps (texts (messageLines place m)) t
+        → Going-on x (take (length rest - length m) (drop (length m) rest)) next u
     walk-on next next-is u u-is =
-        subst (λ (k : ℕ). Going-on x (take (length rest - length m) (drop (length m) rest)) k u) (sym (next-is ∙ ap (λ (l : List ℕ). place + length l) m-is))
-        (subst (λ (l : List ℕ). Going-on x l (place + length (firstOf rest)) u) (sym (tail-all rest (length m) ∙ ap (λ (l : List ℕ). drop (length l) rest) m-is))
+        subst (λ (k : ℕ). Going-on x (take (length rest - length m) (drop (length m) rest)) k u)
+        (sym (next-is ∙ ap (λ (l : List ℕ). place + length l) m-is))
+        (subst (λ (l : List ℕ). Going-on x l (place + length (firstOf rest)) u)
+        (sym (tail-all rest (length m) ∙ ap (λ (l : List ℕ). drop (length l) rest) m-is))
         (record {
           left = here .left;
           come =
               on .come
               ∙ ap (λ (ms : List (List ℕ)). steps (texts (allLines (placedFrom place ms))) t) (here .messages)
               ∙ ap (λ (ls : List (List (List ℕ))). steps (texts ls) t) (lines-first place (firstOf rest) (here .left .ms))
-              ∙ ap (λ (ts : List (List ℕ)). steps ts t) (texts-append (messageLines place (firstOf rest)) (allLines (placedFrom (place + length (firstOf rest)) (here .left .ms))))
-              ∙ steps-append (texts (messageLines place (firstOf rest))) (texts (allLines (placedFrom (place + length (firstOf rest)) (here .left .ms)))) t
-              ∙ ap (steps (texts (allLines (placedFrom (place + length (firstOf rest)) (here .left .ms))))) (ap (λ (l : List ℕ). steps (texts (messageLines place l)) t) (sym m-is) ∙ sym u-is);
+              ∙ ap (λ (ts : List (List ℕ)). steps ts t)
+              (texts-append (messageLines place (firstOf rest)) (allLines (placedFrom (place + length (firstOf rest)) (here .left .ms))))
+              ∙ steps-append (texts (messageLines place (firstOf rest)))
+              (texts (allLines (placedFrom (place + length (firstOf rest)) (here .left .ms)))) t
+              ∙ ap (steps (texts (allLines (placedFrom (place + length (firstOf rest)) (here .left .ms)))))
+              (ap (λ (l : List ℕ). steps (texts (messageLines place l)) t) (sym m-is) ∙ sym u-is);
         }))
 
 pub ruleset turns = (begin, accepted-short, at-end, walk-fit, walk-fits, walk-less, walk-small, walk-place, walk-on)

@@ -30,15 +30,20 @@ module _ (s : List ℕ) (r : Answer) (r-is : told r ≡ outcomeOf (tokenOf s)) w
         ∙ ap (λ (k : ℕ). texts (allLines (messagesOf (tokenOf s))) ++ (joined (endLine k (length s)) ∷ [])) (answer-number s r r-is n here)
 
     module _ (from end : ℕ) (d : List ℕ) (p : Progress) (p-is : p ≡ startOf from end) where
-      pub window-messages : (q t : Progress) (e d' : List ℕ) → within q e ≡ steps (texts (allLines (messagesOf (tokenOf s)))) (within p d) → within t d' ≡ step (within q e) (joined (endLine n (length s))) → (x : Shown) → x ≡ shownSoFar t → asWindow x d' ≡ windowOf (linesOf s) from end d
+      pub window-messages : (q t : Progress) (e d' : List ℕ) → within q e ≡ steps (texts (allLines (messagesOf (tokenOf s)))) (within p d)
+          → within t d' ≡ step (within q e) (joined (endLine n (length s))) → (x : Shown) → x ≡ shownSoFar t
+          → asWindow x d' ≡ windowOf (linesOf s) from end d
       unfolding steps
       window-messages q t e d' a b x c =
           window-is (linesOf s) from end d p t d' p-is
           (b ∙ ap (λ (u : State). step u (joined (endLine n (length s)))) a
-          ∙ sym (ap (λ (ts : List (List ℕ)). steps ts (within p d)) lines-are ∙ steps-append (texts (allLines (messagesOf (tokenOf s)))) (joined (endLine n (length s)) ∷ []) (within p d)))
+          ∙ sym (ap (λ (ts : List (List ℕ)). steps ts (within p d)) lines-are
+          ∙ steps-append (texts (allLines (messagesOf (tokenOf s)))) (joined (endLine n (length s)) ∷ []) (within p d)))
           x c
 
-  pub window-refused : (n : ℕ) (place : TokenPlace) → r ≡ answer.Refused n place → (from end : ℕ) (d : List ℕ) (p : Progress) → p ≡ startOf from end → (t : Progress) (d' : List ℕ) → within t d' ≡ step (within p d) (joined (refusedLine n (place .0))) → (x : Shown) → x ≡ shownSoFar t → asWindow x d' ≡ windowOf (linesOf s) from end d
+  pub window-refused : (n : ℕ) (place : TokenPlace) → r ≡ answer.Refused n place → (from end : ℕ) (d : List ℕ) (p : Progress) → p ≡ startOf from end
+      → (t : Progress) (d' : List ℕ) → within t d' ≡ step (within p d) (joined (refusedLine n (place .0))) → (x : Shown) → x ≡ shownSoFar t
+      → asWindow x d' ≡ windowOf (linesOf s) from end d
   unfolding steps
   window-refused n place here from end d p p-is t d' b x c =
       window-is (linesOf s) from end d p t d' p-is (b ∙ sym (ap (λ (ts : List (List ℕ)). steps ts (within p d)) line-is)) x c where

@@ -31,7 +31,8 @@ use windows::start;
 fn show_line(p: Progress, d: &mut [u8], place: TokenPlace, m: &[u8], index: usize) -> Progress
     requires { ⌜ Fit (shapeIn (now m)) (now m) ⌝ }
     requires { ⌜ Going p (length (now d)) ⌝ }
-    ensures { λ r. ⌜ within r (now (d .exit)) ≡ step (within p (now (d .entry))) (joined (getD (messageLines (place .0) (now (m .entry))) index [])) ⌝ }
+    ensures { λ r. ⌜ within r (now (d .exit)) ≡ step (within p (now (d .entry)))
+        (joined (getD (messageLines (place .0) (now (m .entry))) index [])) ⌝ }
 {
     let mut text = [0u8; 128];
     let k = message_text(&mut text, place, m, index);

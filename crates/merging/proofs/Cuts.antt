@@ -67,7 +67,14 @@ pub record CutOn (file rest : List ℕ) (place messages : ℕ) : Type 0 where
   pub come : cutBy (cutOf file) ≡ more messages (cutBy (cutFrom rest 0 place))
 
 pub cut-begins : (file : List ℕ) → length file ≤ 65535 → CutOn file file 0 0
-cut-begins file h = record { short = h; few = omega arith; at = omega arith; come = (let z : length (messagesIn (cutOf file)) ≡ 0 + length (messagesIn (cutOf file)) = omega arith in ap (λ (k : ℕ). record { number = numberIn (cutOf file); place = record { 0 = placeIn (cutOf file) }; messages = k }) z) }
+cut-begins file h =
+    record {
+      short = h;
+      few = omega arith;
+      at = omega arith;
+      come = (let z : length (messagesIn (cutOf file)) ≡ 0 + length (messagesIn (cutOf file)) = omega arith in
+          ap (λ (k : ℕ). record { number = numberIn (cutOf file); place = record { 0 = placeIn (cutOf file) }; messages = k }) z);
+    }
 
 module _ (file rest : List ℕ) (place messages : ℕ) (on : CutOn file rest place messages) where
   pub cut-counts : messages + 1 < 4294967296
@@ -75,8 +82,11 @@ module _ (file rest : List ℕ) (place messages : ℕ) (on : CutOn file rest pla
 
   pub cut-ends : length rest ≤ 0 → record { number = 0; place = record { 0 = 0 }; messages = messages } ≡ cutBy (cutOf file)
   cut-ends e = go rest e ∙ sym (on .come) where
-    go : (l : List ℕ) → length l ≤ 0 → record { number = 0; place = record { 0 = 0 }; messages = messages } ≡ more messages (cutBy (cutFrom l 0 place))
-    go [] w = unfold cutFrom messagesIn in (let z : messages ≡ messages + 0 = omega arith in ap (λ (k : ℕ). record { number = 0; place = record { 0 = 0 }; messages = k }) z)
+    go : (l : List ℕ) → length l ≤ 0
+        → record { number = 0; place = record { 0 = 0 }; messages = messages } ≡ more messages (cutBy (cutFrom l 0 place))
+    go [] w =
+        unfold cutFrom messagesIn in
+        (let z : messages ≡ messages + 0 = omega arith in ap (λ (k : ℕ). record { number = 0; place = record { 0 = 0 }; messages = k }) z)
     go (x ∷ l) w = absurd (omega arith)
 
   module _ (some : 0 < length rest) (m : Read) (m-is : said m ≡ headerVerdict rest) where
@@ -100,18 +110,28 @@ module _ (file rest : List ℕ) (place messages : ℕ) (on : CutOn file rest pla
                 ∙ ap (λ (l : List ℕ). more (messages + 1) (cutBy (cutFrom l 0 (place + h .length)))) (sym (tail-all rest (h .length)))
                 ∙ ap (λ (k : ℕ). more (messages + 1) (cutBy (cutFrom (take (length rest - h .length) (drop (h .length) rest)) 0 k))) (sym next-is);
           } where
-            counted : (o : List ℕ) (ch : Chain) → more messages (cutBy (message (record { place = place; octets = o }) ch)) ≡ more (messages + 1) (cutBy ch)
-            counted o ch = unfold messagesIn in (let z : messages + suc (length (messagesIn ch)) ≡ messages + 1 + length (messagesIn ch) = omega arith in ap (λ (i : ℕ). record { number = numberIn ch; place = record { 0 = placeIn ch }; messages = i }) z)
+            counted : (o : List ℕ) (ch : Chain)
+                → more messages (cutBy (message (record { place = place; octets = o }) ch)) ≡ more (messages + 1) (cutBy ch)
+            counted o ch =
+                unfold messagesIn in
+                (let z : messages + suc (length (messagesIn ch)) ≡ messages + 1 + length (messagesIn ch) = omega arith in
+                ap (λ (i : ℕ). record { number = numberIn ch; place = record { 0 = placeIn ch }; messages = i }) z)
 
 -- a refusal, at its place
-module _ (file rest : List ℕ) (place : TokenPlace) (messages : ℕ) (on : CutOn file rest (place .0) messages) (some : 0 < length rest) (m : Read) (m-is : said m ≡ headerVerdict rest) where
-  pub cut-stops : (n : ℕ) → m ≡ answer.Refused n → (k : ℕ) → k ≡ numberOf (said m) → record { number = k; place = place; messages = messages } ≡ cutBy (cutOf file)
+module _ (file rest : List ℕ) (place : TokenPlace) (messages : ℕ) (on : CutOn file rest (place .0) messages) (some : 0 < length rest) (m : Read)
+    (m-is : said m ≡ headerVerdict rest) where
+  pub cut-stops : (n : ℕ) → m ≡ answer.Refused n → (k : ℕ) → k ≡ numberOf (said m)
+      → record { number = k; place = place; messages = messages } ≡ cutBy (cutOf file)
   cut-stops n e k k-is =
       let f = header-refused rest m m-is n e in
       let is : k ≡ firstFailing (commonRows (length rest) (headOf rest)) = k-is ∙ ap (λ (z : Read). numberOf (said z)) e ∙ sym (f .1) in
-      sym (on .come ∙ ap (λ (ch : Chain). more messages (cutBy ch)) (turn-stops (place .0) rest some (f .0)) ∙ stopped (firstFailing (commonRows (length rest) (headOf rest))) ∙ ap (λ (j : ℕ). record { number = j; place = place; messages = messages }) (sym is)) where
+      sym (on .come ∙ ap (λ (ch : Chain). more messages (cutBy ch)) (turn-stops (place .0) rest some (f .0))
+      ∙ stopped (firstFailing (commonRows (length rest) (headOf rest)))
+      ∙ ap (λ (j : ℕ). record { number = j; place = place; messages = messages }) (sym is)) where
         stopped : (j : ℕ) → more messages (cutBy (cutAt j (place .0))) ≡ record { number = j; place = place; messages = messages }
-        stopped j = unfold messagesIn in (let z : messages + 0 ≡ messages = omega arith in ap (λ (i : ℕ). record { number = j; place = place; messages = i }) z)
+        stopped j =
+            unfold messagesIn in
+            (let z : messages + 0 ≡ messages = omega arith in ap (λ (i : ℕ). record { number = j; place = place; messages = i }) z)
 
 pub ruleset cuts = (header-within, header-less, cut-begins, cut-counts, cut-ends, cut-stops, cut-place, cut-on)
 

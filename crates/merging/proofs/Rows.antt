@@ -65,7 +65,8 @@ run-no q m ms e = rw e
 off : (ms : List (List ℕ)) (q : ℕ) (s : List ℕ) → messagesOf s ≡ ms → Off (runFrom q ms) ms s
 off [] q s e = record { front-is = unfold runFrom in refl; left-is = unfold runFrom in e }
 off (m ∷ ms) q s e = go (which (fits s)) (which (eqb (headOf m .sequence) q)) (off ms (q + 1) (drop (size s) s)) where
-  go : (fits s ≡ true) ⊎ (fits s ≡ false) → (eqb (headOf m .sequence) q ≡ true) ⊎ (eqb (headOf m .sequence) q ≡ false) → (messagesOf (drop (size s) s) ≡ ms → Off (runFrom (q + 1) ms) ms (drop (size s) s)) → Off (runFrom q (m ∷ ms)) (m ∷ ms) s
+  go : (fits s ≡ true) ⊎ (fits s ≡ false) → (eqb (headOf m .sequence) q ≡ true) ⊎ (eqb (headOf m .sequence) q ≡ false)
+      → (messagesOf (drop (size s) s) ≡ ms → Off (runFrom (q + 1) ms) ms (drop (size s) s)) → Off (runFrom q (m ∷ ms)) (m ∷ ms) s
   go (inr f) n ih = let z : [] ≡ m ∷ ms = sym (messages-none s f) ∙ e in absurd (omega (arith, ap length z))
   go (inl f) (inr n) ih = subst (λ (r : List (List ℕ)). Off r (m ∷ ms) s) (sym (run-no q m ms n)) (record { front-is = refl; left-is = e })
   go (inl f) (inl n) ih =
@@ -79,7 +80,9 @@ off (m ∷ ms) q s e = go (which (fits s)) (which (eqb (headOf m .sequence) q)) 
       let whole : length (m ++ join run) ≡ size s + k = length-append m (join run) ∙ ap (λ (j : ℕ). j + k) l in
       subst (λ (r : List (List ℕ)). Off r (m ∷ ms) s) (sym (run-yes q m ms n))
       (record {
-        front-is = ap (λ (j : ℕ). take j s) whole ∙ take-add (size s) k s ∙ ap (λ (x : List ℕ). x ++ take k (drop (size s) s)) here ∙ ap (λ (x : List ℕ). m ++ x) (i .front-is);
+        front-is =
+            ap (λ (j : ℕ). take j s) whole ∙ take-add (size s) k s ∙ ap (λ (x : List ℕ). x ++ take k (drop (size s) s)) here
+            ∙ ap (λ (x : List ℕ). m ++ x) (i .front-is);
         left-is = ap (λ (j : ℕ). messagesOf (drop j s)) whole ∙ ap messagesOf (sym (drop-drop k (size s) s)) ∙ i .left-is;
       })
 
@@ -105,8 +108,10 @@ enough (suc n) zero q [] [] h g = unfold runFrom in refl
 enough (suc n) zero q (m ∷ i) a h g = absurd (omega arith)
 enough (suc n) zero q [] (m ∷ a) h g = absurd (omega arith)
 enough (suc n) (suc k) q i a h g = go (which (ltb 0 (length (runFrom q i)))) (which (ltb 0 (length (runFrom q a)))) (enough n k) where
-  go : (ltb 0 (length (runFrom q i)) ≡ true) ⊎ (ltb 0 (length (runFrom q i)) ≡ false) → (ltb 0 (length (runFrom q a)) ≡ true) ⊎ (ltb 0 (length (runFrom q a)) ≡ false)
-      → ((p : ℕ) (x y : List (List ℕ)) → length x + length y ≤ n → length x + length y ≤ k → turnsFrom n p x y ≡ turnsFrom k p x y) → turnsFrom (suc n) q i a ≡ turnsFrom (suc k) q i a
+  go : (ltb 0 (length (runFrom q i)) ≡ true) ⊎ (ltb 0 (length (runFrom q i)) ≡ false)
+      → (ltb 0 (length (runFrom q a)) ≡ true) ⊎ (ltb 0 (length (runFrom q a)) ≡ false)
+      → ((p : ℕ) (x y : List (List ℕ)) → length x + length y ≤ n → length x + length y ≤ k → turnsFrom n p x y ≡ turnsFrom k p x y)
+      → turnsFrom (suc n) q i a ≡ turnsFrom (suc k) q i a
   go (inl e) f ih =
       let some : 0 < length (runFrom q i) = ltb-true _ _ e in
       let l = length-drop (length (runFrom q i)) i in
@@ -117,11 +122,15 @@ enough (suc n) (suc k) q i a h g = go (which (ltb 0 (length (runFrom q i)))) (wh
       rw (e, f, ih (q + length (runFrom q a)) i (drop (length (runFrom q a)) a) (omega (arith, run-short q a)) (omega (arith, run-short q a)))
   go (inr e) (inr f) ih = rw (e, f)
 
-step-initiator : (n q : ℕ) (i a : List (List ℕ)) → ltb 0 (length (runFrom q i)) ≡ true → turnsFrom (suc n) q i a ≡ record { acceptor = false; messages = runFrom q i } ∷ turnsFrom n (q + length (runFrom q i)) (drop (length (runFrom q i)) i) a
+step-initiator : (n q : ℕ) (i a : List (List ℕ)) → ltb 0 (length (runFrom q i)) ≡ true
+    → turnsFrom (suc n) q i a ≡ record { acceptor = false; messages = runFrom q i }
+    ∷ turnsFrom n (q + length (runFrom q i)) (drop (length (runFrom q i)) i) a
 unfolding turnsFrom
 step-initiator n q i a e = rw e
 
-step-acceptor : (n q : ℕ) (i a : List (List ℕ)) → ltb 0 (length (runFrom q i)) ≡ false → ltb 0 (length (runFrom q a)) ≡ true → turnsFrom (suc n) q i a ≡ record { acceptor = true; messages = runFrom q a } ∷ turnsFrom n (q + length (runFrom q a)) i (drop (length (runFrom q a)) a)
+step-acceptor : (n q : ℕ) (i a : List (List ℕ)) → ltb 0 (length (runFrom q i)) ≡ false → ltb 0 (length (runFrom q a)) ≡ true
+    → turnsFrom (suc n) q i a ≡ record { acceptor = true; messages = runFrom q a }
+    ∷ turnsFrom n (q + length (runFrom q a)) i (drop (length (runFrom q a)) a)
 unfolding turnsFrom
 step-acceptor n q i a f e = rw (f, e)
 
@@ -130,22 +139,30 @@ some-left zero q i a e h = absurd (omega arith)
 some-left (suc k) q i a e h = (k, refl)
 
 module _ (q : ℕ) (i a : List (List ℕ)) where
-  pub turns-initiator : 0 < length (runFrom q i) → turnsLeft q i a ≡ record { acceptor = false; messages = runFrom q i } ∷ turnsLeft (q + length (runFrom q i)) (drop (length (runFrom q i)) i) a
+  pub turns-initiator : 0 < length (runFrom q i) → turnsLeft q i a ≡ record { acceptor = false; messages = runFrom q i }
+      ∷ turnsLeft (q + length (runFrom q i)) (drop (length (runFrom q i)) i) a
   turns-initiator h =
       let z = some-left (length i + length a) q i a refl (omega (arith, run-short q i)) in
       let e : ltb 0 (length (runFrom q i)) ≡ true = lt-ltb 0 _ h in
       let k = z .1 in
       let l = length-drop (length (runFrom q i)) i in
-      ap (λ (n : ℕ). turnsFrom n q i a) (z .1) ∙ step-initiator (z .0) q i a e ∙ (ap (λ (ts : List Turn). record { acceptor = false; messages = runFrom q i } ∷ ts) (enough (z .0) (length (drop (length (runFrom q i)) i) + length a) (q + length (runFrom q i)) (drop (length (runFrom q i)) i) a (omega (arith, run-short q i)) (omega arith)))
+      ap (λ (n : ℕ). turnsFrom n q i a) (z .1) ∙ step-initiator (z .0) q i a e
+      ∙ (ap (λ (ts : List Turn). record { acceptor = false; messages = runFrom q i } ∷ ts)
+      (enough (z .0) (length (drop (length (runFrom q i)) i) + length a) (q + length (runFrom q i)) (drop (length (runFrom q i)) i) a
+      (omega (arith, run-short q i)) (omega arith)))
 
-  pub turns-acceptor : length (runFrom q i) ≤ 0 → 0 < length (runFrom q a) → turnsLeft q i a ≡ record { acceptor = true; messages = runFrom q a } ∷ turnsLeft (q + length (runFrom q a)) i (drop (length (runFrom q a)) a)
+  pub turns-acceptor : length (runFrom q i) ≤ 0 → 0 < length (runFrom q a)
+      → turnsLeft q i a ≡ record { acceptor = true; messages = runFrom q a } ∷ turnsLeft (q + length (runFrom q a)) i (drop (length (runFrom q a)) a)
   turns-acceptor none h =
       let z = some-left (length i + length a) q i a refl (omega (arith, run-short q a)) in
       let f : ltb 0 (length (runFrom q i)) ≡ false = le-ltb 0 _ none in
       let e : ltb 0 (length (runFrom q a)) ≡ true = lt-ltb 0 _ h in
       let k = z .1 in
       let l = length-drop (length (runFrom q a)) a in
-      ap (λ (n : ℕ). turnsFrom n q i a) (z .1) ∙ step-acceptor (z .0) q i a f e ∙ (ap (λ (ts : List Turn). record { acceptor = true; messages = runFrom q a } ∷ ts) (enough (z .0) (length i + length (drop (length (runFrom q a)) a)) (q + length (runFrom q a)) i (drop (length (runFrom q a)) a) (omega (arith, run-short q a)) (omega arith)))
+      ap (λ (n : ℕ). turnsFrom n q i a) (z .1) ∙ step-acceptor (z .0) q i a f e
+      ∙ (ap (λ (ts : List Turn). record { acceptor = true; messages = runFrom q a } ∷ ts)
+      (enough (z .0) (length i + length (drop (length (runFrom q a)) a)) (q + length (runFrom q a)) i (drop (length (runFrom q a)) a)
+      (omega (arith, run-short q a)) (omega arith)))
 
   pub turns-none : length (runFrom q i) ≤ 0 → length (runFrom q a) ≤ 0 → turnsLeft q i a ≡ []
   turns-none f g = go (length i + length a) where
@@ -156,16 +173,20 @@ module _ (q : ℕ) (i a : List (List ℕ)) where
 -- 4. what the next turn's answer says
 
 pub data Says (q : ℕ) (i a : List ℕ) (n : Next) : Type 0 where
-  initiators : 0 < length (runFrom q (messagesOf i)) → n .acceptors ≡ false → n .initiator ≡ length (join (runFrom q (messagesOf i))) → n .acceptor ≡ 0 → n .messages ≡ length (runFrom q (messagesOf i)) → Says q i a n
-  acceptors : length (runFrom q (messagesOf i)) ≤ 0 → n .acceptors ≡ true → n .initiator ≡ 0 → n .acceptor ≡ length (join (runFrom q (messagesOf a))) → n .messages ≡ length (runFrom q (messagesOf a)) → Says q i a n
+  initiators : 0 < length (runFrom q (messagesOf i)) → n .acceptors ≡ false → n .initiator ≡ length (join (runFrom q (messagesOf i)))
+      → n .acceptor ≡ 0 → n .messages ≡ length (runFrom q (messagesOf i)) → Says q i a n
+  acceptors : length (runFrom q (messagesOf i)) ≤ 0 → n .acceptors ≡ true → n .initiator ≡ 0 → n .acceptor ≡ length (join (runFrom q (messagesOf a)))
+      → n .messages ≡ length (runFrom q (messagesOf a)) → Says q i a n
 
 pub says : (q : ℕ) (i a : List ℕ) (n : Next) → n ≡ nextIn q i a → Says q i a n
 unfolding nextIn ranIn
 says q i a n n-is = elim (which (ltb 0 (length (runFrom q (messagesOf i))))) [
   | inl e ↦ let z : n ≡ nextBy false (ranIn q i) = rw e at n-is in
-      initiators (ltb-true _ _ e) (ap (λ (x : Next). x .acceptors) z) (ap (λ (x : Next). x .initiator) z) (ap (λ (x : Next). x .acceptor) z) (ap (λ (x : Next). x .messages) z)
+      initiators (ltb-true _ _ e) (ap (λ (x : Next). x .acceptors) z) (ap (λ (x : Next). x .initiator) z) (ap (λ (x : Next). x .acceptor) z)
+      (ap (λ (x : Next). x .messages) z)
   | inr e ↦ let z : n ≡ nextBy true (ranIn q a) = rw e at n-is in
-      acceptors (ltb-false _ _ e) (ap (λ (x : Next). x .acceptors) z) (ap (λ (x : Next). x .initiator) z) (ap (λ (x : Next). x .acceptor) z) (ap (λ (x : Next). x .messages) z)
+      acceptors (ltb-false _ _ e) (ap (λ (x : Next). x .acceptors) z) (ap (λ (x : Next). x .initiator) z) (ap (λ (x : Next). x .acceptor) z)
+      (ap (λ (x : Next). x .messages) z)
 ]
 
 -- 5. the loop: what is left of both files, and the number of the next message
@@ -199,7 +220,9 @@ module _ (i a i-left a-left : List ℕ) (number : ℕ) (on : RowOn i a i-left a-
     pub row-ends : n .messages ≡ 0 → (all : ℕ) → eqb number all ≡ eqb (together (turnsOf (messagesOf i) (messagesOf a))) all
     row-ends z all = ap (λ (k : ℕ). eqb k all) (go said) where
       none : turnsLeft number (messagesOf i-left) (messagesOf a-left) ≡ [] → number ≡ together (turnsOf (messagesOf i) (messagesOf a))
-      none e = unfold together in (let y : together (turnsLeft number (messagesOf i-left) (messagesOf a-left)) ≡ 0 = ap together e in omega (arith, on .come))
+      none e =
+          unfold together in
+          (let y : together (turnsLeft number (messagesOf i-left) (messagesOf a-left)) ≡ 0 = ap together e in omega (arith, on .come))
 
       go : Said → number ≡ together (turnsOf (messagesOf i) (messagesOf a))
       go (initiators s r o p m) = absurd (omega arith)
@@ -229,7 +252,8 @@ module _ (i a i-left a-left : List ℕ) (number : ℕ) (on : RowOn i a i-left a-
     a-length : length a-next ≡ length a-left - n .acceptor
     a-length = ap length (tail-all a-left (n .acceptor)) ∙ length-drop (n .acceptor) a-left
 
-    counted : (x : Bool) (ms : List (List ℕ)) (ts : List Turn) → number + together (record { acceptor = x; messages = ms } ∷ ts) ≡ number + length ms + together ts
+    counted : (x : Bool) (ms : List (List ℕ)) (ts : List Turn)
+        → number + together (record { acceptor = x; messages = ms } ∷ ts) ≡ number + length ms + together ts
     unfolding together
     counted x ms ts = omega arith
 
@@ -266,13 +290,16 @@ module _ (i a i-left a-left : List ℕ) (number : ℕ) (on : RowOn i a i-left a-
         off-a : n .acceptor ≡ length (join ra) → messagesOf a-next ≡ drop (length ra) (messagesOf a-left)
         off-a z = ap messagesOf (tail-all a-left (n .acceptor)) ∙ ap (λ (k : ℕ). messagesOf (drop k a-left)) z ∙ run-left number a-left
 
-        there : (k : ℕ) (x y : List (List ℕ)) → n .messages ≡ k → messagesOf i-next ≡ x → messagesOf a-next ≡ y → number + k + together (turnsLeft (number + k) x y) ≡ number + n .messages + together (turnsLeft (number + n .messages) (messagesOf i-next) (messagesOf a-next))
+        there : (k : ℕ) (x y : List (List ℕ)) → n .messages ≡ k → messagesOf i-next ≡ x → messagesOf a-next ≡ y
+            → number + k + together (turnsLeft (number + k) x y)
+            ≡ number + n .messages + together (turnsLeft (number + n .messages) (messagesOf i-next) (messagesOf a-next))
         there k x y e f g =
             ap (λ (j : ℕ). number + j + together (turnsLeft (number + j) x y)) (sym e)
             ∙ ap (λ (l : List (List ℕ)). number + n .messages + together (turnsLeft (number + n .messages) l y)) (sym f)
             ∙ ap (λ (l : List (List ℕ)). number + n .messages + together (turnsLeft (number + n .messages) (messagesOf i-next) l)) (sym g)
 
-        go : Said → number + together (turnsLeft number (messagesOf i-left) (messagesOf a-left)) ≡ number + n .messages + together (turnsLeft (number + n .messages) (messagesOf i-next) (messagesOf a-next))
+        go : Said → number + together (turnsLeft number (messagesOf i-left) (messagesOf a-left))
+            ≡ number + n .messages + together (turnsLeft (number + n .messages) (messagesOf i-next) (messagesOf a-next))
         go (initiators s r o p m) =
             ap (λ (ts : List Turn). number + together ts) (turns-initiator number (messagesOf i-left) (messagesOf a-left) s)
             ∙ counted false ri (turnsLeft (number + length ri) (drop (length ri) (messagesOf i-left)) (messagesOf a-left))

@@ -32,7 +32,9 @@ unfolding cutFrom messagesIn
 same-cut [] k p q = refl
 same-cut (x ∷ xs) (suc k) p q = same-cut xs k p q
 same-cut (x ∷ xs) zero p q = go (which (fits (x ∷ xs))) (same-cut xs (size (x ∷ xs) - 1)) where
-  go : (fits (x ∷ xs) ≡ true) ⊎ (fits (x ∷ xs) ≡ false) → ((a b : ℕ) → messagesIn (cutFrom xs (size (x ∷ xs) - 1) a) ≡ messagesIn (cutFrom xs (size (x ∷ xs) - 1) b)) → messagesIn (cutFrom (x ∷ xs) 0 p) ≡ messagesIn (cutFrom (x ∷ xs) 0 q)
+  go : (fits (x ∷ xs) ≡ true) ⊎ (fits (x ∷ xs) ≡ false)
+      → ((a b : ℕ) → messagesIn (cutFrom xs (size (x ∷ xs) - 1) a) ≡ messagesIn (cutFrom xs (size (x ∷ xs) - 1) b))
+      → messagesIn (cutFrom (x ∷ xs) 0 p) ≡ messagesIn (cutFrom (x ∷ xs) 0 q)
   go (inl e) ih = rw e (ap (λ (l : List (List ℕ)). front (x ∷ xs) ∷ l) (ih (p + size (x ∷ xs)) (q + size (x ∷ xs))))
   go (inr e) ih = rw e
 
@@ -49,7 +51,8 @@ front-head s e = sym (piece-head (front s) (drop (size s) s) (piece-front s e)) 
 
 -- 2. a run, message by message
 
-run-on : (q : ℕ) (s : List ℕ) → fits s ≡ true → headOf s .sequence ≡ q → runFrom q (messagesOf s) ≡ front s ∷ runFrom (q + 1) (messagesOf (drop (size s) s))
+run-on : (q : ℕ) (s : List ℕ) → fits s ≡ true → headOf s .sequence ≡ q
+    → runFrom q (messagesOf s) ≡ front s ∷ runFrom (q + 1) (messagesOf (drop (size s) s))
 unfolding runFrom
 run-on q s e n =
     let z : eqb (headOf (front s) .sequence) q ≡ true = eq-eqb _ _ (ap (λ (h : Head). h .sequence) (front-head s e) ∙ n) in
@@ -72,13 +75,17 @@ abbrev ranBy : List (List ℕ) → Run
 ranBy ms = record { octets = length (join ms); messages = length ms }
 
 ran-nothing : (o m : ℕ) → record { octets = o; messages = m } ≡ plus o m (ranBy [])
-ran-nothing o m = let a : o ≡ o + 0 = omega arith in let b : m ≡ m + 0 = omega arith in ap (λ (k : ℕ). record { octets = k; messages = m }) a ∙ ap (λ (k : ℕ). record { octets = o + 0; messages = k }) b
+ran-nothing o m =
+    let a : o ≡ o + 0 =
+    omega arith in let b : m ≡ m + 0 =
+    omega arith in ap (λ (k : ℕ). record { octets = k; messages = m }) a ∙ ap (λ (k : ℕ). record { octets = o + 0; messages = k }) b
 
 ran-more : (o m n : ℕ) (x : List ℕ) (ms : List (List ℕ)) → length x ≡ n → plus o m (ranBy (x ∷ ms)) ≡ plus (o + n) (m + 1) (ranBy ms)
 ran-more o m n x ms e =
     let a : o + length (x ++ join ms) ≡ o + n + length (join ms) = omega (arith, length-append x (join ms)) in
     let b : m + suc (length ms) ≡ m + 1 + length ms = omega arith in
-    ap (λ (k : ℕ). record { octets = k; messages = m + suc (length ms) }) a ∙ ap (λ (k : ℕ). record { octets = o + n + length (join ms); messages = k }) b
+    ap (λ (k : ℕ). record { octets = k; messages = m + suc (length ms) }) a
+    ∙ ap (λ (k : ℕ). record { octets = o + n + length (join ms); messages = k }) b
 
 -- 3. the loop
 
@@ -100,7 +107,10 @@ run-begins rest first h = record {
       ap (λ (k : ℕ). ranIn k rest) a ∙ zero-plus (length (join r)) (length r);
 } where
   zero-plus : (o m : ℕ) → _≡_ {A = Run} (record { octets = o; messages = m }) (record { octets = 0 + o; messages = 0 + m })
-  zero-plus o m = let a : o ≡ 0 + o = omega arith in let b : m ≡ 0 + m = omega arith in ap (λ (k : ℕ). record { octets = k; messages = m }) a ∙ ap (λ (k : ℕ). record { octets = 0 + o; messages = k }) b
+  zero-plus o m =
+      let a : o ≡ 0 + o =
+      omega arith in let b : m ≡ 0 + m =
+      omega arith in ap (λ (k : ℕ). record { octets = k; messages = m }) a ∙ ap (λ (k : ℕ). record { octets = 0 + o; messages = k }) b
 
 module _ (rest : List ℕ) (first : ℕ) (left : List ℕ) (octets messages : ℕ) (on : RunOn rest first left octets messages) where
   pub run-sum : first < 4294967296 → first + messages < 18446744073709551616
@@ -122,7 +132,8 @@ module _ (rest : List ℕ) (first : ℕ) (left : List ℕ) (octets messages : �
 
     module _ (h : Header) (m-reads : m ≡ answer.Message h) where
       pub run-differs : (h .sequence ≡ first + messages → ⊥) → record { octets = octets; messages = messages } ≡ ranIn first rest
-      run-differs n = run-empty (run-other (first + messages) left (header-fits left m m-is h m-reads) (λ e. n (sym (header-number left m m-is h m-reads) ∙ e)))
+      run-differs n =
+          run-empty (run-other (first + messages) left (header-fits left m m-is h m-reads) (λ e. n (sym (header-number left m m-is h m-reads) ∙ e)))
 
       pub run-octets : octets + h .length < 18446744073709551616
       run-octets = omega (arith, on .short, on .at, header-long left m m-is h m-reads)
@@ -130,14 +141,16 @@ module _ (rest : List ℕ) (first : ℕ) (left : List ℕ) (octets messages : �
       pub run-messages : messages + 1 < 4294967296
       run-messages = omega (arith, on .short, on .few, on .at)
 
-      pub run-again : h .sequence ≡ first + messages → RunOn rest first (take (length left - h .length) (drop (h .length) left)) (octets + h .length) (messages + 1)
+      pub run-again : h .sequence ≡ first + messages
+          → RunOn rest first (take (length left - h .length) (drop (h .length) left)) (octets + h .length) (messages + 1)
       unfolding ranIn
       run-again n =
           let long = header-long left m m-is h m-reads in
           let size-is = header-size left m m-is h m-reads in
           let okay = header-fits left m m-is h m-reads in
           let next : first + messages + 1 ≡ first + (messages + 1) = omega arith in
-          let there : drop (size left) left ≡ take (length left - h .length) (drop (h .length) left) = ap (λ (k : ℕ). drop k left) size-is ∙ sym (tail-all left (h .length)) in
+          let there : drop (size left) left ≡ take (length left - h .length) (drop (h .length) left) =
+          ap (λ (k : ℕ). drop k left) size-is ∙ sym (tail-all left (h .length)) in
           let fronted : length (front left) ≡ h .length = length-take-le (size left) left (omega (arith, size-is)) ∙ size-is in
           record {
             short = on .short;
@@ -145,10 +158,12 @@ module _ (rest : List ℕ) (first : ℕ) (left : List ℕ) (octets messages : �
             at = omega (arith, on .at, header-left left m m-is h m-reads);
             come =
                 on .come
-                ∙ ap (λ (l : List (List ℕ)). plus octets messages (ranBy l)) (run-on (first + messages) left okay (header-number left m m-is h m-reads ∙ n))
+                ∙ ap (λ (l : List (List ℕ)). plus octets messages (ranBy l))
+                (run-on (first + messages) left okay (header-number left m m-is h m-reads ∙ n))
                 ∙ ran-more octets messages (h .length) (front left) (runFrom (first + messages + 1) (messagesOf (drop (size left) left))) fronted
                 ∙ ap (λ (l : List ℕ). plus (octets + h .length) (messages + 1) (ranBy (runFrom (first + messages + 1) (messagesOf l)))) there
-                ∙ ap (λ (k : ℕ). plus (octets + h .length) (messages + 1) (ranBy (runFrom k (messagesOf (take (length left - h .length) (drop (h .length) left)))))) next;
+                ∙ ap (λ (k : ℕ). plus (octets + h .length) (messages + 1)
+                (ranBy (runFrom k (messagesOf (take (length left - h .length) (drop (h .length) left)))))) next;
           }
 
 pub ruleset runs = (run-begins, run-sum, run-ends, run-stops, run-differs, run-octets, run-messages, run-again)
@@ -162,7 +177,8 @@ module _ (q : ℕ) (i a : List ℕ) (r : Run) (r-is : r ≡ ranIn q i) where
       let z : ltb 0 (ranIn q i .messages) ≡ true = lt-ltb 0 (ranIn q i .messages) (subst (λ (x : Run). 0 < x .messages) r-is h) in
       rw z (ap (nextBy false) r-is)
 
-  pub next-acceptor : r .messages ≤ 0 → (s : Run) → s ≡ ranIn q a → record { acceptors = true; initiator = 0; acceptor = s .octets; messages = s .messages } ≡ nextIn q i a
+  pub next-acceptor : r .messages ≤ 0 → (s : Run) → s ≡ ranIn q a
+      → record { acceptors = true; initiator = 0; acceptor = s .octets; messages = s .messages } ≡ nextIn q i a
   unfolding nextIn
   next-acceptor h s s-is =
       let z : ltb 0 (ranIn q i .messages) ≡ false = le-ltb 0 (ranIn q i .messages) (subst (λ (x : Run). x .messages ≤ 0) r-is h) in

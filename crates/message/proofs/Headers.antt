@@ -58,27 +58,76 @@ module _ (s : List ℕ) where
       unfolding headerVerdict commonRows headOf
       header-4 h = simp (le-leb _ _ sized, ← sig-is, signature-is, eq-eqb _ _ signed, ← kind-is, lt-leb _ _ h)
 
-      module _ (known : kind ≤ 7) (header fixed : ℕ) (header-is : header ≡ le 4 s 16) (k : Kind) (k-is : k .0 ≡ kind) (fixed-is : fixed ≡ headerOf (shapeOf (k .0))) where
+      module _ (known : kind ≤ 7) (header fixed : ℕ) (header-is : header ≡ le 4 s 16) (k : Kind) (k-is : k .0 ≡ kind)
+          (fixed-is : fixed ≡ headerOf (shapeOf (k .0))) where
         fixed-here : fixed ≡ headerOf (shapeOf kind)
         fixed-here = fixed-is ∙ ap (λ (x : ℕ). headerOf (shapeOf x)) k-is
 
         pub header-5 : (header ≡ fixed → ⊥) → refused 5 ≡ headerVerdict s
         unfolding headerVerdict commonRows headOf
-        header-5 h = simp (le-leb _ _ sized, ← sig-is, signature-is, eq-eqb _ _ signed, ← kind-is, le-leb _ _ known, ← header-is, ← fixed-here, ne-eqb _ _ h)
+        header-5 h =
+            simp (le-leb _ _ sized, ← sig-is, signature-is, eq-eqb _ _ signed, ← kind-is, le-leb _ _ known, ← header-is, ← fixed-here, ne-eqb _ _ h)
 
         module _ (right : header ≡ fixed) (len : ℕ) (len-is : len ≡ le 4 s 20) where
           pub header-6 : len < header → refused 6 ≡ headerVerdict s
           unfolding headerVerdict commonRows headOf
-          header-6 h = simp (le-leb _ _ sized, ← sig-is, signature-is, eq-eqb _ _ signed, ← kind-is, le-leb _ _ known, ← header-is, ← fixed-here, eq-eqb _ _ right, ← len-is, lt-leb _ _ h)
+          header-6 h =
+              simp (
+                le-leb _ _ sized,
+                ← sig-is,
+                signature-is,
+                eq-eqb _ _ signed,
+                ← kind-is,
+                le-leb _ _ known,
+                ← header-is,
+                ← fixed-here,
+                eq-eqb _ _
+                    right,
+                ← len-is,
+                lt-leb _ _ h,
+              )
 
           module _ (whole : header ≤ len) where
             pub header-6-past : length s < len → refused 6 ≡ headerVerdict s
             unfolding headerVerdict commonRows headOf
-            header-6-past h = simp (le-leb _ _ sized, ← sig-is, signature-is, eq-eqb _ _ signed, ← kind-is, le-leb _ _ known, ← header-is, ← fixed-here, eq-eqb _ _ right, ← len-is, le-leb _ _ whole, lt-leb _ _ h)
+            header-6-past h =
+                simp (
+                  le-leb _ _ sized,
+                  ← sig-is,
+                  signature-is,
+                  eq-eqb _ _ signed,
+                  ← kind-is,
+                  le-leb _ _ known,
+                  ← header-is,
+                  ← fixed-here,
+                  eq-eqb _ _
+                      right,
+                  ← len-is,
+                  le-leb _ _ whole,
+                  lt-leb _ _ h,
+                )
 
-            pub header-read : len ≤ length s → (sequence : ℕ) → sequence ≡ le 4 s 12 → read (record { kind = k; sequence = sequence; header = header; length = len }) ≡ headerVerdict s
+            pub header-read : len ≤ length s → (sequence : ℕ) → sequence ≡ le 4 s 12
+                → read (record { kind = k; sequence = sequence; header = header; length = len }) ≡ headerVerdict s
             unfolding headerVerdict commonRows headOf
-            header-read h sequence sequence-is = simp (le-leb _ _ sized, ← sig-is, signature-is, eq-eqb _ _ signed, ← kind-is, le-leb _ _ known, ← header-is, ← fixed-is, eq-eqb _ _ right, ← len-is, le-leb _ _ whole, le-leb _ _ h, ← sequence-is, ← k-is)
+            header-read h sequence sequence-is =
+                simp (
+                  le-leb _ _ sized,
+                  ← sig-is,
+                  signature-is,
+                  eq-eqb _ _ signed,
+                  ← kind-is,
+                  le-leb _ _ known,
+                  ← header-is,
+                  ← fixed-is,
+                  eq-eqb _ _
+                      right,
+                  ← len-is,
+                  le-leb _ _ whole,
+                  le-leb _ _ h,
+                  ← sequence-is,
+                  ← k-is,
+                )
 
 pub ruleset headers = (header-2, header-3, header-4, header-5, header-6, header-6-past, header-read)
 
@@ -87,4 +136,5 @@ unfolding headerVerdict
 header-passed s h e =
     let p = verdict-read (commonRows (length s) (headOf s)) (fieldsOf (headOf s)) h e in
     let z = common-sized (length s) (headOf s) (p .0) in
-    subst (Passed s) (p .1) (record { is = refl; forty = z .forty; header = let a = z .header in let b = z .holds in omega arith; within = z .within })
+    subst (Passed s) (p .1)
+    (record { is = refl; forty = z .forty; header = let a = z .header in let b = z .holds in omega arith; within = z .within })

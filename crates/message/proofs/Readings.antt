@@ -25,7 +25,9 @@ Numbered (r ∷ rs) = (r .number ≡ 0 → ⊥) × Numbered rs
 pub decided : (rs : List Row) (v : Verdict) → Numbered rs → verdict rs v ≡ cond (eqb (firstFailing rs) 0) v (refused (firstFailing rs))
 decided [] v e = refl
 decided (r ∷ rs) v e = go (r .test) (decided rs v (e .1)) where
-  go : (b : Bool) → verdict rs v ≡ cond (eqb (firstFailing rs) 0) v (refused (firstFailing rs)) → cond b (verdict rs v) (refused (r .number)) ≡ cond (eqb (cond b (firstFailing rs) (r .number)) 0) v (refused (cond b (firstFailing rs) (r .number)))
+  go : (b : Bool) → verdict rs v ≡ cond (eqb (firstFailing rs) 0) v (refused (firstFailing rs))
+      → cond b (verdict rs v) (refused (r .number)) ≡ cond (eqb (cond b (firstFailing rs) (r .number)) 0) v
+      (refused (cond b (firstFailing rs) (r .number)))
   go true ih = ih
   go false ih = rw (ne-eqb _ _ (e .0))
 
@@ -47,7 +49,9 @@ module _ (s : List ℕ) (h : Header) (p : Passed s h) where
 
     body-is : bodyVerdict s h ≡ cond (eqb n 0) (read h) (refused n)
     unfolding bodyVerdict frontRows
-    body-is = rw number-is (decided (bodyRows (shapeOf (headOf s .kind)) (size s) (front s)) (read h) (body-numbered (shapeOf (headOf s .kind)) (size s) (front s)))
+    body-is =
+        rw number-is
+        (decided (bodyRows (shapeOf (headOf s .kind)) (size s) (front s)) (read h) (body-numbered (shapeOf (headOf s .kind)) (size s) (front s)))
 
     pub body-refused : (n ≡ 0 → ⊥) → refused n ≡ bodyVerdict s h
     body-refused e = sym (body-is ∙ rw (ne-eqb _ _ e))
@@ -56,7 +60,8 @@ module _ (s : List ℕ) (h : Header) (p : Passed s h) where
     body-read e = sym (body-is ∙ rw (eq-eqb _ _ e))
 
 -- A reading that goes on behind the header: where the header is refused, so is the whole; where it passes as h, the rest decides.
-module _ (s : List ℕ) (rest : Header → Verdict) (all : Verdict) (all-is : all ≡ verdict (commonRows (length s) (headOf s)) (rest (fieldsOf (headOf s))))
+module _ (s : List ℕ) (rest : Header → Verdict) (all : Verdict)
+    (all-is : all ≡ verdict (commonRows (length s) (headOf s)) (rest (fieldsOf (headOf s))))
     (r : Read) (r-is : said r ≡ headerVerdict s) where
   pub header-refused : (n : ℕ) → r ≡ answer.Refused n → said r ≡ all
   unfolding headerVerdict

@@ -62,4 +62,5 @@ module _ (kind n : ℕ) (h : headerOf (shapeOf kind) ≤ n) where
   pub room-alert : 1 < kind → 5 < kind → (kind ≡ 6 → ⊥) → 72 ≤ n
   room-alert p q e = rw (shape-alert kind p q e) at h
 
-pub ruleset shapes = (shape-nego, shape-exchange, shape-verify, shape-alert, header-shape, refusal-shape, room-nego, room-exchange, room-verify, room-alert)
+pub ruleset shapes =
+    (shape-nego, shape-exchange, shape-verify, shape-alert, header-shape, refusal-shape, room-nego, room-exchange, room-verify, room-alert)

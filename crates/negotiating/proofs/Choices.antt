@@ -75,7 +75,8 @@ module _ (r : Record) (m : ℕ) (fit : Bool) (kind n : ℕ) (n-is : n ≡ firstF
             pub choice-none : l .left ≡ 0 → 17 ≡ callRefusal r (choiceRows r m fit kind)
             choice-none e = behind 17 (rw (may, ← b-is, t, keeps, ← open-none (r .list) (r .count) l (openTo r m) l-is e))
 
-            module _ (some : l .left ≡ 0 → ⊥) (v : Bool) (v-is : v ≡ (r .attested && eqb (l .place) (r .requested))) (p : ℕ) (p-is : p ≡ after 2 0 v kind) where
+            module _ (some : l .left ≡ 0 → ⊥) (v : Bool) (v-is : v ≡ (r .attested && eqb (l .place) (r .requested))) (p : ℕ)
+                (p-is : p ≡ after 2 0 v kind) where
               place : placeAfter (chose r m) kind ≡ p
               unfolding writing
               place =
@@ -93,14 +94,35 @@ pub ruleset choice-refusals = (limits-stop, choice-role, choice-stage, choice-ki
 
 -- ---- the record after the choice, and the answer
 module _ (r : Record) (m : ℕ) (y : ChoiceReady r m) (l : Left) (l-is : l ≡ leftOf (openPlaces (r .kept) (r .common) m)) where
-  found : (l .place < r .count) × ((octets 16 (r .list) (16 * l .place) ≡ firstOr (named (ownOf r) (openTo r m))) × (l .place ≡ firstPlace (openTo r m)))
+  found : (l .place < r .count)
+      × ((octets 16 (r .list) (16 * l .place) ≡ firstOr (named (ownOf r) (openTo r m))) × (l .place ≡ firstPlace (openTo r m)))
   found = open-first (r .list) (r .count) l (openTo r m) l-is (kept-inside (r .count) (r .kept) (r .common) m (y .kept)) (y .some)
 
   pub choice-place : l .place < 16
   choice-place = omega (arith, found .0, y .inside .few)
 
   pub choice-made : (v : Bool) → v ≡ (r .attested && eqb (l .place) (r .requested)) → (h : Bool) → h ≡ (r .confirmed && eqb (l .place) (r .requested))
-      → record { acceptor = r .acceptor; stage = 3; position = 0; list = r .list; count = r .count; conversation = r .conversation; marks = m; common = r .common; kept = r .kept; metadata = r .metadata; requested = r .requested; chosen = l .place; attested = v; confirmed = h; sequence = r .sequence; used = r .used } ≡ chose r m
+      → record {
+        acceptor = r .acceptor;
+        stage = 3;
+        position = 0;
+        list = r .list;
+        count = r .count;
+        conversation = r .conversation;
+        marks = m;
+        common =
+            r .common;
+        kept =
+            r .kept;
+        metadata =
+            r .metadata;
+        requested = r .requested;
+        chosen = l .place;
+        attested = v;
+        confirmed = h;
+        sequence = r .sequence;
+        used = r .used;
+      } ≡ chose r m
   choice-made v v-is h h-is = rw (v-is, h-is) (rw (found .1 .1))
 
   pub choice-named : (a : Answer) → a .refusal ≡ 0 → (id : List ℕ) → id ≡ octets 16 (r .list) (16 * l .place) → (b : Answer)
@@ -113,7 +135,8 @@ choice-kept r m a h b b-is = b-is ∙ rw (ne-eqb (a .refusal) 0 h)
 pub ruleset choices = (choice-place, choice-made, choice-named, choice-kept)
 
 -- ---- the call, by its refusal: the message is that of the writer in the record after the choice
-decide-last : (xs : List Row) (x : Row) (r : Record) (d : List ℕ) (action : Outcome) → AllTrue xs → decide (xs ++ (x ∷ [])) r d action ≡ cond (x .test) action (refused r d (x .number) 0)
+decide-last : (xs : List Row) (x : Row) (r : Record) (d : List ℕ) (action : Outcome) → AllTrue xs
+    → decide (xs ++ (x ∷ [])) r d action ≡ cond (x .test) action (refused r d (x .number) 0)
 decide-last [] x r d action h = refl
 decide-last (y ∷ xs) x r d action h = rw (h .0) (decide-last xs x r d action (h .1))
 
@@ -122,7 +145,8 @@ module _ (r : Record) (m : ℕ) (fit : Bool) (kind n : ℕ) (n-is : n ≡ callRe
   given = call-given r (choiceRows r m fit kind) n n-is refl z
 
   role : r .acceptor ≡ false
-  role = let (may, rest) = back-true (limitRows r) (choiceRows r m fit kind) given in not-true (r .acceptor) (and-l (not (r .acceptor)) (eqb (r .stage) 2) may)
+  role = let (may, rest) =
+      back-true (limitRows r) (choiceRows r m fit kind) given in not-true (r .acceptor) (and-l (not (r .acceptor)) (eqb (r .stage) 2) may)
 
   kept : keptBelow (r .count) (r .kept) (r .common) ≡ true
   kept = go (r .acceptor) role (given .1 .1 .1 .1 .1 .1 .0) where
@@ -139,7 +163,8 @@ module _ (r : Record) (m : ℕ) (fit : Bool) (kind n : ℕ) (n-is : n ≡ callRe
   passed : AllTrue (stageRows (chose r m) kind ++ namedRows (chose r m) fit)
   passed =
       let (may, (marks, (keeps, (some, (speaks, end))))) = back-true (limitRows r) (choiceRows r m fit kind) given in
-      let (l1, (l2, (l3, (l4, (l5, (l6, (l7, (l8, (l9, (l10, (l11, tail))))))))))) = limits-chose r (front-true (limitRows r) (choiceRows r m fit kind) given) m role marks in
+      let (l1, (l2, (l3, (l4, (l5, (l6, (l7, (l8, (l9, (l10, (l11, tail))))))))))) =
+      limits-chose r (front-true (limitRows r) (choiceRows r m fit kind) given) m role marks in
       (l1, (l2, (l3, (l4, (l5, (l6, (l7, (l8, (l9, (l10, (l11, (speaks, (keeps, (chosen-allowed r m kept some, tt))))))))))))))
 
 module _ (r : Record) (d : List ℕ) (m : ℕ) (s : Speech) (n : ℕ) (n-is : n ≡ callRefusal r (choiceRows r m (speechFits s) (classIn s))) where
@@ -161,22 +186,28 @@ module _ (r : Record) (d : List ℕ) (m : ℕ) (s : Speech) (n : ℕ) (n-is : n 
   module _ (z : n ≡ 0) where
     said : speaking (chose r m) d s ≡ cond (leb (r .used + length (spoken (chose r m) s)) (room d)) message (refused (chose r m) d 16 0)
     unfolding speaking
-    said = decide-last (stageRows (chose r m) (classIn s) ++ namedRows (chose r m) (speechFits s)) last (chose r m) d message (passed r m (speechFits s) (classIn s) n n-is z)
+    said = decide-last (stageRows (chose r m) (classIn s) ++ namedRows (chose r m) (speechFits s)) last (chose r m) d message
+        (passed r m (speechFits s) (classIn s) n n-is z)
 
-    chosen : choosing r d m s ≡ cond (leb (r .used + length (spoken (chose r m) s)) (room d)) (naming (named (ownOf r) (openTo r m)) message) (refused r d 16 0)
+    chosen : choosing r d m s ≡ cond (leb (r .used + length (spoken (chose r m) s)) (room d)) (naming (named (ownOf r) (openTo r m)) message)
+        (refused r d 16 0)
     unfolding choosing
     chosen = decide-last rows last r d (naming (named (ownOf r) (openTo r m)) message) (given r m (speechFits s) (classIn s) n n-is z)
 
-    pub choose-made : (q : Record) → q ≡ chose r m → (v : Speech) → v ≡ s → (o : Answer) (d' : List ℕ) → _≡_ {A = Outcome} (record { answer = o; transcript = d' }) (speaking q d v) → (a : Answer) → a ≡ namedChoice r m o
+    pub choose-made : (q : Record) → q ≡ chose r m → (v : Speech) → v ≡ s → (o : Answer) (d' : List ℕ)
+        → _≡_ {A = Outcome} (record { answer = o; transcript = d' }) (speaking q d v) → (a : Answer) → a ≡ namedChoice r m o
         → _≡_ {A = Outcome} (record { answer = a; transcript = d' }) (choosing r d m s)
     choose-made q q-is v v-is o d' o-is a a-is =
-        let w : _≡_ {A = Outcome} (record { answer = o; transcript = d' }) (speaking (chose r m) d s) = o-is ∙ ap (speaking q d) v-is ∙ ap (λ (x : Record). speaking x d s) q-is in
-        let e : _≡_ {A = Outcome} (record { answer = a; transcript = d' }) (record { answer = namedChoice r m o; transcript = d' }) = ap (λ (x : Answer). record { answer = x; transcript = d' }) a-is in
+        let w : _≡_ {A = Outcome} (record { answer = o; transcript = d' }) (speaking (chose r m) d s) =
+        o-is ∙ ap (speaking q d) v-is ∙ ap (λ (x : Record). speaking x d s) q-is in
+        let e : _≡_ {A = Outcome} (record { answer = a; transcript = d' }) (record { answer = namedChoice r m o; transcript = d' }) =
+        ap (λ (x : Answer). record { answer = x; transcript = d' }) a-is in
         e ∙ ap then (w ∙ said) ∙ (by-room (leb (r .used + length (spoken (chose r m) s)) (room d)) ∙ sym chosen) where
           then : Outcome → Outcome
           then x = record { answer = namedChoice r m (x .answer); transcript = x .transcript }
 
-          by-room : (b : Bool) → then (cond b message (refused (chose r m) d 16 0)) ≡ cond b (naming (named (ownOf r) (openTo r m)) message) (refused r d 16 0)
+          by-room : (b : Bool)
+              → then (cond b message (refused (chose r m) d 16 0)) ≡ cond b (naming (named (ownOf r) (openTo r m)) message) (refused r d 16 0)
           by-room true = refl
           by-room false = refl
 

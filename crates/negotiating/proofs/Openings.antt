@@ -26,10 +26,31 @@ use Rattle.conversation.specs.Writing.{opening}
 -- a list put into zeros has zeros after it
 pub put-zeros : (n : ℕ) (own : List ℕ) → length own ≤ n → put (replicate n 0) 0 own ≡ padTo n own
 unfolding put
-put-zeros n own h = ap (λ (v : List ℕ). v ++ drop (0 + length own) (replicate n 0)) (sym (take-length own)) ∙ simp sub-zero at (paste-pad n [] own 0 (length own) refl refl (omega arith))
+put-zeros n own h =
+    ap (λ (v : List ℕ). v ++ drop (0 + length own) (replicate n 0)) (sym (take-length own))
+    ∙ simp sub-zero at (paste-pad n [] own 0 (length own) refl refl (omega arith))
 
 pub freshly : (acceptor : Bool) (own conversation list : List ℕ) (k : ℕ) → length own ≤ 256 → Written (replicate 256 0) 0 (length own) own list k
-    → _≡_ {A = Record} (record { acceptor = acceptor; stage = 0; position = 0; list = list; count = length own / 16; conversation = conversation; marks = 0; common = 0; kept = replicate 16 0; metadata = 0; requested = 255; chosen = 255; attested = false; confirmed = false; sequence = 0; used = 0 }) (fresh acceptor own conversation)
+    → _≡_ {A = Record}
+    (record {
+      acceptor = acceptor;
+      stage = 0;
+      position = 0;
+      list = list;
+      count = length own / 16;
+      conversation = conversation;
+      marks = 0;
+      common = 0;
+      kept = replicate 16 0;
+      metadata = 0;
+      requested = 255;
+      chosen = 255;
+      attested = false;
+      confirmed = false;
+      sequence = 0;
+      used = 0;
+    })
+    (fresh acceptor own conversation)
 freshly acceptor own conversation list k h w = let e : list ≡ padTo 256 own = w .holds ∙ put-zeros 256 own h in rw e
 
 -- an own list fits the record's array
@@ -38,7 +59,8 @@ unfolding listOk
 own-fits own h =
     let n : ℕ = length (idsOf own) in
     let e : eqb (length own % 16) 0 ≡ true = and-l (eqb (length own % 16) 0) (oneTo16 (idsOf own)) h in
-    let f : leb 1 n && leb n 16 ≡ true = and-l (leb 1 n && leb n 16) (distinct (idsOf own)) (and-r (eqb (length own % 16) 0) (oneTo16 (idsOf own)) h) in
+    let f : leb 1 n && leb n 16 ≡ true =
+    and-l (leb 1 n && leb n 16) (distinct (idsOf own)) (and-r (eqb (length own % 16) 0) (oneTo16 (idsOf own)) h) in
     let g : leb n 16 ≡ true = and-r (leb 1 n) (leb n 16) f in
     omega (arith, eqb-true (length own % 16) 0 e, leb-true n 16 g, length-ids (length own / 16) own)
 

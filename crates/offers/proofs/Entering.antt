@@ -48,7 +48,9 @@ pub entered-few : (t : Table) (s : Id) (r : Table) → t .count ≤ 64 → r ≡
 unfolding enteredIn
 entered-few t s r h e = rw e (go (mem s (namesIn t) || leb 64 (t .count)) refl) where
   go : (b : Bool) → (mem s (namesIn t) || leb 64 (t .count)) ≡ b
-      → pickTable b t (record { ids = put (t .ids) (16 * t .count) s; counts = set (t .counts) (t .count) 0; count = t .count + 1; others = t .others }) .count ≤ 64
+      → pickTable b t
+      (record { ids = put (t .ids) (16 * t .count) s; counts = set (t .counts) (t .count) 0; count = t .count + 1; others = t .others }) .count
+      ≤ 64
   go true f = h
   go false f = let l = leb-false 64 (t .count) (or-no (mem s (namesIn t)) _ f) in omega arith
 
@@ -132,7 +134,9 @@ counting-entered : (t : Table) (s : Id) → Counting t → Counting (enteredIn t
 unfolding enteredIn
 counting-entered t s c = go (mem s (namesIn t) || leb 64 (t .count)) refl where
   go : (b : Bool) → (mem s (namesIn t) || leb 64 (t .count)) ≡ b
-      → Counting (pickTable b t (record { ids = put (t .ids) (16 * t .count) s; counts = set (t .counts) (t .count) 0; count = t .count + 1; others = t .others }))
+      → Counting
+      (pickTable b t
+      (record { ids = put (t .ids) (16 * t .count) s; counts = set (t .counts) (t .count) 0; count = t .count + 1; others = t .others }))
   go true f = c
   go false f =
       let l = leb-false 64 (t .count) (or-no (mem s (namesIn t)) _ f) in
@@ -159,7 +163,8 @@ module _ (t e : Table) (ss : List Id) (k : Counting t) (e-is : e ≡ enteredAllI
   pub offer-sum : (x : ℕ) (b : Bool) → x ≡ one b → e .others + x < 2 ^ 64
   offer-sum x b x-is = omega (arith, here .rest, one-le b x x-is)
 
-  pub offer-is : (counts : List ℕ) → counts ≡ tickedFrom (e .ids) ss (e .count) 0 (e .counts) → (x : ℕ) → x ≡ one (not (allIn ss (idsAt (e .count) (e .ids))))
+  pub offer-is : (counts : List ℕ) → counts ≡ tickedFrom (e .ids) ss (e .count) 0 (e .counts) → (x : ℕ)
+      → x ≡ one (not (allIn ss (idsAt (e .count) (e .ids))))
       → _≡_ {A = Table} (record { ids = e .ids; counts = counts; count = e .count; others = e .others + x }) (offeredIn t ss)
   unfolding offeredIn
   offer-is counts counts-is x x-is = rw (counts-is, x-is, e-is)

@@ -42,11 +42,17 @@ entered-most : (t : Table) (s : Id) → Most t (enteredIn t s)
 unfolding enteredIn
 entered-most t s = go (mem s (namesIn t) || leb 64 (t .count)) refl where
   go : (b : Bool) → (mem s (namesIn t) || leb 64 (t .count)) ≡ b
-      → Most t (pickTable b t (record { ids = put (t .ids) (16 * t .count) s; counts = set (t .counts) (t .count) 0; count = t .count + 1; others = t .others }))
+      → Most t
+      (pickTable b t
+      (record { ids = put (t .ids) (16 * t .count) s; counts = set (t .counts) (t .count) 0; count = t .count + 1; others = t .others }))
   go true e = record { few = λ h. h; counts = λ j. omega arith; others = refl }
   go false e =
       let l = leb-false 64 (t .count) (or-no (mem s (namesIn t)) _ e) in
-      record { few = λ h. omega arith; counts = λ j. set-most (t .counts) (t .count) 0 j (getD (t .counts) j 0) (omega arith) (omega arith); others = refl }
+      record {
+        few = λ h. omega arith;
+        counts = λ j. set-most (t .counts) (t .count) 0 j (getD (t .counts) j 0) (omega arith) (omega arith);
+        others = refl;
+      }
 
 all-most : (t : Table) (ss : List Id) → Most t (enteredAllIn t ss)
 unfolding enteredAllIn
@@ -61,8 +67,10 @@ module _ (ids : List ℕ) (ss : List Id) where
   ticked-most zero k c j = omega arith
   ticked-most (suc n) k c j = elim (which (eqb j k)) [
     | inl e ↦ let f = eqb-true j k e in
-        let x : more ids ss c k ≤ getD c j 0 + 1 = omega (arith, one-le (mem (octets 16 ids (k * 16)) ss) (one (mem (octets 16 ids (k * 16)) ss)) refl, ap (λ (i : ℕ). getD c i 0) f) in
-        rw (from-before ids ss n (k + 1) (set c k (more ids ss c k)) j (omega arith)) (set-most c k (more ids ss c k) j (getD c j 0 + 1) (omega arith) x)
+        let x : more ids ss c k ≤ getD c j 0 + 1 =
+        omega (arith, one-le (mem (octets 16 ids (k * 16)) ss) (one (mem (octets 16 ids (k * 16)) ss)) refl, ap (λ (i : ℕ). getD c i 0) f) in
+        rw (from-before ids ss n (k + 1) (set c k (more ids ss c k)) j (omega arith))
+        (set-most c k (more ids ss c k) j (getD c j 0 + 1) (omega arith) x)
     | inr e ↦ omega (arith, ticked-most n (k + 1) (set c k (more ids ss c k)) j, getD-set-other c k j (more ids ss c k) 0 (eqb-false j k e))
   ]
 

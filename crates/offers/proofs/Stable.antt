@@ -73,7 +73,8 @@ full-or : (l xs : List Id) (s : Id) → mem s xs ≡ true → (mem s (enteredAll
 unfolding enteredAll mem
 full-or l [] s h = absurd (let z : _≡_ {A = ℕ} 0 1 = cc in omega arith)
 full-or l (x ∷ xs) s h = go (sameOctets s x) refl h (λ k. full-or (entered l x) xs s k) where
-  go : (b : Bool) → sameOctets s x ≡ b → cond b true (mem s xs) ≡ true → (mem s xs ≡ true → (mem s (enteredAll (entered l x) xs) ≡ true) ⊎ (64 ≤ length (enteredAll (entered l x) xs)))
+  go : (b : Bool) → sameOctets s x ≡ b → cond b true (mem s xs) ≡ true
+      → (mem s xs ≡ true → (mem s (enteredAll (entered l x) xs) ≡ true) ⊎ (64 ≤ length (enteredAll (entered l x) xs)))
       → (mem s (enteredAll (entered l x) xs) ≡ true) ⊎ (64 ≤ length (enteredAll (entered l x) xs))
   go false e k r = r k
   go true e k r = elim (which (leb 64 (length l))) [
@@ -147,7 +148,11 @@ module _ (P : Id → Type 0) (old : List Id) (enters : (s : Id) → mem s old �
         let m : mem x old ≡ false = or-false _ _ (sym (mem-append x old (g .new)) ∙ rw (g .is) at (e .0)) .0 in
         let k = leb-false 64 (length l) (e .1) in
         let n : length l ≡ length old + length (g .new) = ap length (g .is) ∙ length-append old (g .new) in
-        record { new = g .new ++ (x ∷ []); is = rw (g .is) (append-assoc old (g .new) (x ∷ [])); each = all-snoc P (g .new) x (g .each) (enters x m (omega arith)) }
+        record {
+          new = g .new ++ (x ∷ []);
+          is = rw (g .is) (append-assoc old (g .new) (x ∷ []));
+          each = all-snoc P (g .new) x (g .each) (enters x m (omega arith));
+        }
 
   grown-all : (l xs : List Id) → Grown P old l → Grown P old (enteredAll l xs)
   unfolding enteredAll
@@ -169,7 +174,9 @@ entering ms s out room = elim (which (mem s (mentioned ms))) [
 ]
 
 gained : (ms : List (List Id)) (m : List Id) → Grown (Unlisted ms) (firstSchemes ms) (enteredAll (firstSchemes ms) m)
-gained ms m = grown-all (Unlisted ms) (firstSchemes ms) (entering ms) (firstSchemes ms) m (record { new = []; is = sym (append-nil (firstSchemes ms)); each = tt })
+gained ms m =
+    grown-all (Unlisted ms) (firstSchemes ms) (entering ms) (firstSchemes ms) m
+    (record { new = []; is = sym (append-nil (firstSchemes ms)); each = tt })
 
 -- ---- the counts
 ticked-new : (ms : List (List Id)) (m : List Id) (k : List Id) → All (Unlisted ms) k → ticked k [] m ≡ listings k (ms ++ (m ∷ []))
@@ -179,7 +186,8 @@ ticked-new ms m (s ∷ k) a =
     let e : one (mem s m) ≡ listing s (ms ++ (m ∷ [])) = omega (arith, listing-snoc s ms m, a .0) in
     rw (e, ticked-new ms m k (a .1))
 
-ticked-is : (ms : List (List Id)) (m : List Id) (l k : List Id) → All (Unlisted ms) k → ticked (l ++ k) (listings l ms) m ≡ listings (l ++ k) (ms ++ (m ∷ []))
+ticked-is : (ms : List (List Id)) (m : List Id) (l k : List Id) → All (Unlisted ms) k
+    → ticked (l ++ k) (listings l ms) m ≡ listings (l ++ k) (ms ++ (m ∷ []))
 unfolding ticked listings
 ticked-is ms m [] k a = ticked-new ms m k a
 ticked-is ms m (s ∷ l) k a = rw (ticked-is ms m l k a, listing-snoc s ms m)
@@ -193,7 +201,8 @@ module _ (ms : List (List Id)) (m : List Id) where
   unfolding allIn firstSchemes
   allIn-stable [] h = refl
   allIn-stable (s ∷ k) h =
-      let e : mem s (enteredAll [] (mentioned (ms ++ (m ∷ [])))) ≡ mem s (enteredAll [] (mentioned ms)) = rw (mentioned-snoc ms m) (stable [] (mentioned ms) m s (h s (mem-head s k))) in
+      let e : mem s (enteredAll [] (mentioned (ms ++ (m ∷ [])))) ≡ mem s (enteredAll [] (mentioned ms)) =
+      rw (mentioned-snoc ms m) (stable [] (mentioned ms) m s (h s (mem-head s k))) in
       let f = allIn-stable k (λ t g. h t (mem-tail t s k g)) in
       rw (e, f)
 
@@ -216,8 +225,10 @@ unfolding withOffer offersOf
 offer-counted ms m =
     let g = gained ms m in
     let a : enteredAll (firstSchemes ms) m ≡ firstSchemes (ms ++ (m ∷ [])) = sym (first-snoc ms m) in
-    let c : ticked (enteredAll (firstSchemes ms) m) (listings (firstSchemes ms) ms) m ≡ listings (enteredAll (firstSchemes ms) m) (ms ++ (m ∷ [])) = rw (g .is) (ticked-is ms m (firstSchemes ms) (g .new) (g .each)) in
-    let o : beyond (firstSchemes (ms ++ (m ∷ []))) (ms ++ (m ∷ [])) ≡ beyond (firstSchemes ms) ms + one (not (allIn m (enteredAll (firstSchemes ms) m))) =
+    let c : ticked (enteredAll (firstSchemes ms) m) (listings (firstSchemes ms) ms) m ≡ listings (enteredAll (firstSchemes ms) m) (ms ++ (m ∷ [])) =
+    rw (g .is) (ticked-is ms m (firstSchemes ms) (g .new) (g .each)) in
+    let o : beyond (firstSchemes (ms ++ (m ∷ []))) (ms ++ (m ∷ [])) ≡ beyond (firstSchemes ms) ms + one (not
+    (allIn m (enteredAll (firstSchemes ms) m))) =
     beyond-snoc (firstSchemes (ms ++ (m ∷ []))) ms m ∙ rw (beyond-stable ms m ms (λ s h. h), first-snoc ms m) in
     rw (c, ← o, a)
 

@@ -49,7 +49,12 @@ module _ (d s : List ℕ) (j : ℕ) (room : 16 * j + 16 ≤ length d) (id : leng
   id-behind : octets 16 (put d (16 * j) s) (j * 16) ≡ s
   unfolding put
   id-behind =
-      rw (mul-comm j 16, append-assoc (take (16 * j) d) s (drop (16 * j + length s) d), drop-at (take (16 * j) d) (s ++ drop (16 * j + length s) d) (16 * j) start)
+      rw (
+        mul-comm j 16,
+        append-assoc (take (16 * j) d) s (drop (16 * j + length s) d),
+        drop-at (take (16 * j) d) (s ++ drop (16 * j + length s) d)
+            (16 * j) start,
+      )
       (front-at s (drop (16 * j + length s) d) 16 id)
 
   pub ids-more : idsAt (j + 1) (put d (16 * j) s) ≡ idsAt j d ++ (s ∷ [])
@@ -63,7 +68,10 @@ module _ (t : Table) (s : Id) (k : Kept t) (id : length s ≡ 16) where
   unfolding enteredIn entered
   names-entered = rw (length-ids (t .count) (t .ids)) (go (mem s (namesIn t) || leb 64 (t .count)) refl) where
     go : (b : Bool) → (mem s (namesIn t) || leb 64 (t .count)) ≡ b
-        → namesIn (pickTable b t (record { ids = put (t .ids) (16 * t .count) s; counts = set (t .counts) (t .count) 0; count = t .count + 1; others = t .others })) ≡ cond b (namesIn t) (namesIn t ++ (s ∷ []))
+        → namesIn
+        (pickTable b t
+        (record { ids = put (t .ids) (16 * t .count) s; counts = set (t .counts) (t .count) 0; count = t .count + 1; others = t .others }))
+        ≡ cond b (namesIn t) (namesIn t ++ (s ∷ []))
     go true e = refl
     go false e =
         let l = leb-false 64 (t .count) (or-no (mem s (namesIn t)) _ e) in let o = k .octets in
@@ -73,16 +81,22 @@ module _ (t : Table) (s : Id) (k : Kept t) (id : length s ≡ 16) where
   unfolding enteredIn
   kept-entered = go (mem s (namesIn t) || leb 64 (t .count)) refl where
     go : (b : Bool) → (mem s (namesIn t) || leb 64 (t .count)) ≡ b
-        → Kept (pickTable b t (record { ids = put (t .ids) (16 * t .count) s; counts = set (t .counts) (t .count) 0; count = t .count + 1; others = t .others }))
+        → Kept (pickTable b t
+        (record { ids = put (t .ids) (16 * t .count) s; counts = set (t .counts) (t .count) 0; count = t .count + 1; others = t .others }))
     go true e = k
     go false e =
         let l = leb-false 64 (t .count) (or-no (mem s (namesIn t)) _ e) in let o = k .octets in
-        record { octets = length-put (t .ids) (16 * t .count) s (omega arith) ∙ o; places = length-set (t .counts) (t .count) 0 ∙ k .places; few = omega arith }
+        record {
+          octets = length-put (t .ids) (16 * t .count) s (omega arith) ∙ o;
+          places = length-set (t .counts) (t .count) 0 ∙ k .places;
+          few = omega arith;
+        }
 
 pub names-all : (t : Table) (ss : List Id) → Kept t → AllIds ss → namesIn (enteredAllIn t ss) ≡ enteredAll (namesIn t) ss
 unfolding enteredAllIn enteredAll
 names-all t [] k a = refl
-names-all t (s ∷ ss) k a = names-all (enteredIn t s) ss (kept-entered t s k (a .0)) (a .1) ∙ ap (λ (l : List Id). enteredAll l ss) (names-entered t s k (a .0))
+names-all t (s ∷ ss) k a =
+    names-all (enteredIn t s) ss (kept-entered t s k (a .0)) (a .1) ∙ ap (λ (l : List Id). enteredAll l ss) (names-entered t s k (a .0))
 
 pub kept-all : (t : Table) (ss : List Id) → Kept t → AllIds ss → Kept (enteredAllIn t ss)
 unfolding enteredAllIn
@@ -109,7 +123,8 @@ take-beyond : (n : ℕ) (xs : List ℕ) (j : ℕ) → n ≤ j → getD (take n x
 take-beyond n xs j h = List·getD-eq-default (take n xs) 0 {n = j} (omega (arith, length-take n xs))
 
 -- a scheme that is entered starts from nothing
-counts-entered : (t : Table) (s : Id) → Kept t → (j : ℕ) → getD (take (enteredIn t s .count) (enteredIn t s .counts)) j 0 ≡ getD (take (t .count) (t .counts)) j 0
+counts-entered : (t : Table) (s : Id) → Kept t → (j : ℕ)
+    → getD (take (enteredIn t s .count) (enteredIn t s .counts)) j 0 ≡ getD (take (t .count) (t .counts)) j 0
 unfolding enteredIn
 counts-entered t s k j = go (mem s (namesIn t) || leb 64 (t .count)) refl where
   new : t .count < 64 → getD (take (t .count + 1) (set (t .counts) (t .count) 0)) j 0 ≡ getD (take (t .count) (t .counts)) j 0
@@ -120,7 +135,8 @@ counts-entered t s k j = go (mem s (namesIn t) || leb 64 (t .count)) refl where
         ∙ sym (take-beyond (t .count) (t .counts) j (omega arith))
     | inr e ↦ let f = eqb-false j (t .count) e in elim (which (ltb j (t .count))) [
       | inl g ↦ let h = ltb-true j (t .count) g in
-          take-at (t .count + 1) (set (t .counts) (t .count) 0) j (omega arith) ∙ getD-set-other (t .counts) (t .count) j 0 0 f ∙ sym (take-at (t .count) (t .counts) j h)
+          take-at (t .count + 1) (set (t .counts) (t .count) 0) j (omega arith) ∙ getD-set-other (t .counts) (t .count) j 0 0 f
+          ∙ sym (take-at (t .count) (t .counts) j h)
       | inr g ↦ let h = ltb-false j (t .count) g in
           take-beyond (t .count + 1) (set (t .counts) (t .count) 0) j (above h f) ∙ sym (take-beyond (t .count) (t .counts) j h)
     ]
@@ -129,7 +145,8 @@ counts-entered t s k j = go (mem s (namesIn t) || leb 64 (t .count)) refl where
     above h f = omega arith
 
   go : (b : Bool) → (mem s (namesIn t) || leb 64 (t .count)) ≡ b
-      → (let r = pickTable b t (record { ids = put (t .ids) (16 * t .count) s; counts = set (t .counts) (t .count) 0; count = t .count + 1; others = t .others }) in
+      → (let r = pickTable b t
+      (record { ids = put (t .ids) (16 * t .count) s; counts = set (t .counts) (t .count) 0; count = t .count + 1; others = t .others }) in
       getD (take (r .count) (r .counts)) j 0 ≡ getD (take (t .count) (t .counts)) j 0)
   go true e = refl
   go false e = new (leb-false 64 (t .count) (or-no (mem s (namesIn t)) _ e))
@@ -144,7 +161,9 @@ counts-all t (s ∷ ss) k a j = counts-all (enteredIn t s) ss (kept-entered t s 
 others-entered : (t : Table) (s : Id) → enteredIn t s .others ≡ t .others
 unfolding enteredIn
 others-entered t s = go (mem s (namesIn t) || leb 64 (t .count)) where
-  go : (b : Bool) → pickTable b t (record { ids = put (t .ids) (16 * t .count) s; counts = set (t .counts) (t .count) 0; count = t .count + 1; others = t .others }) .others ≡ t .others
+  go : (b : Bool) → pickTable b t
+      (record { ids = put (t .ids) (16 * t .count) s; counts = set (t .counts) (t .count) 0; count = t .count + 1; others = t .others }) .others
+      ≡ t .others
   go true = refl
   go false = refl
 
@@ -187,7 +206,8 @@ module _ (ids : List ℕ) (ss : List Id) where
   from-at zero k c j a b l = absurd (omega arith)
   from-at (suc n) k c j a b l = elim (which (eqb j k)) [
     | inl e ↦ let f = eqb-true j k e in
-        from-before n (k + 1) (set c k (more c k)) j (omega arith) ∙ ap (λ (i : ℕ). getD (set c k (more c k)) i 0) f ∙ getD-set-same c k (more c k) 0 (omega arith) ∙ ap (more c) (sym f)
+        from-before n (k + 1) (set c k (more c k)) j (omega arith) ∙ ap (λ (i : ℕ). getD (set c k (more c k)) i 0) f
+        ∙ getD-set-same c k (more c k) 0 (omega arith) ∙ ap (more c) (sym f)
     | inr e ↦ let f = eqb-false j k e in
         from-at n (k + 1) (set c k (more c k)) j (above f) (omega arith) (omega (arith, length-set c k (more c k)))
         ∙ ap (λ (x : ℕ). x + one (mem (octets 16 ids (j * 16)) ss)) (getD-set-other c k j (more c k) 0 f)
@@ -199,10 +219,13 @@ pub table-offers : TableOffers
 unfolding offeredIn withOffer
 table-offers t ss k a =
     let n : namesIn e ≡ enteredAll (namesIn t) ss = names-all t ss k a in
-    let c : take (e .count) (tickedFrom (e .ids) ss (e .count) 0 (e .counts)) ≡ ticked (enteredAll (namesIn t) ss) (take (t .count) (t .counts)) ss = counts ∙ ap (λ (l : List Id). ticked l (take (t .count) (t .counts)) ss) n in
-    let o : e .others + one (not (allIn ss (namesIn e))) ≡ t .others + one (not (allIn ss (enteredAll (namesIn t) ss))) = ap (λ (x : ℕ). x + one (not (allIn ss (namesIn e)))) (others-all t ss) ∙ ap (λ (l : List Id). t .others + one (not (allIn ss l))) n in
+    let c : take (e .count) (tickedFrom (e .ids) ss (e .count) 0 (e .counts)) ≡ ticked (enteredAll (namesIn t) ss) (take (t .count) (t .counts)) ss =
+    counts ∙ ap (λ (l : List Id). ticked l (take (t .count) (t .counts)) ss) n in
+    let o : e .others + one (not (allIn ss (namesIn e))) ≡ t .others + one (not (allIn ss (enteredAll (namesIn t) ss))) =
+    ap (λ (x : ℕ). x + one (not (allIn ss (namesIn e)))) (others-all t ss) ∙ ap (λ (l : List Id). t .others + one (not (allIn ss l))) n in
     offers-same n c o where
-      offers-same : {a b : List Id} {c d : List ℕ} {x y : ℕ} → a ≡ b → c ≡ d → x ≡ y → _≡_ {A = Offers} (record { ids = a; counts = c; others = x }) (record { ids = b; counts = d; others = y })
+      offers-same : {a b : List Id} {c d : List ℕ} {x y : ℕ} → a ≡ b → c ≡ d → x ≡ y
+          → _≡_ {A = Offers} (record { ids = a; counts = c; others = x }) (record { ids = b; counts = d; others = y })
       offers-same p q r = rw (p, q, r)
 
       e : Table
@@ -212,7 +235,8 @@ table-offers t ss k a =
       kept = kept-all t ss k a
 
       at-place : (j : ℕ) → j < e .count
-          → getD (take (e .count) (tickedFrom (e .ids) ss (e .count) 0 (e .counts))) j 0 ≡ getD (ticked (namesIn e) (take (t .count) (t .counts)) ss) j 0
+          → getD (take (e .count) (tickedFrom (e .ids) ss (e .count) 0 (e .counts))) j 0
+          ≡ getD (ticked (namesIn e) (take (t .count) (t .counts)) ss) j 0
       at-place j h =
           let f = kept .few in let p = kept .places in
           let i : getD (namesIn e) j [] ≡ octets 16 (e .ids) (j * 16) = id-at (e .count) (e .ids) j h ∙ ap (octets 16 (e .ids)) (mul-comm 16 j) in
@@ -225,14 +249,20 @@ table-offers t ss k a =
       counts : take (e .count) (tickedFrom (e .ids) ss (e .count) 0 (e .counts)) ≡ ticked (namesIn e) (take (t .count) (t .counts)) ss
       counts =
           let f = kept .few in let p = kept .places in
-          let l : length (take (e .count) (tickedFrom (e .ids) ss (e .count) 0 (e .counts))) ≡ e .count = length-take-le (e .count) _ (omega (arith, length-from (e .ids) ss (e .count) 0 (e .counts))) in
-          same-lists _ _ (omega (arith, l, length-ticked (namesIn e) (take (t .count) (t .counts)) ss, length-ids (e .count) (e .ids))) (λ j h. at-place j (omega (arith, l)))
+          let l : length (take (e .count) (tickedFrom (e .ids) ss (e .count) 0 (e .counts))) ≡ e .count =
+          length-take-le (e .count) _ (omega (arith, length-from (e .ids) ss (e .count) 0 (e .counts))) in
+          same-lists _ _ (omega (arith, l, length-ticked (namesIn e) (take (t .count) (t .counts)) ss, length-ids (e .count) (e .ids)))
+          (λ j h. at-place j (omega (arith, l)))
 
 pub kept-offered : (t : Table) (ss : List Id) → Kept t → AllIds ss → Kept (offeredIn t ss)
 unfolding offeredIn
 kept-offered t ss k a =
     let e = kept-all t ss k a in
-    record { octets = e .octets; places = length-from (enteredAllIn t ss .ids) ss (enteredAllIn t ss .count) 0 (enteredAllIn t ss .counts) ∙ e .places; few = e .few }
+    record {
+      octets = e .octets;
+      places = length-from (enteredAllIn t ss .ids) ss (enteredAllIn t ss .count) 0 (enteredAllIn t ss .counts) ∙ e .places;
+      few = e .few;
+    }
 
 -- the ids of an array's octets
 pub ids-each : (n : ℕ) (a : List ℕ) → n * 16 ≤ length a → AllIds (idsAt n a)

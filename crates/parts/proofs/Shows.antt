@@ -41,7 +41,8 @@ module _ (header : ℕ) (m : List ℕ) (v : Vector) (k : ℕ) where
     unfolding nestedOf
     nested-none h = simp (← a-is, lt-leb _ _ h)
 
-    pub nested-read : 12 * k + 12 ≤ length a → (w : Vector) → w ≡ octetVector a (12 * k + 4) → (r : List ℕ) → r ≡ shown header m w → r ≡ nestedOf header m v k
+    pub nested-read : 12 * k + 12 ≤ length a → (w : Vector) → w ≡ octetVector a (12 * k + 4) → (r : List ℕ) → r ≡ shown header m w
+        → r ≡ nestedOf header m v k
     unfolding nestedOf
     nested-read h w w-is r r-is = simp (← a-is, le-leb _ _ h) (shown-read header m w _ r w-is r-is)
 
@@ -73,7 +74,8 @@ module _ (n : ℕ) (m : List ℕ) (at : ℕ) where
 pub signed-same : (n : ℕ) (m : List ℕ) (at : ℕ) (z : ℤ) → SFits w32 z → z ≡ signedIn n m at → toZ w32 (ofZ w32 z) ≡ signedIn n m at
 signed-same n m at z f e = toZ-ofZ {w = w32} f ∙ e
 
-pub type-read : (m : List ℕ) (k : ℕ) (a : List ℕ) → a ≡ shown 96 m (extensionVector m) → (z : ℤ) → SFits w32 z → z ≡ signedIn (12 * k + 12) a (12 * k) → toZ w32 (ofZ w32 z) ≡ extensionType m k
+pub type-read : (m : List ℕ) (k : ℕ) (a : List ℕ) → a ≡ shown 96 m (extensionVector m) → (z : ℤ) → SFits w32 z → z ≡ signedIn (12 * k + 12) a (12 * k)
+    → toZ w32 (ofZ w32 z) ≡ extensionType m k
 unfolding extensionType
 type-read m k a a-is z f e = rw (← a-is) (signed-same (12 * k + 12) a (12 * k) z f e)
 

@@ -37,7 +37,8 @@ joined-append (x ∷ xs) ys = rw (joined-append xs ys) (sym (append-assoc x (joi
 pub data Wrote : List ℕ → ℕ → List (List ℕ) → List ℕ → ℕ → Type 0 where
   done : {d : List ℕ} {at : ℕ} → Wrote d at [] d at
   step : {d d1 d2 v : List ℕ} {vs : List (List ℕ)} {at n a1 a2 : ℕ} → Written d at n v d1 a1 → Wrote d1 a1 vs d2 a2 → Wrote d at (v ∷ vs) d2 a2
-  group : {d d1 d2 : List ℕ} (us : List (List ℕ)) {vs : List (List ℕ)} {at n a1 a2 : ℕ} → Written d at n (joined us) d1 a1 → Wrote d1 a1 vs d2 a2 → Wrote d at (us ++ vs) d2 a2
+  group : {d d1 d2 : List ℕ} (us : List (List ℕ)) {vs : List (List ℕ)} {at n a1 a2 : ℕ} → Written d at n (joined us) d1 a1 → Wrote d1 a1 vs d2 a2
+      → Wrote d at (us ++ vs) d2 a2
 
 -- what one writer put, and what was put behind it
 module _ {d d1 v : List ℕ} {at n a1 : ℕ} (w : Written d at n v d1 a1) where
@@ -56,13 +57,15 @@ wrote-after done = sym (add-zero _)
 wrote-after (step {vs} {a2} w r) = behind w (joined vs) a2 (wrote-after r)
 wrote-after (group us {vs} {a2} w r) = rw (joined-append us vs) (behind w (joined vs) a2 (wrote-after r))
 
-pub wrote-holds : {d d2 : List ℕ} {vs : List (List ℕ)} {at a2 : ℕ} → Wrote d at vs d2 a2 → at + length (joined vs) ≤ length d → d2 ≡ put d at (joined vs)
+pub wrote-holds : {d d2 : List ℕ} {vs : List (List ℕ)} {at a2 : ℕ} → Wrote d at vs d2 a2 → at + length (joined vs) ≤ length d
+    → d2 ≡ put d at (joined vs)
 wrote-holds (done {d} {at}) h = sym (put-none d at)
 wrote-holds (step {d2} {vs} w r) h = holding w d2 (joined vs) h (λ k. wrote-holds r k)
 wrote-holds (group {d2} us {vs} w r) h = rw (joined-append us vs) (holding w d2 (joined vs) (rw (joined-append us vs) at h) (λ k. wrote-holds r k))
 
 -- the joined fields were put
-pub wrote : {d d2 : List ℕ} {vs : List (List ℕ)} {at a2 : ℕ} (n : ℕ) → Wrote d at vs d2 a2 → length (joined vs) ≡ n → at + n ≤ length d → Written d at n (joined vs) d2 a2
+pub wrote : {d d2 : List ℕ} {vs : List (List ℕ)} {at a2 : ℕ} (n : ℕ) → Wrote d at vs d2 a2 → length (joined vs) ≡ n → at + n ≤ length d
+    → Written d at n (joined vs) d2 a2
 wrote {d} {d2} {vs} {at} n w e h = record { size = e; after = omega (arith, wrote-after w); holds = wrote-holds w (omega arith) }
 
 -- a copy octet by octet: `paste d at v i` is d after i octets
@@ -70,7 +73,8 @@ pub copied : (d : List ℕ) (at : ℕ) (v : List ℕ) → paste d at v (length v
 unfolding put
 copied d at v = rw take-length
 
-pub copy-step : (d : List ℕ) (at : ℕ) (v : List ℕ) (i : ℕ) → at + length v ≤ length d → i < length v → set (paste d at v i) (at + i) (getD v i 0) ≡ paste d at v (i + 1)
+pub copy-step : (d : List ℕ) (at : ℕ) (v : List ℕ) (i : ℕ) → at + length v ≤ length d → i < length v
+    → set (paste d at v i) (at + i) (getD v i 0) ≡ paste d at v (i + 1)
 copy-step d at v i h k = rw add-one (paste-suc d at v i 0 (omega arith) k)
 
 pub as-number : {d d' : List ℕ} {at x y next : ℕ} (k : ℕ) → x ≡ y → Written d at k (octetsOf k x) d' next → Written d at k (octetsOf k y) d' next

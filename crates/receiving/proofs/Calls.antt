@@ -47,17 +47,23 @@ module _ (r : Record) (size n : ℕ) (n-is : n ≡ firstFailing (limitRows r)) (
 pub ruleset befores = (limits-stop, before-turn, before-long, before-none)
 
 -- a token's messages are no more than its octets
-few : (r : Record) (t s : List ℕ) (k at q : ℕ) (v : List ℕ) (n : ℕ) (c : Scan) (m : ℕ) (d : Scan) → judge r t n c (chainOf s k at q v) ≡ whole m d → m ≤ n + length s
+few : (r : Record) (t s : List ℕ) (k at q : ℕ) (v : List ℕ) (n : ℕ) (c : Scan) (m : ℕ) (d : Scan) → judge r t n c (chainOf s k at q v) ≡ whole m d
+    → m ≤ n + length s
 unfolding judge chainOf
 few r t [] k at q v n c m d e = let f : n ≡ m = cc in omega arith
 few r t (x ∷ s) (suc k) at q v n c m d e = let i = few r t s k at q v n c m d e in omega arith
 few r t (x ∷ s) zero at q v n c m d e = go (passes (x ∷ s) q v) refl (few r t s (size (x ∷ s) - 1) (at + size (x ∷ s)) (q + 1) v (n + 1)) where
-  then : (a : Admitted) (rest : Scan → Judged) → ((b : Scan) → rest b ≡ whole m d → m ≤ n + 1 + length s) → thenJudge a at rest ≡ whole m d → m ≤ n + suc (length s)
+  then : (a : Admitted) (rest : Scan → Judged) → ((b : Scan) → rest b ≡ whole m d → m ≤ n + 1 + length s) → thenJudge a at rest ≡ whole m d
+      → m ≤ n + suc (length s)
   then (on b) rest ih f = let i = ih b f in omega arith
   then (stop j) rest ih f = let z : _≡_ {A = ℕ} 0 1 = cc in absurd (omega arith)
 
-  go : (b : Bool) → passes (x ∷ s) q v ≡ b → ((b : Scan) (m : ℕ) (d : Scan) → judge r t (n + 1) b (chainOf s (size (x ∷ s) - 1) (at + size (x ∷ s)) (q + 1) v) ≡ whole m d → m ≤ n + 1 + length s) → m ≤ n + suc (length s)
-  go true p ih = then (admit r t c (front (x ∷ s))) (λ b. judge r t (n + 1) b (chainOf s (size (x ∷ s) - 1) (at + size (x ∷ s)) (q + 1) v)) (λ b. ih b m d) (rw p at e)
+  go : (b : Bool) → passes (x ∷ s) q v ≡ b
+      → ((b : Scan) (m : ℕ) (d : Scan) → judge r t (n + 1) b (chainOf s (size (x ∷ s) - 1) (at + size (x ∷ s)) (q + 1) v) ≡ whole m d
+      → m ≤ n + 1 + length s) → m ≤ n + suc (length s)
+  go true p ih =
+      then (admit r t c (front (x ∷ s))) (λ b. judge r t (n + 1) b (chainOf s (size (x ∷ s) - 1) (at + size (x ∷ s)) (q + 1) v)) (λ b. ih b m d)
+      (rw p at e)
   go false p ih = let f = rw p at e in let z : _≡_ {A = ℕ} 0 1 = cc in absurd (omega arith)
 
 judged-few : (r : Record) (t : List ℕ) (n : ℕ) (d : Scan) → judged r t ≡ whole n d → n ≤ length t
@@ -81,19 +87,22 @@ pub ruleset closings = (closed-now, closed-not)
 
 -- the answer to a token that is halted
 module _ (r : Record) (j : Judgement) where
-  pub halted-answer : (n : ℕ) (p : TokenPlace) → j ≡ judgement.Halted n p → (next : Record) → next ≡ closedBy n r → (a : Answer) → a ≡ answered n (p .0) next → a ≡ haltedAs r (judgedAs j)
+  pub halted-answer : (n : ℕ) (p : TokenPlace) → j ≡ judgement.Halted n p → (next : Record) → next ≡ closedBy n r → (a : Answer)
+      → a ≡ answered n (p .0) next → a ≡ haltedAs r (judgedAs j)
   halted-answer n p e next next-is a a-is = a-is ∙ ap (answered n (p .0)) next-is ∙ sym (ap (λ (z : Judgement). haltedAs r (judgedAs z)) e)
 
   pub whole-answer : (n : ℕ) (c : Scan) → j ≡ judgement.Whole n c → (a : Answer) → a ≡ answered 0 0 r → a ≡ haltedAs r (judgedAs j)
   whole-answer n c e a a-is = a-is ∙ sym (ap (λ (z : Judgement). haltedAs r (judgedAs z)) e)
 
 -- an accepted token
-pub accept-is : (r : Record) (d t : List ℕ) (n : ℕ) (c : Scan) (d' : List ℕ) (next : ℕ) → Written d (r .used) (length t) t d' next → (after : Record) → after ≡ taken r t n c → _≡_ {A = Outcome} (record { answer = takenAs after n; transcript = d' }) (accepted r d t n c)
+pub accept-is : (r : Record) (d t : List ℕ) (n : ℕ) (c : Scan) (d' : List ℕ) (next : ℕ) → Written d (r .used) (length t) t d' next → (after : Record)
+    → after ≡ taken r t n c → _≡_ {A = Outcome} (record { answer = takenAs after n; transcript = d' }) (accepted r d t n c)
 accept-is r d t n c d' next w after after-is = rw (w .holds, after-is)
 
 -- 16
 module _ (r : Record) (d t : List ℕ) (j : Judgement) where
-  pub finish-halted : (n : ℕ) (p : TokenPlace) → j ≡ judgement.Halted n p → (a : Answer) → a ≡ haltedAs r (judgedAs j) → _≡_ {A = Outcome} (record { answer = a; transcript = d }) (finish r d t (judgedAs j))
+  pub finish-halted : (n : ℕ) (p : TokenPlace) → j ≡ judgement.Halted n p → (a : Answer) → a ≡ haltedAs r (judgedAs j)
+      → _≡_ {A = Outcome} (record { answer = a; transcript = d }) (finish r d t (judgedAs j))
   unfolding finish
   finish-halted n p e a a-is = rw (a-is, e)
 
@@ -107,7 +116,8 @@ module _ (r : Record) (d t : List ℕ) (j : Judgement) where
       room : roomFor (r .used) (length t) (length d) ≡ b
       room = let e : length t ≡ 0 + length t = omega arith in rw e (sym b-is)
 
-      pub finish-16 : b ≡ false → (a : Answer) → a ≡ answered 16 0 r → _≡_ {A = Outcome} (record { answer = a; transcript = d }) (finish r d t (judgedAs j))
+      pub finish-16 : b ≡ false → (a : Answer) → a ≡ answered 16 0 r
+          → _≡_ {A = Outcome} (record { answer = a; transcript = d }) (finish r d t (judgedAs j))
       unfolding finish
       finish-16 e a a-is = rw (a-is, j-whole, room, e)
 

@@ -71,42 +71,52 @@ module _ (rest : List ℕ) (q : ℕ) (v : List ℕ) (m : Read) (m-is : said m �
   place-fits at L e w = omega (arith, here)
 
   module _ (r : Record) (t : List ℕ) (c : Scan) (a : Admission) (a-is : admitted a ≡ admit r t c (take (h .length) rest)) where
-    judged-here : (at n : ℕ) → judge r t n c (chainOf rest 0 at q v) ≡ thenJudge (admitted a) at (λ d. judge r t (n + 1) d (chainOf (drop (h .length) rest) 0 (at + h .length) (q + 1) v))
+    judged-here : (at n : ℕ) → judge r t n c (chainOf rest 0 at q v)
+        ≡ thenJudge (admitted a) at (λ d. judge r t (n + 1) d (chainOf (drop (h .length) rest) 0 (at + h .length) (q + 1) v))
     unfolding judge
     judged-here at n =
         ap (judge r t n c) (turn-pass at q v rest (passed rest q v m m-is h m-reads .0))
-        ∙ ap (λ (k : ℕ). thenJudge (admit r t c (take k rest)) at (λ d. judge r t (n + 1) d (chainOf (drop k rest) 0 (at + k) (q + 1) v))) (size-is rest q v m m-is h m-reads)
+        ∙ ap (λ (k : ℕ). thenJudge (admit r t c (take k rest)) at (λ d. judge r t (n + 1) d (chainOf (drop k rest) 0 (at + k) (q + 1) v)))
+        (size-is rest q v m m-is h m-reads)
         ∙ ap (λ (z : Admitted). thenJudge z at (λ d. judge r t (n + 1) d (chainOf (drop (h .length) rest) 0 (at + h .length) (q + 1) v))) (sym a-is)
 
-    pub judge-stopped : (at n : ℕ) (x : Judged) → x ≡ judge r t n c (chainOf rest 0 at q v) → (k : ℕ) → a ≡ admission.Stop k → (y : Judgement) → judgedAs y ≡ haltedBy (admitted a) at → judgedAs y ≡ x
+    pub judge-stopped : (at n : ℕ) (x : Judged) → x ≡ judge r t n c (chainOf rest 0 at q v) → (k : ℕ) → a ≡ admission.Stop k → (y : Judgement)
+        → judgedAs y ≡ haltedBy (admitted a) at → judgedAs y ≡ x
     judge-stopped at n x inv k e y y-is =
         y-is ∙ ap (λ (z : Admission). haltedBy (admitted z) at) e
-        ∙ sym (inv ∙ judged-here at n ∙ ap (λ (z : Admission). thenJudge (admitted z) at (λ d. judge r t (n + 1) d (chainOf (drop (h .length) rest) 0 (at + h .length) (q + 1) v))) e)
+        ∙ sym (inv ∙ judged-here at n
+        ∙ ap (λ (z : Admission). thenJudge (admitted z) at
+        (λ d. judge r t (n + 1) d (chainOf (drop (h .length) rest) 0 (at + h .length) (q + 1) v))) e)
 
     module _ (d : Scan) (a-on : a ≡ admission.On d) where
       pub judge-named : (n : ℕ) → c .named ≤ n → d .named ≤ n + 1
       judge-named n w = let u = admitted-named r t c (take (h .length) rest) d (sym a-is ∙ ap admitted a-on) in omega arith
 
-      pub judge-on : (at n : ℕ) (x : Judged) → x ≡ judge r t n c (chainOf rest 0 at q v) → (next : ℕ) → next ≡ at + h .length → x ≡ judge r t (n + 1) d (chainOf (take (length rest - h .length) (drop (h .length) rest)) 0 next (q + 1) v)
+      pub judge-on : (at n : ℕ) (x : Judged) → x ≡ judge r t n c (chainOf rest 0 at q v) → (next : ℕ) → next ≡ at + h .length
+          → x ≡ judge r t (n + 1) d (chainOf (take (length rest - h .length) (drop (h .length) rest)) 0 next (q + 1) v)
       judge-on at n x inv next next-is =
           inv ∙ judged-here at n
-          ∙ ap (λ (z : Admission). thenJudge (admitted z) at (λ e. judge r t (n + 1) e (chainOf (drop (h .length) rest) 0 (at + h .length) (q + 1) v))) a-on
+          ∙ ap (λ (z : Admission). thenJudge (admitted z) at
+          (λ e. judge r t (n + 1) e (chainOf (drop (h .length) rest) 0 (at + h .length) (q + 1) v))) a-on
           ∙ ap (λ (l : List ℕ). judge r t (n + 1) d (chainOf l 0 (at + h .length) (q + 1) v)) (sym (tail-all rest (h .length)))
           ∙ ap (λ (k : ℕ). judge r t (n + 1) d (chainOf (take (length rest - h .length) (drop (h .length) rest)) 0 k (q + 1) v)) (sym next-is)
 
 -- a message that 2 to 13 refuse
-cut-chain : (r : Record) (t rest : List ℕ) (at q : ℕ) (v : List ℕ) (n : ℕ) (c : Scan) → 0 < length rest → passes rest q v ≡ false → judge r t n c (chainOf rest 0 at q v) ≡ halted (firstFailing (nextRows rest q v)) at
+cut-chain : (r : Record) (t rest : List ℕ) (at q : ℕ) (v : List ℕ) (n : ℕ) (c : Scan) → 0 < length rest → passes rest q v ≡ false
+    → judge r t n c (chainOf rest 0 at q v) ≡ halted (firstFailing (nextRows rest q v)) at
 unfolding judge
 cut-chain r t rest at q v n c some e = ap (judge r t n c) (turn-fail at q v rest some e)
 
-module _ (r : Record) (t rest : List ℕ) (at q : ℕ) (v : List ℕ) (n : ℕ) (c : Scan) (x : Judged) (inv : x ≡ judge r t n c (chainOf rest 0 at q v)) where
+module _ (r : Record) (t rest : List ℕ) (at q : ℕ) (v : List ℕ) (n : ℕ) (c : Scan) (x : Judged)
+    (inv : x ≡ judge r t n c (chainOf rest 0 at q v)) where
   pub judge-end : length rest ≤ 0 → whole n c ≡ x
   judge-end e = go rest e ∙ sym inv where
     go : (l : List ℕ) → length l ≤ 0 → whole n c ≡ judge r t n c (chainOf l 0 at q v)
     go [] w = unfold chainOf judge in refl
     go (y ∷ l) w = absurd (omega arith)
 
-  pub judge-cut : 0 < length rest → (m : Read) → said m ≡ nextVerdict rest q v → (k : ℕ) → m ≡ answer.Refused k → (y : Judgement) → judgedAs y ≡ cutBy (said m) at → judgedAs y ≡ x
+  pub judge-cut : 0 < length rest → (m : Read) → said m ≡ nextVerdict rest q v → (k : ℕ) → m ≡ answer.Refused k → (y : Judgement)
+      → judgedAs y ≡ cutBy (said m) at → judgedAs y ≡ x
   judge-cut some m m-is k e y y-is =
       y-is ∙ ap (λ (z : Read). cutBy (said z) at) e ∙ ap (λ (j : ℕ). halted j at) (sym (failed .1))
       ∙ sym (inv ∙ cut-chain r t rest at q v n c some (failed .0)) where
@@ -115,7 +125,20 @@ module _ (r : Record) (t rest : List ℕ) (at q : ℕ) (v : List ℕ) (n : ℕ) 
 
 pub ruleset refusals = (cut-here, cut-not, halted-here, halted-not)
 
-pub ruleset judgings = (start-named, start-judged, ends-within, scheme-there, left-less, left-count, left-place, judge-stopped, judge-named, judge-on, judge-end, judge-cut)
+pub ruleset judgings = (
+  start-named,
+  start-judged,
+  ends-within,
+  scheme-there,
+  left-less,
+  left-count,
+  left-place,
+  judge-stopped,
+  judge-named,
+  judge-on,
+  judge-end,
+  judge-cut,
+)
 
 -- the conversation where it stands
 module _ (token : ℕ) (t own : List ℕ) where
@@ -149,9 +172,12 @@ module _ (r : Record) (t : List ℕ) where
 
     go : (eqb (length t) 0 ≡ true) ⊎ (eqb (length t) 0 ≡ false) → halted 2 0 ≡ judged r t
     go (inl e) = unfold judged judge in rw e
-    go (inr e) = unfold judged in rw e (sym (cut-chain r t t 0 (r .sequence) (conversationOf r t) 0 (startOf r) (some e) (f .0) ∙ ap (λ (k : ℕ). halted k 0) (f .1)))
+    go (inr e) =
+        unfold judged in
+        rw e (sym (cut-chain r t t 0 (r .sequence) (conversationOf r t) 0 (startOf r) (some e) (f .0) ∙ ap (λ (k : ℕ). halted k 0) (f .1)))
 
-  pub judged-whole : 40 ≤ length t → (v : List ℕ) → v ≡ conversationOf r t → (x : Judged) → x ≡ judge r t 0 (startOf r) (chainOf t 0 0 (r .sequence) v) → x ≡ judged r t
+  pub judged-whole : 40 ≤ length t → (v : List ℕ) → v ≡ conversationOf r t → (x : Judged)
+      → x ≡ judge r t 0 (startOf r) (chainOf t 0 0 (r .sequence) v) → x ≡ judged r t
   unfolding judged
   judged-whole h v v-is x x-is =
       let some : length t ≡ 0 → ⊥ = λ z. omega arith in

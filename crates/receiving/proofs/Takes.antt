@@ -54,25 +54,31 @@ pub ruleset countings = (counts-stage, counts-none, counts-early)
 
 module _ (r : Record) (t : List ℕ) (n : ℕ) (c : Scan) (token : ℕ) (token-is : token ≡ reads r) where
   taken-is : (x : ℕ) (k : List ℕ) → x ≡ commonAfter r t → k ≡ keptAfter r t → withSets (movedBy r t n c) x k ≡ taken r t n c
-  taken-is x k x-is k-is = ap (λ (z : ℕ). withSets (movedBy r t n c) z k) x-is ∙ ap (λ (z : List ℕ). withSets (movedBy r t n c) (commonAfter r t) z) k-is
+  taken-is x k x-is k-is =
+      ap (λ (z : ℕ). withSets (movedBy r t n c) z k) x-is ∙ ap (λ (z : List ℕ). withSets (movedBy r t n c) (commonAfter r t) z) k-is
 
   other-kept : (token ≡ 1 → ⊥) → r .kept ≡ keptAfter r t
   unfolding keptAfter
   other-kept e = rw (ne-eqb (reads r) 1 (λ q. e (token-is ∙ q)))
 
   module _ (next : Record) (next-is : next ≡ movedBy r t n c) where
-    pub taken-first : token ≡ 0 → (l : List ℕ) → l ≡ listedIn t → (x : ℕ) → x ≡ commonSet (idsAt (r .count) (r .list)) (idsOf l) → withSets next x (next .kept) ≡ taken r t n c
-    taken-first e l l-is x x-is = ap (λ (z : Record). withSets z x (z .kept)) next-is ∙ taken-is x (r .kept) common (other-kept (λ q. omega arith)) where
-      common : x ≡ commonAfter r t
-      common = unfold commonAfter in rw (eq-eqb (reads r) 0 (sym token-is ∙ e)) (x-is ∙ ap (commonSet (ownOf r)) (listed-by t l l-is))
+    pub taken-first : token ≡ 0 → (l : List ℕ) → l ≡ listedIn t → (x : ℕ) → x ≡ commonSet (idsAt (r .count) (r .list)) (idsOf l)
+        → withSets next x (next .kept) ≡ taken r t n c
+    taken-first e l l-is x x-is =
+        ap (λ (z : Record). withSets z x (z .kept)) next-is ∙ taken-is x (r .kept) common (other-kept (λ q. omega arith)) where
+          common : x ≡ commonAfter r t
+          common = unfold commonAfter in rw (eq-eqb (reads r) 0 (sym token-is ∙ e)) (x-is ∙ ap (commonSet (ownOf r)) (listed-by t l l-is))
 
-    pub taken-reply : (token ≡ 0 → ⊥) → token ≡ 1 → (l : List ℕ) → l ≡ listedIn t → (k : Kept) → k ≡ keptOf (keptPlaces (idsAt (r .count) (r .list)) (idsOf l)) → (x : ℕ) → x ≡ ones (k .count) → withSets next x (k .places) ≡ taken r t n c
+    pub taken-reply : (token ≡ 0 → ⊥) → token ≡ 1 → (l : List ℕ) → l ≡ listedIn t → (k : Kept)
+        → k ≡ keptOf (keptPlaces (idsAt (r .count) (r .list)) (idsOf l)) → (x : ℕ) → x ≡ ones (k .count) → withSets next x (k .places) ≡ taken r t n c
     taken-reply d e l l-is k k-is x x-is = ap (λ (z : Record). withSets z x (k .places)) next-is ∙ taken-is x (k .places) common kept where
       both : k ≡ keptOf (keptPlaces (ownOf r) (listedBy t))
       both = k-is ∙ ap (λ (z : List Id). keptOf (keptPlaces (ownOf r) z)) (listed-by t l l-is)
 
       common : x ≡ commonAfter r t
-      common = unfold commonAfter keptOf in rw (ne-eqb (reads r) 0 (λ q. d (token-is ∙ q)), eq-eqb (reads r) 1 (sym token-is ∙ e)) (x-is ∙ ap (λ (z : Kept). ones (z .count)) both)
+      common =
+          unfold commonAfter keptOf in
+          rw (ne-eqb (reads r) 0 (λ q. d (token-is ∙ q)), eq-eqb (reads r) 1 (sym token-is ∙ e)) (x-is ∙ ap (λ (z : Kept). ones (z .count)) both)
 
       kept : k .places ≡ keptAfter r t
       kept = unfold keptAfter keptOf in rw (eq-eqb (reads r) 1 (sym token-is ∙ e)) (ap (λ (z : Kept). z .places) both)
@@ -83,7 +89,8 @@ module _ (r : Record) (t : List ℕ) (n : ℕ) (c : Scan) (token : ℕ) (token-i
       common = unfold commonAfter in rw (ne-eqb (reads r) 0 (λ q. d (token-is ∙ q)), ne-eqb (reads r) 1 (λ q. e (token-is ∙ q)))
 
 -- the own places kept are 16 at most
-pub kept-small : (r : Record) (size n : ℕ) → Taking r size n → (peer : List Id) (k : Kept) → k ≡ keptOf (keptPlaces (idsAt (r .count) (r .list)) peer) → k .count ≤ 16
+pub kept-small : (r : Record) (size n : ℕ) → Taking r size n → (peer : List Id) (k : Kept) → k ≡ keptOf (keptPlaces (idsAt (r .count) (r .list)) peer)
+    → k .count ≤ 16
 unfolding keptOf
 kept-small r size n w peer k k-is =
     omega (arith, ap (λ (z : Kept). z .count) k-is, kept-few (ownOf r) peer, length-ids (r .count) (r .list), w .inside .few)

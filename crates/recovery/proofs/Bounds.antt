@@ -35,7 +35,9 @@ shorts-recovery : (s : List ℕ) → Shorts (recoveryLines s)
 unfolding recoveryLines
 shorts-recovery s = go (leb (length s) 65535) where
   go : (b : Bool) → Shorts (cond b (allPieceLines (piecesOf s) ++ (endLine (length (takenOf s)) (length s) ∷ [])) (refusedLine 1 0 ∷ []))
-  go true = shorts-append (allPieceLines (piecesOf s)) (endLine (length (takenOf s)) (length s) ∷ []) (shorts-pieces (piecesOf s)) (short-end (length (takenOf s)) (length s), tt)
+  go true =
+      shorts-append (allPieceLines (piecesOf s)) (endLine (length (takenOf s)) (length s) ∷ []) (shorts-pieces (piecesOf s))
+      (short-end (length (takenOf s)) (length s), tt)
   go false = (short-refused 1 0, tt)
 
 pub short-recovered : ShortRecovered
@@ -47,18 +49,38 @@ piece-few : (s : List ℕ) (p : Piece) → List·Memᴰ p (piecesOf s) → 0 < e
 piece-few s (taken m) i h =
     let (reads, is) = taken-readable s m i in
     let r = drop (m .place) s in
-    omega (arith, message-few (m .place) (headOf r .sequence) (headOf r .conversation) (front r) (readable-message r reads), ap (λ (l : List ℕ). length (messageLines (m .place) l)) is, ap length is)
+    omega (
+      arith,
+      message-few (m .place) (headOf r .sequence) (headOf r .conversation) (front r)
+          (readable-message r reads),
+      ap (λ (l : List ℕ). length (messageLines (m .place) l)) is,
+      ap length is,
+    )
 piece-few s (skipped place n) i h = omega arith
 
-pieces-few : (s : List ℕ) (ps : List Piece) (a end : ℕ) → ((p : Piece) → List·Memᴰ p ps → List·Memᴰ p (piecesOf s)) → FollowOn a ps end → a + length (allPieceLines ps) ≤ end
+pieces-few : (s : List ℕ) (ps : List Piece) (a end : ℕ) → ((p : Piece) → List·Memᴰ p ps → List·Memᴰ p (piecesOf s)) → FollowOn a ps end
+    → a + length (allPieceLines ps) ≤ end
 unfolding allPieceLines
 pieces-few s [] a end all f = omega arith
 pieces-few s (p ∷ ps) a end all (first, (some, rest)) =
-    omega (arith, length-append (pieceLines p) (allPieceLines ps), piece-few s p (all p (List·Memᴰ·head refl)) some, pieces-few s ps (a + extent p) end (λ q i. all q (List·Memᴰ·tail i)) rest)
+    omega (
+      arith,
+      length-append (pieceLines p) (allPieceLines ps),
+      piece-few s p (all p (List·Memᴰ·head refl)) some,
+      pieces-few s ps
+          (a + extent p) end (λ q i. all q (List·Memᴰ·tail i)) rest,
+    )
 
 pub few-recovered : FewRecovered
 unfolding recoveredLines recoveryLines
 few-recovered s = omega (arith, length-texts (recoveryLines s), go (leb (length s) 65535)) where
-  go : (b : Bool) → length (cond b (allPieceLines (piecesOf s) ++ (endLine (length (takenOf s)) (length s) ∷ [])) (refusedLine 1 0 ∷ [])) ≤ length s + 1
-  go true = omega (arith, length-append (allPieceLines (piecesOf s)) (endLine (length (takenOf s)) (length s) ∷ []), pieces-few s (piecesOf s) 0 (length s) (λ p i. i) (pieces-cover s .0))
+  go : (b : Bool)
+      → length (cond b (allPieceLines (piecesOf s) ++ (endLine (length (takenOf s)) (length s) ∷ [])) (refusedLine 1 0 ∷ [])) ≤ length s + 1
+  go true =
+      omega (
+        arith,
+        length-append (allPieceLines (piecesOf s)) (endLine (length (takenOf s)) (length s) ∷ []),
+        pieces-few s (piecesOf s) 0 (length s)
+            (λ p i. i) (pieces-cover s .0),
+      )
   go false = omega arith

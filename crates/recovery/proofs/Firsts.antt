@@ -33,7 +33,8 @@ FirstFit s a (m ∷ ms) = (a ≤ m .place) × (Clean s a (m .place) × (Stands s
 drop-next : (s : List ℕ) (p x : ℕ) (xs : List ℕ) → drop p s ≡ x ∷ xs → drop (p + 1) s ≡ xs
 drop-next s p x xs e = sym (drop-drop 1 p s) ∙ ap (drop 1) e
 
-first-fit : (s xs : List ℕ) (k p a : ℕ) → drop p s ≡ xs → p + length xs ≡ length s → k ≤ length xs → a ≤ p + k → Clean s a (p + k) → FirstFit s a (takenFrom xs k p)
+first-fit : (s xs : List ℕ) (k p a : ℕ) → drop p s ≡ xs → p + length xs ≡ length s → k ≤ length xs → a ≤ p + k → Clean s a (p + k)
+    → FirstFit s a (takenFrom xs k p)
 unfolding takenFrom
 first-fit s [] k p a is ends fits from clean = (omega arith, λ i h g. clean i h (omega arith))
 first-fit s (x ∷ xs) (suc k) p a is ends fits from clean =
@@ -43,18 +44,29 @@ first-fit s (x ∷ xs) zero p a is ends fits from clean =
     (λ b. first-fit s xs (size (x ∷ xs) - 1) (p + 1) b (drop-next s p x xs is) (omega arith))
     (first-fit s xs 0 (p + 1) a (drop-next s p x xs is) (omega arith) (omega arith) (omega arith)) where
       step : (readable (x ∷ xs) ≡ true) ⊎ (readable (x ∷ xs) ≡ false)
-          → ((b : ℕ) → size (x ∷ xs) - 1 ≤ length xs → b ≤ p + 1 + (size (x ∷ xs) - 1) → Clean s b (p + 1 + (size (x ∷ xs) - 1)) → FirstFit s b (takenFrom xs (size (x ∷ xs) - 1) (p + 1)))
+          → ((b : ℕ) → size (x ∷ xs) - 1 ≤ length xs → b ≤ p + 1 + (size (x ∷ xs) - 1) → Clean s b (p + 1 + (size (x ∷ xs) - 1))
+          → FirstFit s b (takenFrom xs (size (x ∷ xs) - 1) (p + 1)))
           → (Clean s a (p + 1 + 0) → FirstFit s a (takenFrom xs 0 (p + 1)))
           → FirstFit s a (takenFrom (x ∷ xs) 0 p)
       step (inl e) take skip =
           let z = readable-front (x ∷ xs) e in
-          subst (FirstFit s a) (sym (take-first x xs p e))
-          (omega arith, ((λ i h g. clean i h (omega arith)), (record { reads = ap readable is ∙ e; octets = ap front (sym is) }, take (p + length (front (x ∷ xs))) (omega (arith, z .within, z .some)) (omega (arith, z .is, z .some)) (λ i h g. absurd (omega (arith, z .is, z .some))))))
+          subst (FirstFit s a) (sym (take-first x xs p e)) (
+            omega arith,
+            (
+              (λ i h g. clean i h (omega arith)),
+              (
+                record { reads = ap readable is ∙ e; octets = ap front (sym is) },
+                take (p + length (front (x ∷ xs)))
+                    (omega (arith, z .within, z .some)) (omega (arith, z .is, z .some)) (λ i h g. absurd (omega (arith, z .is, z .some))),
+              ),
+            ),
+          )
       step (inr e) take skip =
           subst (FirstFit s a) (sym (skip-first x xs p e)) (skip (λ i h g. at i h g (which (ltb i p)))) where
             at : (i : ℕ) → a ≤ i → i < p + 1 + 0 → (ltb i p ≡ true) ⊎ (ltb i p ≡ false) → readable (drop i s) ≡ false
             at i h g (inl t) = clean i h (let w : i < p = ltb-true _ _ t in omega arith)
-            at i h g (inr t) = let w : p ≤ i = ltb-false _ _ t in let n : i ≡ p = omega arith in ap (λ (j : ℕ). readable (drop j s)) n ∙ ap readable is ∙ e
+            at i h g (inr t) =
+                let w : p ≤ i = ltb-false _ _ t in let n : i ≡ p = omega arith in ap (λ (j : ℕ). readable (drop j s)) n ∙ ap readable is ∙ e
 
 fits : (s : List ℕ) → FirstFit s 0 (takenOf s)
 fits s = first-fit s s 0 0 0 refl (omega arith) (omega arith) (omega arith) (λ i h g. absurd (omega arith))
@@ -91,7 +103,8 @@ follow s a (m ∷ ms) (h, (c, (t, r))) =
     (refl, (omega (arith, z .some, z .is, ap length (t .octets)), follow s (m .place + length (m .octets)) ms r))
 
 -- pieces that follow on are the octets between, joined
-follow-joined : (s : List ℕ) (ps : List Piece) (a end : ℕ) → FollowOn a ps end → end ≤ length s → (a ≤ end) × (joinedIn s ps ≡ take (end - a) (drop a s))
+follow-joined : (s : List ℕ) (ps : List Piece) (a end : ℕ) → FollowOn a ps end → end ≤ length s
+    → (a ≤ end) × (joinedIn s ps ≡ take (end - a) (drop a s))
 follow-joined s [] a end f h = let z : 0 ≡ end - a = omega arith in (omega arith, ap (λ (k : ℕ). take k (drop a s)) z)
 follow-joined s (p ∷ ps) a end (first, (some, rest)) h =
     let (le, is) = follow-joined s ps (a + extent p) end rest h in

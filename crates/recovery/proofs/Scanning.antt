@@ -38,7 +38,8 @@ use Rattle.recovery.proofs.Firsts.{skip-none, skip-some}
 use Rattle.recovery.proofs.Bounds.{short-skipped}
 
 -- the line of a skipped stretch, as the calls that write it
-pub skipped-text : (t a b u : Text) (place n : ℕ) → a ≡ written (quoted "skipped at=" ∷ decimal64 place ∷ []) t → b ≡ written (quoted " length=" ∷ decimal64 n ∷ []) a → u ≡ written (quoted "\n" ∷ []) b → u ≡ written (skippedLine place n) t
+pub skipped-text : (t a b u : Text) (place n : ℕ) → a ≡ written (quoted "skipped at=" ∷ decimal64 place ∷ []) t
+    → b ≡ written (quoted " length=" ∷ decimal64 n ∷ []) a → u ≡ written (quoted "\n" ∷ []) b → u ≡ written (skippedLine place n) t
 unfolding skippedLine
 skipped-text t a b u place n f₁ f₂ f₃ = then t b u _ _ (then t a b _ _ f₁ f₂) f₃
 
@@ -71,7 +72,8 @@ taken-room s n h = omega (arith, h .short, h .few)
 
 -- one turn, by what the message's reading answers
 module _ (rest : List ℕ) (r : Read) (r-is : said r ≡ messageVerdict rest) (s : Scan) (d : List ℕ) where
-  pub turn-skipped : (n : ℕ) → r ≡ answer.Refused n → scanned (record { progress = s .progress; place = record { 0 = s .place .0 + 1 }; end = s .end; taken = s .taken }) d ≡ advanced rest s d
+  pub turn-skipped : (n : ℕ) → r ≡ answer.Refused n
+      → scanned (record { progress = s .progress; place = record { 0 = s .place .0 + 1 }; end = s .end; taken = s .taken }) d ≡ advanced rest s d
   unfolding advanced readable messageVerdict
   turn-skipped n e =
       let no = verdict-refused (messageRows rest) (fieldsOf (headOf rest)) n (sym r-is ∙ ap said e) in
@@ -92,13 +94,18 @@ module _ (rest : List ℕ) (r : Read) (r-is : said r ≡ messageVerdict rest) (s
     turn-length = sym length-is ∙ sym (readable-front rest (reads .0) .is) ∙ ap (λ (k : ℕ). length (take k rest)) length-is
 
     pub turn-fit : Fit (shapeIn (take (h .length) rest)) (take (h .length) rest)
-    turn-fit = subst (λ (k : ℕ). Fit (shapeIn (take k rest)) (take k rest)) length-is (message-fit _ _ (front rest) (readable-message rest (reads .0)))
+    turn-fit =
+        subst (λ (k : ℕ). Fit (shapeIn (take k rest)) (take k rest)) length-is (message-fit _ _ (front rest) (readable-message rest (reads .0)))
 
-    pub turn-taken : (p q : Progress) (d₁ d₂ : List ℕ) → within p d₁ ≡ steps (stretch (s .end .0) (s .place .0)) (within (s .progress) d) → within q d₂ ≡ steps (texts (messageLines (s .place .0) (take (h .length) rest))) (within p d₁) → (end : TokenPlace) → end .0 ≡ s .place .0 + h .length → scanned (record { progress = q; place = end; end = end; taken = s .taken + 1 }) d₂ ≡ advanced rest s d
+    pub turn-taken : (p q : Progress) (d₁ d₂ : List ℕ) → within p d₁ ≡ steps (stretch (s .end .0) (s .place .0)) (within (s .progress) d)
+        → within q d₂ ≡ steps (texts (messageLines (s .place .0) (take (h .length) rest))) (within p d₁) → (end : TokenPlace)
+        → end .0 ≡ s .place .0 + h .length → scanned (record { progress = q; place = end; end = end; taken = s .taken + 1 }) d₂ ≡ advanced rest s d
     unfolding advanced
     turn-taken p q d₁ d₂ p-is q-is end end-is =
-        let t : within q d₂ ≡ steps (texts (messageLines (s .place .0) (front rest))) (steps (stretch (s .end .0) (s .place .0)) (within (s .progress) d)) =
-        q-is ∙ ap (λ (k : ℕ). steps (texts (messageLines (s .place .0) (take k rest))) (within p d₁)) (sym length-is) ∙ ap (steps (texts (messageLines (s .place .0) (front rest)))) p-is in
+        let t : within q d₂ ≡ steps (texts (messageLines (s .place .0) (front rest))) (steps (stretch (s .end .0) (s .place .0))
+        (within (s .progress) d)) =
+        q-is ∙ ap (λ (k : ℕ). steps (texts (messageLines (s .place .0) (take k rest))) (within p d₁)) (sym length-is)
+        ∙ ap (steps (texts (messageLines (s .place .0) (front rest)))) p-is in
         let there : end .0 ≡ s .place .0 + size rest = end-is ∙ ap (λ (k : ℕ). s .place .0 + k) (sym length-is) in
         ap (λ (k : ℕ). scanned (record { progress = q; place = record { 0 = k }; end = record { 0 = k }; taken = s .taken + 1 }) d₂) there
         ∙ ap (λ (u : State). takenBy s u (size rest)) t
@@ -126,7 +133,8 @@ pub record OnWay (file : List ℕ) (x : State) (n : ℕ) (s : Scan) (d : List �
   pub going : Going (s .progress) (length d)
 
 pub way-begins : (file : List ℕ) (p : Progress) (d : List ℕ) → length file ≤ 65535 → Going p (length d)
-    → OnWay file (steps (texts (allPieceLines (piecesOf file))) (within p d)) (length (takenOf file)) (record { progress = p; place = record { 0 = 0 }; end = record { 0 = 0 }; taken = 0 }) d
+    → OnWay file (steps (texts (allPieceLines (piecesOf file))) (within p d)) (length (takenOf file))
+    (record { progress = p; place = record { 0 = 0 }; end = record { 0 = 0 }; taken = 0 }) d
 way-begins file p d h g = record { short = h; inside = omega arith; few = omega arith; count = omega arith; come = refl; going = g }
 
 module _ (file : List ℕ) (x : State) (n : ℕ) (s : Scan) (d : List ℕ) (on : OnWay file x n s d) where
@@ -138,16 +146,21 @@ module _ (file : List ℕ) (x : State) (n : ℕ) (s : Scan) (d : List ℕ) (on :
     rest-length = omega (arith, length-drop (s .place .0) file)
 
     pub way-in-file : InFile s (length (take (length file - s .place .0) (drop (s .place .0) file)))
-    way-in-file = subst (λ (l : List ℕ). InFile s (length l)) (sym (tail-all file (s .place .0))) (record { short = omega (arith, rest-length, on .short); few = on .few })
+    way-in-file =
+        subst (λ (l : List ℕ). InFile s (length l)) (sym (tail-all file (s .place .0)))
+        (record { short = omega (arith, rest-length, on .short); few = on .few })
 
     -- the messages that are left, once one is taken or an octet is skipped
-    next-taken : readable (drop (s .place .0) file) ≡ true → takenFrom (drop (s .place .0) file) 0 (s .place .0) ≡ placed (s .place .0) (front (drop (s .place .0) file)) ∷ takenFrom (drop (s .place .0 + size (drop (s .place .0) file)) file) 0 (s .place .0 + size (drop (s .place .0) file))
+    next-taken : readable (drop (s .place .0) file) ≡ true
+        → takenFrom (drop (s .place .0) file) 0 (s .place .0) ≡ placed (s .place .0) (front (drop (s .place .0) file))
+        ∷ takenFrom (drop (s .place .0 + size (drop (s .place .0) file)) file) 0 (s .place .0 + size (drop (s .place .0) file))
     next-taken e =
         let rest = drop (s .place .0) file in
         turn-take rest (s .place .0) e
         ∙ ap (λ (l : List ℕ). placed (s .place .0) (front rest) ∷ takenFrom l 0 (s .place .0 + size rest)) (drop-drop (size rest) (s .place .0) file)
 
-    next-skipped : readable (drop (s .place .0) file) ≡ false → takenFrom (drop (s .place .0) file) 0 (s .place .0) ≡ takenFrom (drop (s .place .0 + 1) file) 0 (s .place .0 + 1)
+    next-skipped : readable (drop (s .place .0) file) ≡ false
+        → takenFrom (drop (s .place .0) file) 0 (s .place .0) ≡ takenFrom (drop (s .place .0 + 1) file) 0 (s .place .0 + 1)
     next-skipped e =
         turn-skip (drop (s .place .0) file) (s .place .0) (omega (arith, rest-length)) e
         ∙ ap (λ (l : List ℕ). takenFrom l 0 (s .place .0 + 1)) (drop-drop 1 (s .place .0) file)
@@ -162,13 +175,18 @@ module _ (file : List ℕ) (x : State) (n : ℕ) (s : Scan) (d : List ℕ) (on :
         inside = omega arith;
         few = omega (arith, on .few);
         count = sym (ap (λ (l : List Placed). s .taken + length l) (next-skipped e)) ∙ on .count;
-        come = on .come ∙ ap (λ (l : List Placed). steps (texts (allPieceLines (piecesFrom (s .end .0) l (length file)))) (within (s .progress) d)) (next-skipped e);
+        come = on .come ∙ ap (λ (l : List Placed). steps (texts (allPieceLines (piecesFrom (s .end .0) l (length file)))) (within (s .progress) d))
+            (next-skipped e);
         going = on .going;
       },
       omega arith,
     )
 
-    on-taken : readable (drop (s .place .0) file) ≡ true → Onward (takenBy s (steps (texts (messageLines (s .place .0) (front (drop (s .place .0) file)))) (steps (stretch (s .end .0) (s .place .0)) (within (s .progress) d))) (size (drop (s .place .0) file)))
+    on-taken : readable (drop (s .place .0) file) ≡ true
+        → Onward
+        (takenBy s
+        (steps (texts (messageLines (s .place .0) (front (drop (s .place .0) file))))
+        (steps (stretch (s .end .0) (s .place .0)) (within (s .progress) d))) (size (drop (s .place .0) file)))
     unfolding piecesFrom allPieceLines
     on-taken e =
         let rest = drop (s .place .0) file in
@@ -186,7 +204,10 @@ module _ (file : List ℕ) (x : State) (n : ℕ) (s : Scan) (d : List ℕ) (on :
             come =
                 on .come
                 ∙ ap (λ (l : List Placed). steps (texts (allPieceLines (piecesFrom (s .end .0) l (length file)))) w) (next-taken e)
-                ∙ ap (λ (k : ℕ). steps (texts (allPieceLines (skipTo (s .end .0) (s .place .0) (taken (placed (s .place .0) (front rest)) ∷ piecesFrom (s .place .0 + k) behind (length file))))) w) (z .is)
+                ∙ ap (λ (k : ℕ). steps
+                (texts (allPieceLines
+                (skipTo (s .end .0) (s .place .0)
+                (taken (placed (s .place .0) (front rest)) ∷ piecesFrom (s .place .0 + k) behind (length file))))) w) (z .is)
                 ∙ ap (λ (l : List (List ℕ)). steps l w) (lines-behind (s .end .0) (s .place .0) (taken (placed (s .place .0) (front rest)) ∷ after))
                 ∙ steps-append gap (texts (messageLines (s .place .0) (front rest) ++ allPieceLines after)) w
                 ∙ ap (λ (l : List (List ℕ)). steps l (steps gap w)) (texts-append (messageLines (s .place .0) (front rest)) (allPieceLines after))
@@ -199,29 +220,36 @@ module _ (file : List ℕ) (x : State) (n : ℕ) (s : Scan) (d : List ℕ) (on :
           omega (arith, z .some),
         )
 
-    onward : (s' : Scan) (d' : List ℕ) → scanned s' d' ≡ advanced (take (length file - s .place .0) (drop (s .place .0) file)) s d → Onward (scanned s' d')
+    onward : (s' : Scan) (d' : List ℕ) → scanned s' d' ≡ advanced (take (length file - s .place .0) (drop (s .place .0) file)) s d
+        → Onward (scanned s' d')
     unfolding advanced
     onward s' d' e =
         go (which (readable (drop (s .place .0) file))) (e ∙ ap (λ (l : List ℕ). advanced l s d) (tail-all file (s .place .0))) where
-          go : (readable (drop (s .place .0) file) ≡ true) ⊎ (readable (drop (s .place .0) file) ≡ false) → scanned s' d' ≡ advanced (drop (s .place .0) file) s d → Onward (scanned s' d')
+          go : (readable (drop (s .place .0) file) ≡ true) ⊎ (readable (drop (s .place .0) file) ≡ false)
+              → scanned s' d' ≡ advanced (drop (s .place .0) file) s d → Onward (scanned s' d')
           go (inl r) is = subst Onward (sym (rw r at is)) (on-taken r)
           go (inr r) is = subst Onward (sym (rw r at is)) (on-skipped r)
 
-    pub way-on : (s' : Scan) (d' : List ℕ) → scanned s' d' ≡ advanced (take (length file - s .place .0) (drop (s .place .0) file)) s d → OnWay file x n s' d'
+    pub way-on : (s' : Scan) (d' : List ℕ) → scanned s' d' ≡ advanced (take (length file - s .place .0) (drop (s .place .0) file)) s d
+        → OnWay file x n s' d'
     way-on s' d' e = onward s' d' e .0
 
-    pub way-less : (s' : Scan) (d' : List ℕ) → scanned s' d' ≡ advanced (take (length file - s .place .0) (drop (s .place .0) file)) s d → length file - s' .place .0 < length file - s .place .0
+    pub way-less : (s' : Scan) (d' : List ℕ) → scanned s' d' ≡ advanced (take (length file - s .place .0) (drop (s .place .0) file)) s d
+        → length file - s' .place .0 < length file - s .place .0
     way-less s' d' e = let h = onward s' d' e .1 in omega arith
 
   -- at the end the last stretch is left
-  pub way-ends : length file ≤ s .place .0 → (q : Progress) (d' : List ℕ) → within q d' ≡ steps (stretch (s .end .0) (s .place .0)) (within (s .progress) d) → within q d' ≡ x
+  pub way-ends : length file ≤ s .place .0 → (q : Progress) (d' : List ℕ)
+      → within q d' ≡ steps (stretch (s .end .0) (s .place .0)) (within (s .progress) d) → within q d' ≡ x
   unfolding takenFrom piecesFrom
   way-ends h q d' e =
       let all : s .place .0 ≡ length file = omega (arith, on .inside) in
       let none : drop (s .place .0) file ≡ [] = drop-of-length-le file {i = s .place .0} h in
       e
       ∙ ap (λ (k : ℕ). steps (stretch (s .end .0) k) (within (s .progress) d)) all
-      ∙ sym (on .come ∙ ap (λ (l : List ℕ). steps (texts (allPieceLines (piecesFrom (s .end .0) (takenFrom l 0 (s .place .0)) (length file)))) (within (s .progress) d)) none)
+      ∙ sym (on .come
+      ∙ ap (λ (l : List ℕ). steps (texts (allPieceLines (piecesFrom (s .end .0) (takenFrom l 0 (s .place .0)) (length file))))
+      (within (s .progress) d)) none)
 
   pub way-counts : length file ≤ s .place .0 → s .taken ≡ n
   unfolding takenFrom

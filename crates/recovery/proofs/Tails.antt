@@ -40,22 +40,26 @@ later (x ∷ xs) zero p ms m ns e =
           → ((l : List Placed) → takenFrom xs (size (x ∷ xs) - 1) (p + 1) ≡ l ++ (m ∷ ns) → p + 1 ≤ m .place)
           → ((l : List Placed) → takenFrom xs 0 (p + 1) ≡ l ++ (m ∷ ns) → p + 1 ≤ m .place)
           → p ≤ m .place
-      step (inl r) [] e take skip = let h : placed p (front (x ∷ xs)) ≡ m = head-eq-of-cons-eq (sym (take-first x xs p r) ∙ e) in omega (arith, ap (λ (y : Placed). y .place) h)
+      step (inl r) [] e take skip =
+          let h : placed p (front (x ∷ xs)) ≡ m = head-eq-of-cons-eq (sym (take-first x xs p r) ∙ e) in omega (arith, ap (λ (y : Placed). y .place) h)
       step (inl r) (k ∷ ms) e take skip = let h = take ms (tail-eq-of-cons-eq (sym (take-first x xs p r) ∙ e)) in omega arith
       step (inr r) ms e take skip = let h = skip ms (sym (skip-first x xs p r) ∙ e) in omega arith
 
 -- a message taken at the place where the octets begin is the first
-at-front : (t : List ℕ) (k p : ℕ) (ms : List Placed) (m : Placed) (ns : List Placed) → takenFrom t k p ≡ ms ++ (m ∷ ns) → m .place ≡ p → m ∷ ns ≡ takenFrom t 0 p
+at-front : (t : List ℕ) (k p : ℕ) (ms : List Placed) (m : Placed) (ns : List Placed) → takenFrom t k p ≡ ms ++ (m ∷ ns) → m .place ≡ p
+    → m ∷ ns ≡ takenFrom t 0 p
 unfolding takenFrom
 at-front [] k p ms m ns e at = absurd (none ms m ns e)
 at-front (x ∷ xs) (suc k) p ms m ns e at = absurd (omega (arith, later xs k (p + 1) ms m ns e))
 at-front (x ∷ xs) zero p ms m ns e at = step (which (readable (x ∷ xs))) ms e where
-  step : (readable (x ∷ xs) ≡ true) ⊎ (readable (x ∷ xs) ≡ false) → (ms : List Placed) → takenFrom (x ∷ xs) 0 p ≡ ms ++ (m ∷ ns) → m ∷ ns ≡ takenFrom (x ∷ xs) 0 p
+  step : (readable (x ∷ xs) ≡ true) ⊎ (readable (x ∷ xs) ≡ false) → (ms : List Placed) → takenFrom (x ∷ xs) 0 p ≡ ms ++ (m ∷ ns)
+      → m ∷ ns ≡ takenFrom (x ∷ xs) 0 p
   step (inl r) [] e = sym e
   step (inl r) (k ∷ ms) e = absurd (omega (arith, later xs (size (x ∷ xs) - 1) (p + 1) ms m ns (tail-eq-of-cons-eq (sym (take-first x xs p r) ∙ e))))
   step (inr r) ms e = absurd (omega (arith, later xs 0 (p + 1) ms m ns (sym (skip-first x xs p r) ∙ e)))
 
-taken-tail : (x t : List ℕ) (k p : ℕ) (ms : List Placed) (m : Placed) (ns : List Placed) → takenFrom (x ++ t) k p ≡ ms ++ (m ∷ ns) → m .place ≡ p + length x → m ∷ ns ≡ takenFrom t 0 (p + length x)
+taken-tail : (x t : List ℕ) (k p : ℕ) (ms : List Placed) (m : Placed) (ns : List Placed) → takenFrom (x ++ t) k p ≡ ms ++ (m ∷ ns)
+    → m .place ≡ p + length x → m ∷ ns ≡ takenFrom t 0 (p + length x)
 unfolding takenFrom
 taken-tail [] t k p ms m ns e at =
     let z : p + 0 ≡ p = omega arith in
@@ -73,7 +77,9 @@ taken-tail (y ∷ x) t zero p ms m ns e at =
           → ((l : List Placed) → takenFrom (x ++ t) (size (y ∷ (x ++ t)) - 1) (p + 1) ≡ l ++ (m ∷ ns) → m ∷ ns ≡ takenFrom t 0 (p + 1 + length x))
           → ((l : List Placed) → takenFrom (x ++ t) 0 (p + 1) ≡ l ++ (m ∷ ns) → m ∷ ns ≡ takenFrom t 0 (p + 1 + length x))
           → m ∷ ns ≡ takenFrom t 0 (p + 1 + length x)
-      step (inl r) [] e take skip = let h : placed p (front (y ∷ (x ++ t))) ≡ m = head-eq-of-cons-eq (sym (take-first y (x ++ t) p r) ∙ e) in absurd (omega (arith, ap (λ (z : Placed). z .place) h))
+      step (inl r) [] e take skip =
+          let h : placed p (front (y ∷ (x ++ t))) ≡ m =
+          head-eq-of-cons-eq (sym (take-first y (x ++ t) p r) ∙ e) in absurd (omega (arith, ap (λ (z : Placed). z .place) h))
       step (inl r) (k ∷ ms) e take skip = take ms (tail-eq-of-cons-eq (sym (take-first y (x ++ t) p r) ∙ e))
       step (inr r) ms e take skip = skip ms (sym (skip-first y (x ++ t) p r) ∙ e)
 
@@ -86,8 +92,10 @@ taken-moved n (x ∷ xs) (suc k) p = ap (takenFrom xs k) (sym (next n p)) ∙ ta
   next n p = omega arith
 taken-moved n (x ∷ xs) zero p =
     let e : n + p + 1 ≡ n + (p + 1) = omega arith in
-    go (readable (x ∷ xs)) (ap (takenFrom xs (size (x ∷ xs) - 1)) e ∙ taken-moved n xs (size (x ∷ xs) - 1) (p + 1)) (ap (takenFrom xs 0) e ∙ taken-moved n xs 0 (p + 1)) where
-      go : (b : Bool) → takenFrom xs (size (x ∷ xs) - 1) (n + p + 1) ≡ moved n (takenFrom xs (size (x ∷ xs) - 1) (p + 1)) → takenFrom xs 0 (n + p + 1) ≡ moved n (takenFrom xs 0 (p + 1))
+    go (readable (x ∷ xs)) (ap (takenFrom xs (size (x ∷ xs) - 1)) e ∙ taken-moved n xs (size (x ∷ xs) - 1) (p + 1))
+    (ap (takenFrom xs 0) e ∙ taken-moved n xs 0 (p + 1)) where
+      go : (b : Bool) → takenFrom xs (size (x ∷ xs) - 1) (n + p + 1) ≡ moved n (takenFrom xs (size (x ∷ xs) - 1) (p + 1))
+          → takenFrom xs 0 (n + p + 1) ≡ moved n (takenFrom xs 0 (p + 1))
           → cond b (placed (n + p) (front (x ∷ xs)) ∷ takenFrom xs (size (x ∷ xs) - 1) (n + p + 1)) (takenFrom xs 0 (n + p + 1))
           ≡ moved n (cond b (placed p (front (x ∷ xs)) ∷ takenFrom xs (size (x ∷ xs) - 1) (p + 1)) (takenFrom xs 0 (p + 1)))
       go true a b = ap (λ (l : List Placed). placed (n + p) (front (x ∷ xs)) ∷ l) a
@@ -96,7 +104,8 @@ taken-moved n (x ∷ xs) zero p =
 skip-moved : (n a b : ℕ) (ps : List Piece) → skipTo (n + a) (n + b) (movedPieces n ps) ≡ movedPieces n (skipTo a b ps)
 unfolding skipTo
 skip-moved n a b ps = go (which (ltb a b)) where
-  go : (ltb a b ≡ true) ⊎ (ltb a b ≡ false) → cond (ltb (n + a) (n + b)) (skipped (n + a) (n + b - (n + a)) ∷ movedPieces n ps) (movedPieces n ps) ≡ movedPieces n (cond (ltb a b) (skipped a (b - a) ∷ ps) ps)
+  go : (ltb a b ≡ true) ⊎ (ltb a b ≡ false) → cond (ltb (n + a) (n + b)) (skipped (n + a) (n + b - (n + a)) ∷ movedPieces n ps) (movedPieces n ps)
+      ≡ movedPieces n (cond (ltb a b) (skipped a (b - a) ∷ ps) ps)
   go (inl e) =
       let h : a < b = ltb-true _ _ e in
       let w : n + a < n + b = omega arith in
@@ -130,7 +139,8 @@ no-skip : {A : Type 0} (a n : ℕ) (m : Placed) → skipped a n ≡ taken m → 
 no-skip a n m e = let z : _≡_ {A = ℕ} 0 1 = cc in absurd (omega arith)
 
 -- behind a stretch, skipped or empty
-past : (a b : ℕ) (ls ps : List Piece) (m : Placed) (qs : List Piece) → skipTo a b ls ≡ ps ++ (taken m ∷ qs) → (rs : List Piece) × (ls ≡ rs ++ (taken m ∷ qs))
+past : (a b : ℕ) (ls ps : List Piece) (m : Placed) (qs : List Piece) → skipTo a b ls ≡ ps ++ (taken m ∷ qs)
+    → (rs : List Piece) × (ls ≡ rs ++ (taken m ∷ qs))
 unfolding skipTo
 past a b ls ps m qs e = go (ltb a b) ps e where
   go : (c : Bool) (ps : List Piece) → cond c (skipped a (b - a) ∷ ls) ls ≡ ps ++ (taken m ∷ qs) → (rs : List Piece) × (ls ≡ rs ++ (taken m ∷ qs))
@@ -138,13 +148,15 @@ past a b ls ps m qs e = go (ltb a b) ps e where
   go true [] e = no-skip a (b - a) m (head-eq-of-cons-eq e)
   go true (p ∷ ps) e = (ps, tail-eq-of-cons-eq e)
 
-among : (a : ℕ) (ms : List Placed) (end : ℕ) (ps : List Piece) (m : Placed) (qs : List Piece) → piecesFrom a ms end ≡ ps ++ (taken m ∷ qs) → Among ms end m qs
+among : (a : ℕ) (ms : List Placed) (end : ℕ) (ps : List Piece) (m : Placed) (qs : List Piece) → piecesFrom a ms end ≡ ps ++ (taken m ∷ qs)
+    → Among ms end m qs
 unfolding piecesFrom
 among a [] end ps m qs e = let (rs, h) = past a end [] ps m qs e in absurd (none rs (taken m) qs h)
 among a (k ∷ ms) end ps m qs e =
     let (rs, h) = past a (k .place) (taken k ∷ piecesFrom (k .place + length (k .octets)) ms end) ps m qs e in
     go rs h (λ l g. among (k .place + length (k .octets)) ms end l m qs g) where
-      go : (rs : List Piece) → taken k ∷ piecesFrom (k .place + length (k .octets)) ms end ≡ rs ++ (taken m ∷ qs) → ((l : List Piece) → piecesFrom (k .place + length (k .octets)) ms end ≡ l ++ (taken m ∷ qs) → Among ms end m qs) → Among (k ∷ ms) end m qs
+      go : (rs : List Piece) → taken k ∷ piecesFrom (k .place + length (k .octets)) ms end ≡ rs ++ (taken m ∷ qs)
+          → ((l : List Piece) → piecesFrom (k .place + length (k .octets)) ms end ≡ l ++ (taken m ∷ qs) → Among ms end m qs) → Among (k ∷ ms) end m qs
       go [] h ih =
           let same : k ≡ m = same-taken k m (head-eq-of-cons-eq h) in
           record {
@@ -164,7 +176,8 @@ tail-alone x t ps m qs e at =
     let z : length x ≡ 0 + length x = omega arith in
     let n : 0 + length x ≡ length x + 0 = omega arith in
     let z0 : length x ≡ length x + 0 = omega arith in
-    let messages : m ∷ w .behind ≡ moved (length x) (takenOf t) = taken-tail x t 0 0 (w .before) m (w .behind) (w .is) (at ∙ z) ∙ ap (takenFrom t 0) n ∙ taken-moved (length x) t 0 0 in
+    let messages : m ∷ w .behind ≡ moved (length x) (takenOf t) =
+    taken-tail x t 0 0 (w .before) m (w .behind) (w .is) (at ∙ z) ∙ ap (takenFrom t 0) n ∙ taken-moved (length x) t 0 0 in
     ap (λ (l : List Piece). taken m ∷ l) (w .rest)
     ∙ sym (skip-none (length x) (m .place) (taken m ∷ piecesFrom (m .place + length (m .octets)) (w .behind) (length (x ++ t))) (omega arith))
     ∙ ap (λ (ms : List Placed). piecesFrom (length x) ms (length (x ++ t))) messages
@@ -176,16 +189,20 @@ tail-alone x t ps m qs e at =
 pub piece-lines-append : (ps qs : List Piece) → allPieceLines (ps ++ qs) ≡ allPieceLines ps ++ allPieceLines qs
 unfolding allPieceLines
 piece-lines-append [] qs = refl
-piece-lines-append (p ∷ ps) qs = ap (λ (l : List (List (List ℕ))). pieceLines p ++ l) (piece-lines-append ps qs) ∙ sym (append-assoc (pieceLines p) (allPieceLines ps) (allPieceLines qs))
+piece-lines-append (p ∷ ps) qs =
+    ap (λ (l : List (List (List ℕ))). pieceLines p ++ l) (piece-lines-append ps qs)
+    ∙ sym (append-assoc (pieceLines p) (allPieceLines ps) (allPieceLines qs))
 
 -- the lines of a file that is not too long
-pub lines-short : (s : List ℕ) → length s ≤ 65535 → recoveredLines s ≡ texts (allPieceLines (piecesOf s)) ++ (joined (endLine (length (takenOf s)) (length s)) ∷ [])
+pub lines-short : (s : List ℕ) → length s ≤ 65535
+    → recoveredLines s ≡ texts (allPieceLines (piecesOf s)) ++ (joined (endLine (length (takenOf s)) (length s)) ∷ [])
 unfolding recoveredLines recoveryLines texts
 lines-short s h = rw (le-leb _ _ h) (texts-append (allPieceLines (piecesOf s)) (endLine (length (takenOf s)) (length s) ∷ []))
 
 moved-none : (ps : List Piece) → movedPieces 0 ps ≡ ps
 moved-none [] = refl
-moved-none (taken m ∷ ps) = ap (λ (n : ℕ). taken (placed n (m .octets)) ∷ movedPieces 0 ps) (zero-add (m .place)) ∙ ap (λ (l : List Piece). taken m ∷ l) (moved-none ps)
+moved-none (taken m ∷ ps) =
+    ap (λ (n : ℕ). taken (placed n (m .octets)) ∷ movedPieces 0 ps) (zero-add (m .place)) ∙ ap (λ (l : List Piece). taken m ∷ l) (moved-none ps)
 moved-none (skipped p n ∷ ps) = ap (λ (k : ℕ). skipped k n ∷ movedPieces 0 ps) (zero-add p) ∙ ap (λ (l : List Piece). skipped p n ∷ l) (moved-none ps)
 
 pub tail-lines : TailLines
@@ -197,13 +214,20 @@ tail-lines x t ps m qs e at short =
           ∙ ap (λ (l : List (List ℕ)). l ++ last) (texts-append (allPieceLines ps) (allPieceLines (movedPieces (length x) (piecesOf t))))
           ∙ append-assoc (texts (allPieceLines ps)) (texts (allPieceLines (movedPieces (length x) (piecesOf t)))) last,
       lines-short t (omega (arith, length-append x t))
-          ∙ ap (λ (l : List Piece). texts (allPieceLines l) ++ (joined (endLine (length (takenOf t)) (length t)) ∷ [])) (sym (moved-none (piecesOf t))),
+          ∙ ap (λ (l : List Piece). texts (allPieceLines l) ++ (joined (endLine (length (takenOf t)) (length t)) ∷ []))
+          (sym (moved-none (piecesOf t))),
     )
 
 moved-both : (n k : ℕ) (ps : List Piece) → movedPieces n (movedPieces k ps) ≡ movedPieces k (movedPieces n ps)
 moved-both n k [] = refl
-moved-both n k (taken m ∷ ps) = let e : n + (k + m .place) ≡ k + (n + m .place) = omega arith in ap (λ (j : ℕ). taken (placed j (m .octets)) ∷ movedPieces n (movedPieces k ps)) e ∙ ap (λ (l : List Piece). taken (placed (k + (n + m .place)) (m .octets)) ∷ l) (moved-both n k ps)
-moved-both n k (skipped p j ∷ ps) = let e : n + (k + p) ≡ k + (n + p) = omega arith in ap (λ (i : ℕ). skipped i j ∷ movedPieces n (movedPieces k ps)) e ∙ ap (λ (l : List Piece). skipped (k + (n + p)) j ∷ l) (moved-both n k ps)
+moved-both n k (taken m ∷ ps) =
+    let e : n + (k + m .place) ≡ k + (n + m .place) =
+    omega arith in ap (λ (j : ℕ). taken (placed j (m .octets)) ∷ movedPieces n (movedPieces k ps)) e
+    ∙ ap (λ (l : List Piece). taken (placed (k + (n + m .place)) (m .octets)) ∷ l) (moved-both n k ps)
+moved-both n k (skipped p j ∷ ps) =
+    let e : n + (k + p) ≡ k + (n + p) =
+    omega arith in
+    ap (λ (i : ℕ). skipped i j ∷ movedPieces n (movedPieces k ps)) e ∙ ap (λ (l : List Piece). skipped (k + (n + p)) j ∷ l) (moved-both n k ps)
 
 pub damage-before : DamageBefore
 damage-before x y t ps ps′ m m′ qs qs′ e at f there =

@@ -34,7 +34,8 @@ readable-passes s e =
     let z = readable-sized s e in
     let (common, body) = pass-cut (commonRows (length s) (headOf s)) (frontRows s) e in
     let order : allPass (orderRows (headOf s) (headOf s .sequence) (headOf s .conversation)) ≡ true =
-    giving (orderRows (headOf s) (headOf s .sequence) (headOf s .conversation)) (eq-eqb (headOf s .sequence) (headOf s .sequence) refl, (id-refl (headOf s .conversation) (sixteen s (z .forty)), tt)) in
+    giving (orderRows (headOf s) (headOf s .sequence) (headOf s .conversation))
+    (eq-eqb (headOf s .sequence) (headOf s .sequence) refl, (id-refl (headOf s .conversation) (sixteen s (z .forty)), tt)) in
     pass-append (commonRows (length s) (headOf s)) (orderRows (headOf s) (headOf s .sequence) (headOf s .conversation) ++ frontRows s) common
     (pass-append (orderRows (headOf s) (headOf s .sequence) (headOf s .conversation)) (frontRows s) order body)
 

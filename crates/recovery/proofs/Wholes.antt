@@ -25,7 +25,8 @@ use Rattle.recovery.proofs.Tails.{lines-short}
 take-messages : (ms : List (List ℕ)) (p q : ℕ) (v : List ℕ) → Numbered q v ms → takenFrom (join ms) 0 p ≡ placedFrom p ms
 unfolding takenFrom
 take-messages [] p q v e = refl
-take-messages (m ∷ ms) p q v e = take-message q v m (join ms) p (e .0) ∙ ap (λ (l : List Placed). placed p m ∷ l) (take-messages ms (p + length m) (q + 1) v (e .1))
+take-messages (m ∷ ms) p q v e =
+    take-message q v m (join ms) p (e .0) ∙ ap (λ (l : List Placed). placed p m ∷ l) (take-messages ms (p + length m) (q + 1) v (e .1))
 
 -- and nothing between them is skipped
 nothing-skipped : (ms : List (List ℕ)) (p end : ℕ) → p + length (join ms) ≡ end → piecesFrom p (placedFrom p ms) end ≡ map taken (placedFrom p ms)
@@ -44,7 +45,9 @@ pub whole-token : WholeToken
 unfolding linesOf readingLines texts
 whole-token s ps e =
     let (ms, (split, places)) = accepted-splits s ps e in
-    let all : takenOf s ≡ ps = ap (λ (l : List ℕ). takenFrom l 0 0) (sym (split .joins)) ∙ take-messages ms 0 (headOf s .sequence) (headOf s .conversation) (split .numbered) ∙ places in
+    let all : takenOf s ≡ ps =
+    ap (λ (l : List ℕ). takenFrom l 0 0) (sym (split .joins)) ∙ take-messages ms 0 (headOf s .sequence) (headOf s .conversation) (split .numbered)
+    ∙ places in
     let pieces : piecesOf s ≡ map taken ps =
     ap (λ (l : List Placed). piecesFrom 0 l (length s)) (all ∙ sym places)
     ∙ nothing-skipped ms 0 (length s) (omega (arith, ap length (split .joins)))

@@ -94,7 +94,8 @@ TailLines =
     (x t : List ℕ) (ps : List Piece) (m : Placed) (qs : List Piece)
     → piecesOf (x ++ t) ≡ ps ++ (taken m ∷ qs) → m .place ≡ length x → length (x ++ t) ≤ 65535
     → (recoveredLines (x ++ t)
-    ≡ texts (allPieceLines ps) ++ (texts (allPieceLines (movedPieces (length x) (piecesOf t))) ++ (joined (endLine (length (takenOf (x ++ t))) (length (x ++ t))) ∷ [])))
+    ≡ texts (allPieceLines ps)
+    ++ (texts (allPieceLines (movedPieces (length x) (piecesOf t))) ++ (joined (endLine (length (takenOf (x ++ t))) (length (x ++ t))) ∷ [])))
     × (recoveredLines t ≡ texts (allPieceLines (movedPieces 0 (piecesOf t))) ++ (joined (endLine (length (takenOf t)) (length t)) ∷ []))
 
 -- the damage may also have changed how many octets stand before the place

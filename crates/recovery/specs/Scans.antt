@@ -37,13 +37,15 @@ takenBy s t n =
     }
 
 abbrev pub skippedBy : Scan → List ℕ → Scanned
-skippedBy s d = record { scan = record { progress = s .progress; place = record { 0 = s .place .0 + 1 }; end = s .end; taken = s .taken }; buffer = d }
+skippedBy s d =
+    record { scan = record { progress = s .progress; place = record { 0 = s .place .0 + 1 }; end = s .end; taken = s .taken }; buffer = d }
 
 -- "that message is taken and reading goes on behind it; elsewhere one octet is skipped"
 unfoldable pub advanced : List ℕ → Scan → List ℕ → Scanned
 advanced rest s d =
     cond (readable rest)
-    (takenBy s (steps (texts (messageLines (s .place .0) (front rest))) (steps (stretch (s .end .0) (s .place .0)) (within (s .progress) d))) (size rest))
+    (takenBy s (steps (texts (messageLines (s .place .0) (front rest))) (steps (stretch (s .end .0) (s .place .0)) (within (s .progress) d)))
+    (size rest))
     (skippedBy s d)
 
 pub record InFile (s : Scan) (left : ℕ) : Type 0 where

@@ -42,7 +42,8 @@ behind-part w s f e h =
     kept (sameOctets (take (length w) (part s f e)) w) (drop (length w) (part s f e)) (part s (f + length w) e) h
     (rw (z, ← drop-drop (length w) f s) (sym (drop-take (length w) (e - f) (drop f s))))
 
-module _ (w s : List ℕ) (at : ℕ) (p : Place) (p-is : NextLine s at p) (v : List ℕ) (v-is : v ≡ part s (p .from) (p .end)) (n : List ℕ) (n-is : n ≡ behindWord w v) where
+module _ (w s : List ℕ) (at : ℕ) (p : Place) (p-is : NextLine s at p) (v : List ℕ) (v-is : v ≡ part s (p .from) (p .end)) (n : List ℕ)
+    (n-is : n ≡ behindWord w v) where
   name-is : n ≡ behindWord w (getD (countedFrom s at) 0 [])
   name-is = n-is ∙ ap (behindWord w) (v-is ∙ p-is .line)
 
@@ -65,7 +66,8 @@ four-are (a ∷ []) = refl
 four-are (a ∷ b ∷ []) = refl
 four-are (a ∷ b ∷ c ∷ []) = refl
 four-are (a ∷ b ∷ c ∷ d ∷ []) = refl
-four-are (a ∷ b ∷ c ∷ d ∷ e ∷ ls) = rw (lt-ltb 0 (length (e ∷ ls)) (omega arith)) (sym (ne-eqb (length (a ∷ b ∷ c ∷ d ∷ e ∷ ls)) 4 (λ h. omega arith)))
+four-are (a ∷ b ∷ c ∷ d ∷ e ∷ ls) =
+    rw (lt-ltb 0 (length (e ∷ ls)) (omega arith)) (sym (ne-eqb (length (a ∷ b ∷ c ∷ d ∷ e ∷ ls)) 4 (λ h. omega arith)))
 
 module _ (s : List ℕ) (p q i a x : Place)
     (p-is : NameLine (quoted "initiator ") s 0 p)
@@ -109,7 +111,8 @@ module _ (s : List ℕ) (p q i a x : Place)
     four = rw (x-is .there, from-4, a-is .there, from-3) (four-are (countedLines (textLines s)))
 
     module _ (fourth fifth last n m both ok : Bool) (fourth-is : fourth ≡ ltb (a .from) (a .end)) (fifth-is : fifth ≡ ltb (x .from) (x .end))
-        (last-is : last ≡ cond fifth false fourth) (n-is : n ≡ ltb (p .from) (p .end)) (m-is : m ≡ ltb (q .from) (q .end)) (both-is : both ≡ (n && m)) (ok-is : ok ≡ (last && both)) where
+        (last-is : last ≡ cond fifth false fourth) (n-is : n ≡ ltb (p .from) (p .end)) (m-is : m ≡ ltb (q .from) (q .end)) (both-is : both ≡ (n && m))
+        (ok-is : ok ≡ (last && both)) where
       pub four-lines : FourLines s (record { ok = ok; initiator = p; acceptor = q; i = i; a = a })
       four-lines =
           record {
@@ -129,13 +132,16 @@ conds false y z c = refl
 
 sides-by : (l : Bool) (s : List ℕ) (p q : Place) (i a : GivenText) (d e : List ℕ) (x y : Bool)
     → cond (l && (x && y)) (bothSides (sideAs s p i d) (sideAs s q a e)) badCase
-    ≡ cond l (sidesBy (part s (p .from) (p .end)) (cond x (gives (i .marks) (i .length) (take (i .length) d)) nothingGiven) (part s (q .from) (q .end)) (cond y (gives (a .marks) (a .length) (take (a .length) e)) nothingGiven)) badCase
+    ≡ cond l
+    (sidesBy (part s (p .from) (p .end)) (cond x (gives (i .marks) (i .length) (take (i .length) d)) nothingGiven) (part s (q .from) (q .end))
+    (cond y (gives (a .marks) (a .length) (take (a .length) e)) nothingGiven)) badCase
 sides-by false s p q i a d e x y = refl
 sides-by true s p q i a d e true true = refl
 sides-by true s p q i a d e true false = refl
 sides-by true s p q i a d e false y = refl
 
-module _ (s : List ℕ) (iroom aroom : ℕ) (r : Places) (r-is : FourLines s r) (v : List ℕ) (v-is : v ≡ part s (r .i .from) (r .i .end)) (i : GivenText) (d : List ℕ) (i-is : givenAs i d ≡ givenOf (quoted "i") v iroom)
+module _ (s : List ℕ) (iroom aroom : ℕ) (r : Places) (r-is : FourLines s r) (v : List ℕ) (v-is : v ≡ part s (r .i .from) (r .i .end)) (i : GivenText)
+    (d : List ℕ) (i-is : givenAs i d ≡ givenOf (quoted "i") v iroom)
     (u : List ℕ) (u-is : u ≡ part s (r .a .from) (r .a .end)) (a : GivenText) (e : List ℕ) (a-is : givenAs a e ≡ givenOf (quoted "a") u aroom) where
   given-2 : givenOf (quoted "i") (lineAt 2 s) iroom ≡ givenAs i d
   given-2 = sym (i-is ∙ ap (λ (l : List ℕ). givenOf (quoted "i") l iroom) (v-is ∙ r-is .i))
@@ -143,12 +149,15 @@ module _ (s : List ℕ) (iroom aroom : ℕ) (r : Places) (r-is : FourLines s r) 
   given-3 : givenOf (quoted "a") (lineAt 3 s) aroom ≡ givenAs a e
   given-3 = sym (a-is ∙ ap (λ (l : List ℕ). givenOf (quoted "a") l aroom) (u-is ∙ r-is .a))
 
-  case-by : caseIn s iroom aroom ≡ cond (r .ok) (sidesBy (part s (r .initiator .from) (r .initiator .end)) (givenAs i d) (part s (r .acceptor .from) (r .acceptor .end)) (givenAs a e)) badCase
+  case-by : caseIn s iroom aroom ≡ cond (r .ok)
+      (sidesBy (part s (r .initiator .from) (r .initiator .end)) (givenAs i d) (part s (r .acceptor .from) (r .acceptor .end)) (givenAs a e)) badCase
   unfolding caseIn
   case-by =
       sym
-      (conds (eqb (length (countedLines (textLines s))) 4) (hasName (behindWord (quoted "initiator ") (lineAt 0 s))) (hasName (behindWord (quoted "acceptor ") (lineAt 1 s)))
-      (sidesBy (behindWord (quoted "initiator ") (lineAt 0 s)) (givenOf (quoted "i") (lineAt 2 s) iroom) (behindWord (quoted "acceptor ") (lineAt 1 s)) (givenOf (quoted "a") (lineAt 3 s) aroom)))
+      (conds (eqb (length (countedLines (textLines s))) 4) (hasName (behindWord (quoted "initiator ") (lineAt 0 s)))
+      (hasName (behindWord (quoted "acceptor ") (lineAt 1 s)))
+      (sidesBy (behindWord (quoted "initiator ") (lineAt 0 s)) (givenOf (quoted "i") (lineAt 2 s) iroom)
+      (behindWord (quoted "acceptor ") (lineAt 1 s)) (givenOf (quoted "a") (lineAt 3 s) aroom)))
       ∙ rw (← r-is .ok, ← r-is .initiator, ← r-is .acceptor, given-2, given-3)
 
   module _ (given ok : Bool) (given-is : given ≡ (i .ok && a .ok)) (ok-is : ok ≡ (r .ok && given)) where

@@ -101,7 +101,8 @@ module _ (s : List ℕ) (at from : ℕ) (inv : countedFrom s at ≡ countedFrom 
         inside = omega arith;
       }
 
-  module _ (more : from < length s) (end : ℕ) (end-is : end ≡ from + indexOf 10 (slice from (length s) s)) (v : List ℕ) (v-is : v ≡ part s from end) (b : Bool) (b-is : b ≡ counts v) where
+  module _ (more : from < length s) (end : ℕ) (end-is : end ≡ from + indexOf 10 (slice from (length s) s)) (v : List ℕ) (v-is : v ≡ part s from end)
+      (b : Bool) (b-is : b ≡ counts v) where
     pub next-more : b ≡ false → countedFrom s at ≡ countedFrom s (end + 1)
     next-more h = inv ∙ line-at s from more end end-is ∙ rw (← v-is, ← b-is, h)
 
@@ -111,7 +112,8 @@ module _ (s : List ℕ) (at from : ℕ) (inv : countedFrom s at ≡ countedFrom 
         let l : 0 < length v = counts-some v (sym b-is ∙ h) in
         record {
           line = rw e (sym v-is);
-          there = part-there s from end i ∙ rw (← v-is, e) (lt-ltb 0 (length v) l ∙ sym (lt-ltb 0 (length (v ∷ countedFrom s (end + 1))) (omega arith)));
+          there =
+              part-there s from end i ∙ rw (← v-is, e) (lt-ltb 0 (length v) l ∙ sym (lt-ltb 0 (length (v ∷ countedFrom s (end + 1))) (omega arith)));
           rest = rw e;
           onward = omega (arith, end-is);
           inside = i;

@@ -1,4 +1,5 @@
--- The text of a case that `replay` takes, as one value. Quotations are README.md's, "What a replay looks like" and, of comments, "What a conversation looks like".
+-- The text of a case that `replay` takes, as one value. Quotations are README.md's, "What a replay looks like" and, of comments, "What a conversation looks
+-- like".
 --
 -- Glossary
 --   textLines s      the lines of a text, without the line feeds that end them; onFirst c ls: the lines ls with the octet c in front of the first of them

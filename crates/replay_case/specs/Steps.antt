@@ -34,7 +34,9 @@ pub record NameLine (w s : List ℕ) (at : ℕ) (r : Place) : Type 0 where
   pub inside : r .end ≤ length s
 
 pub record FourLines (s : List ℕ) (r : Places) : Type 0 where
-  pub ok : r .ok ≡ (eqb (length (countedLines (textLines s))) 4 && (hasName (behindWord (quoted "initiator ") (lineAt 0 s)) && hasName (behindWord (quoted "acceptor ") (lineAt 1 s))))
+  pub ok : r .ok
+      ≡ (eqb (length (countedLines (textLines s))) 4
+      && (hasName (behindWord (quoted "initiator ") (lineAt 0 s)) && hasName (behindWord (quoted "acceptor ") (lineAt 1 s))))
   pub initiator : part s (r .initiator .from) (r .initiator .end) ≡ behindWord (quoted "initiator ") (lineAt 0 s)
   pub acceptor : part s (r .acceptor .from) (r .acceptor .end) ≡ behindWord (quoted "acceptor ") (lineAt 1 s)
   pub i : part s (r .i .from) (r .i .end) ≡ lineAt 2 s

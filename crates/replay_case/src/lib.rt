@@ -133,7 +133,8 @@ fn four_lines(text: &[u8]) -> Places
 
 // Reads the text of a case. The ids of each side are put at the front of its slice.
 pub fn read_case(text: &[u8], ilist: &mut [u8], alist: &mut [u8]) -> CaseText
-    ensures { λ r. ⌜ caseAs r (now (text .entry)) (now (ilist .exit)) (now (alist .exit)) ≡ caseIn (now (text .entry)) (length (now (ilist .entry))) (length (now (alist .entry))) ⌝ }
+    ensures { λ r. ⌜ caseAs r (now (text .entry)) (now (ilist .exit)) (now (alist .exit)) ≡ caseIn (now (text .entry)) (length (now (ilist .entry)))
+        (length (now (alist .entry))) ⌝ }
 {
     let lines = four_lines(text);
     let initiator = lines.initiator;

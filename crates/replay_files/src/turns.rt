@@ -82,7 +82,8 @@ fn show_turns(
     text: &mut [u8],
 ) -> Replay
     requires { ⌜ Fine (now ifile) (now afile) s × (s .more ≡ true) × (endingAs (s .fault) ≡ finished) ⌝ }
-    ensures { λ r. ⌜ playedAs r (now (d .exit)) ≡ counted (s .turns) (summary (restOf marks (now (ifile .entry)) (now (afile .entry)) s (now (d .entry)))) ⌝ }
+    ensures { λ r. ⌜ playedAs r (now (d .exit)) ≡ counted (s .turns)
+        (summary (restOf marks (now (ifile .entry)) (now (afile .entry)) s (now (d .entry)))) ⌝ }
 {
     let mut r = s;
     while r.more {

@@ -49,7 +49,8 @@ module _ (x : Bool) (i : List ℕ) (t u : Text) where
 
 pub ruleset choices = (choice-none, choice-some)
 
-pub refusal-is : (n p : ℕ) (w : Whose) (t a b u : Text) → a ≡ written (quoted "refused " ∷ decimal n ∷ []) t → b ≡ written (quoted " at=" ∷ decimal64 p ∷ []) a
+pub refusal-is : (n p : ℕ) (w : Whose) (t a b u : Text) → a ≡ written (quoted "refused " ∷ decimal n ∷ []) t
+    → b ≡ written (quoted " at=" ∷ decimal64 p ∷ []) a
     → u ≡ written (sideText w ∷ []) b → u ≡ written (refusedLine n p w) t
 unfolding refusedLine
 refusal-is n p w t a b u f g h = then t b u _ _ (then t a b _ _ f g) h
@@ -64,7 +65,8 @@ module _ (f : Fault) (t u : Text) where
     unfolding endingAs endLines written
     end-finished h = rw (there, eq-eqb _ _ h)
 
-    pub end-refused : (f .refusal ≡ 0 → ⊥) → u ≡ written (refusedLine (f .refusal) (f .place .0) (whoseAs (f .whose))) t → u ≡ written (endLines (endingAs f)) t
+    pub end-refused : (f .refusal ≡ 0 → ⊥) → u ≡ written (refusedLine (f .refusal) (f .place .0) (whoseAs (f .whose))) t
+        → u ≡ written (endLines (endingAs f)) t
     unfolding endingAs endLines
     end-refused h e = rw (there, ne-eqb _ _ h) e
 

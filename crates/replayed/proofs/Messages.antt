@@ -36,8 +36,17 @@ pub record Headed (type q : ℕ) (v m : List ℕ) : Type 0 where
   pub talk : (rest : List ℕ) → headOf (m ++ rest) .conversation ≡ v
   pub kind : headOf m .kind ≡ type
 
-module _ (r : Record) (kind : ℕ) (c : Contents) (number : r .sequence ≤ 1023) (id : length (r .conversation) ≡ 16) (w : Whole c) (short : length (messageOf r kind c) ≤ 65535) where
-  head-written : (rest : List ℕ) → headOf (messageOf r kind c ++ rest) ≡ record { signature = SIGNATURE; kind = typeOf (r .acceptor) kind; sequence = r .sequence; header = headerOf (shapeOf (typeOf (r .acceptor) kind)); length = sizeOf c; conversation = r .conversation }
+module _ (r : Record) (kind : ℕ) (c : Contents) (number : r .sequence ≤ 1023) (id : length (r .conversation) ≡ 16) (w : Whole c)
+    (short : length (messageOf r kind c) ≤ 65535) where
+  head-written : (rest : List ℕ) → headOf (messageOf r kind c ++ rest)
+      ≡ record {
+        signature = SIGNATURE;
+        kind = typeOf (r .acceptor) kind;
+        sequence = r .sequence;
+        header = headerOf (shapeOf (typeOf (r .acceptor) kind));
+        length = sizeOf c;
+        conversation = r .conversation;
+      }
   unfolding encoded
   head-written rest =
       let h : Heading = heading r kind in
@@ -59,15 +68,19 @@ module _ (r : Record) (kind : ℕ) (c : Contents) (number : r .sequence ≤ 1023
 
 -- 2. the scheme
 
-scheme-at : (r : Record) (kind : ℕ) (s : Id) (c : Contents) (more : List (List ℕ)) → bodyFields c ≡ s ∷ more → length (r .conversation) ≡ 16 → length s ≡ 16 → schemeIn (messageOf r kind c) ≡ s
+scheme-at : (r : Record) (kind : ℕ) (s : Id) (c : Contents) (more : List (List ℕ)) → bodyFields c ≡ s ∷ more → length (r .conversation) ≡ 16
+    → length s ≡ 16 → schemeIn (messageOf r kind c) ≡ s
 unfolding encoded
 scheme-at r kind s c more is talk whole =
-    octets-at 6 40 (headFields (heading r kind) (sizeOf c) ++ bodyFields c) (simp (length-append, talk)) s more (ap (λ (l : List (List ℕ)). l) is) 16 whole
+    octets-at 6 40 (headFields (heading r kind) (sizeOf c) ++ bodyFields c) (simp (length-append, talk)) s more
+    (ap (λ (l : List (List ℕ)). l) is) 16 whole
 
-pub scheme-exchange : (r : Record) (kind : ℕ) (s value : List ℕ) → length (r .conversation) ≡ 16 → length s ≡ 16 → schemeIn (messageOf r kind (ofExchange (record { scheme = s; value = value }))) ≡ s
+pub scheme-exchange : (r : Record) (kind : ℕ) (s value : List ℕ) → length (r .conversation) ≡ 16 → length s ≡ 16
+    → schemeIn (messageOf r kind (ofExchange (record { scheme = s; value = value }))) ≡ s
 scheme-exchange r kind s value talk whole = scheme-at r kind s (ofExchange (record { scheme = s; value = value })) _ refl talk whole
 
-pub scheme-spoken : (r : Record) (s : Id) (c : Speech) → length (r .conversation) ≡ 16 → length s ≡ 16 → schemeIn (messageOf r (classIn c) (contentsIn s c)) ≡ s
+pub scheme-spoken : (r : Record) (s : Id) (c : Speech) → length (r .conversation) ≡ 16 → length s ≡ 16
+    → schemeIn (messageOf r (classIn c) (contentsIn s c)) ≡ s
 scheme-spoken r s (request value) talk whole = scheme-exchange r _ s value talk whole
 scheme-spoken r s (checksum type value) talk whole = scheme-at r _ s (contentsIn s (checksum type value)) _ refl talk whole
 scheme-spoken r s (alarm code) talk whole = scheme-at r _ s (contentsIn s (alarm code)) _ refl talk whole
@@ -94,7 +107,8 @@ unfolding idsAt
 ids-joined zero a h = refl
 ids-joined (suc n) a h =
     let e : 16 * suc n ≡ 16 + 16 * n = omega arith in
-    ap (λ (k : ℕ). take k a) e ∙ take-add 16 (16 * n) a ∙ ap (λ (l : List ℕ). take 16 a ++ l) (ids-joined n (drop 16 a) (λ s m. h s (List·Memᴰ·tail m)))
+    ap (λ (k : ℕ). take k a) e ∙ take-add 16 (16 * n) a ∙ ap (λ (l : List ℕ). take 16 a ++ l)
+    (ids-joined n (drop 16 a) (λ s m. h s (List·Memᴰ·tail m)))
 
 pub own-joined : (r : Record) → ((k : ℕ) → k < r .count → length (schemeAt r k) ≡ 16) → take (16 * r .count) (r .list) ≡ joinIds (ownOf r)
 own-joined r h = ids-joined (r .count) (r .list) (own-sized r h)

@@ -24,7 +24,8 @@ pub record Level (r : Record) (ms : List (List ℕ)) : Type 0 where
   pub used : r .used ≡ length (join ms)
   pub sequence : r .sequence ≡ length ms
 
-pub level-on : (r : Record) (ms ns : List (List ℕ)) (s : Record) → Level r ms → s .used ≡ r .used + length (join ns) → s .sequence ≡ r .sequence + length ns → Level s (ms ++ ns)
+pub level-on : (r : Record) (ms ns : List (List ℕ)) (s : Record) → Level r ms → s .used ≡ r .used + length (join ns)
+    → s .sequence ≡ r .sequence + length ns → Level s (ms ++ ns)
 level-on r ms ns s l used sequence =
     let j : length (join (ms ++ ns)) ≡ length (join ms) + length (join ns) = ap length (join-append ms ns) ∙ length-append (join ms) (join ns) in
     record { used = omega (arith, l .used); sequence = omega (arith, l .sequence, length-append ms ns) }
@@ -34,7 +35,8 @@ pub record Holds (d : List ℕ) (ms : List (List ℕ)) : Type 0 where
   pub begins : take (length (join ms)) d ≡ join ms
   pub wide : 65535 ≤ length d
 
-pub holds-on : (d : List ℕ) (used : ℕ) (ms ns : List (List ℕ)) → Holds d ms → used ≡ length (join ms) → used + length (join ns) ≤ 65535 → Holds (put d used (join ns)) (ms ++ ns)
+pub holds-on : (d : List ℕ) (used : ℕ) (ms ns : List (List ℕ)) → Holds d ms → used ≡ length (join ms) → used + length (join ns) ≤ 65535
+    → Holds (put d used (join ns)) (ms ++ ns)
 holds-on d used ms ns h u short =
     let j : length (join (ms ++ ns)) ≡ length (join ms) + length (join ns) = ap length (join-append ms ns) ∙ length-append (join ms) (join ns) in
     let w = h .wide in
@@ -63,7 +65,8 @@ module _ (c : Case) where
   after-snoc s [] t = refl
   after-snoc s (u ∷ ts) t = after-snoc (soPlayed c s u) ts t
 
-  pub heard-snoc : (s : Sides) (ts : List Turn) (t : Turn) → AllHeard s ts → isAccepted (outcomeOf c (sidesAfter s ts) t .answer) ≡ true → AllHeard s (ts ++ (t ∷ []))
+  pub heard-snoc : (s : Sides) (ts : List Turn) (t : Turn) → AllHeard s ts → isAccepted (outcomeOf c (sidesAfter s ts) t .answer) ≡ true
+      → AllHeard s (ts ++ (t ∷ []))
   heard-snoc s [] t h a = (a, tt)
   heard-snoc s (u ∷ ts) t h a = (h .0, heard-snoc (soPlayed c s u) ts t (h .1) a)
 
@@ -78,7 +81,8 @@ abbrev pub AlternateTo : Bool → List Turn → Bool → Type 0
 AlternateTo x [] y = x ≡ y
 AlternateTo x (t ∷ ts) y = (t .acceptor ≡ x) × ((0 < length (t .messages)) × AlternateTo (not x) ts y)
 
-pub alternate-snoc : (x y : Bool) (ts : List Turn) (ms : List (List ℕ)) → AlternateTo x ts y → 0 < length ms → AlternateTo x (ts ++ (record { acceptor = y; messages = ms } ∷ [])) (not y)
+pub alternate-snoc : (x y : Bool) (ts : List Turn) (ms : List (List ℕ)) → AlternateTo x ts y → 0 < length ms
+    → AlternateTo x (ts ++ (record { acceptor = y; messages = ms } ∷ [])) (not y)
 alternate-snoc x y [] ms h some = (sym h, (some, ap not h))
 alternate-snoc x y (t ∷ ts) ms h some = (h .0, (h .1 .0, alternate-snoc (not x) y ts ms (h .1 .1) some))
 
@@ -101,12 +105,14 @@ side-here false [] ms = append-nil ms
 side-here true [] ms = append-nil ms
 side-here false (t ∷ ts) ms = go (t .acceptor) (side-here false ts ms) where
   go : (b : Bool) → ofSide false (ts ++ (turn false ms ∷ [])) ≡ ofSide false ts ++ ms
-      → cond b (ofSide false (ts ++ (turn false ms ∷ []))) (t .messages ++ ofSide false (ts ++ (turn false ms ∷ []))) ≡ cond b (ofSide false ts) (t .messages ++ ofSide false ts) ++ ms
+      → cond b (ofSide false (ts ++ (turn false ms ∷ []))) (t .messages ++ ofSide false (ts ++ (turn false ms ∷ [])))
+      ≡ cond b (ofSide false ts) (t .messages ++ ofSide false ts) ++ ms
   go true e = e
   go false e = onto (ofSide false ts) ms e (t .messages)
 side-here true (t ∷ ts) ms = go (t .acceptor) (side-here true ts ms) where
   go : (b : Bool) → ofSide true (ts ++ (turn true ms ∷ [])) ≡ ofSide true ts ++ ms
-      → cond b (t .messages ++ ofSide true (ts ++ (turn true ms ∷ []))) (ofSide true (ts ++ (turn true ms ∷ []))) ≡ cond b (t .messages ++ ofSide true ts) (ofSide true ts) ++ ms
+      → cond b (t .messages ++ ofSide true (ts ++ (turn true ms ∷ []))) (ofSide true (ts ++ (turn true ms ∷ [])))
+      ≡ cond b (t .messages ++ ofSide true ts) (ofSide true ts) ++ ms
   go true e = onto (ofSide true ts) ms e (t .messages)
   go false e = e
 

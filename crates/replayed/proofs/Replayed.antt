@@ -62,21 +62,27 @@ module _ (c : Case) (s₀ : Sides) (v : List ℕ) where
   -- the initiator's turn, the acceptor's, or parted
   abbrev Inv : World → Logs → List (List ℕ) → List (List ℕ) → List (List ℕ) → List (List ℕ) → Type 0
   Inv w l wi wa ri ra =
-      Good c s₀ v false (w .i) (w .a) (l .i) (l .a) wi wa ri ra ⊎ (Good c s₀ v true (w .a) (w .i) (l .a) (l .i) wa wi ra ri ⊎ Parted (w .i) (w .a) wi wa ri ra)
+      Good c s₀ v false (w .i) (w .a) (l .i) (l .a) wi wa ri ra
+      ⊎ (Good c s₀ v true (w .a) (w .i) (l .a) (l .i) wa wi ra ri ⊎ Parted (w .i) (w .a) wi wa ri ra)
 
-  move : (w : World) (l : Logs) {wi wa ri ra wi′ wa′ ri′ ra′ : List (List ℕ)} → wi ≡ wi′ → wa ≡ wa′ → ri ≡ ri′ → ra ≡ ra′ → Inv w l wi wa ri ra → Inv w l wi′ wa′ ri′ ra′
+  move : (w : World) (l : Logs) {wi wa ri ra wi′ wa′ ri′ ra′ : List (List ℕ)} → wi ≡ wi′ → wa ≡ wa′ → ri ≡ ri′ → ra ≡ ra′ → Inv w l wi wa ri ra
+      → Inv w l wi′ wa′ ri′ ra′
   move w l {wi} {wa} {ri} {ra} {wi′} {wa′} {ri′} {ra′} a b d e h =
-      subst (λ (x : List (List ℕ)). Inv w l x wa′ ri′ ra′) a (subst (λ (x : List (List ℕ)). Inv w l wi x ri′ ra′) b (subst (λ (x : List (List ℕ)). Inv w l wi wa x ra′) d (subst (λ (x : List (List ℕ)). Inv w l wi wa ri x) e h)))
+      subst (λ (x : List (List ℕ)). Inv w l x wa′ ri′ ra′) a
+      (subst (λ (x : List (List ℕ)). Inv w l wi x ri′ ra′) b
+      (subst (λ (x : List (List ℕ)). Inv w l wi wa x ra′) d (subst (λ (x : List (List ℕ)). Inv w l wi wa ri x) e h)))
 
   nil : (l : List (List ℕ)) → l ≡ l ++ []
   nil l = sym (append-nil l)
 
   -- an accepted call of the initiator
-  i-writes : (w : World) (l : Logs) (wi wa ri ra : List (List ℕ)) → Both w l → Inv w l wi wa ri ra → (k : Call) → Marked false (marksOf false c) k → isReading k ≡ false
+  i-writes : (w : World) (l : Logs) (wi wa ri ra : List (List ℕ)) → Both w l → Inv w l wi wa ri ra → (k : Call) → Marked false (marksOf false c) k
+      → isReading k ≡ false
       → isAccepted (act (w .i) (w .a .turn) k .answer) ≡ true
       → Inv (next w false k) (record { i = l .i ++ added (w .i) (w .a .turn) k; a = l .a }) (wi ++ added (w .i) (w .a .turn) k) wa ri ra
   i-writes w l wi wa ri ra b (inl g) k m n a = inl (good-writes c s₀ v false (w .i) (w .a) (l .i) (l .a) wi wa ri ra g (b .i) k m (unlike-read k n) a)
-  i-writes w l wi wa ri ra b (inr (inl g)) k m n a = inr (inr (good-parts c s₀ v true (w .a) (w .i) (l .a) (l .i) wa wi ra ri g (b .i) k (unlike-read k n) a))
+  i-writes w l wi wa ri ra b (inr (inl g)) k m n a =
+      inr (inr (good-parts c s₀ v true (w .a) (w .i) (l .a) (l .i) wa wi ra ri g (b .i) k (unlike-read k n) a))
   i-writes w l wi wa ri ra b (inr (inr p)) k m n a = inr (inr (parted-on (w .i) (w .a) (l .i) wi wa ri ra (b .i) p k (unlike-read k n) a))
 
   i-reads : (w : World) (l : Logs) (wi wa ri ra : List (List ℕ)) → Inv w l wi wa ri ra → isAccepted (act (w .i) (w .a .turn) read .answer) ≡ true
@@ -86,12 +92,16 @@ module _ (c : Case) (s₀ : Sides) (v : List ℕ) where
   i-reads w l wi wa ri ra (inr (inr p)) a = absurd (parted-unread (w .i) (w .a) wi wa ri ra p a)
 
   -- and of the acceptor
-  a-writes : (w : World) (l : Logs) (wi wa ri ra : List (List ℕ)) → Both w l → Inv w l wi wa ri ra → (k : Call) → Marked true (marksOf true c) k → isReading k ≡ false
+  a-writes : (w : World) (l : Logs) (wi wa ri ra : List (List ℕ)) → Both w l → Inv w l wi wa ri ra → (k : Call) → Marked true (marksOf true c) k
+      → isReading k ≡ false
       → isAccepted (act (w .a) (w .i .turn) k .answer) ≡ true
       → Inv (next w true k) (record { i = l .i; a = l .a ++ added (w .a) (w .i .turn) k }) wi (wa ++ added (w .a) (w .i .turn) k) ri ra
-  a-writes w l wi wa ri ra b (inl g) k m n a = inr (inr (parted-swap _ _ _ _ _ _ (good-parts c s₀ v false (w .i) (w .a) (l .i) (l .a) wi wa ri ra g (b .a) k (unlike-read k n) a)))
-  a-writes w l wi wa ri ra b (inr (inl g)) k m n a = inr (inl (good-writes c s₀ v true (w .a) (w .i) (l .a) (l .i) wa wi ra ri g (b .a) k m (unlike-read k n) a))
-  a-writes w l wi wa ri ra b (inr (inr p)) k m n a = inr (inr (parted-swap _ _ _ _ _ _ (parted-on (w .a) (w .i) (l .a) wa wi ra ri (b .a) (parted-swap _ _ _ _ _ _ p) k (unlike-read k n) a)))
+  a-writes w l wi wa ri ra b (inl g) k m n a =
+      inr (inr (parted-swap _ _ _ _ _ _ (good-parts c s₀ v false (w .i) (w .a) (l .i) (l .a) wi wa ri ra g (b .a) k (unlike-read k n) a)))
+  a-writes w l wi wa ri ra b (inr (inl g)) k m n a =
+      inr (inl (good-writes c s₀ v true (w .a) (w .i) (l .a) (l .i) wa wi ra ri g (b .a) k m (unlike-read k n) a))
+  a-writes w l wi wa ri ra b (inr (inr p)) k m n a =
+      inr (inr (parted-swap _ _ _ _ _ _ (parted-on (w .a) (w .i) (l .a) wa wi ra ri (b .a) (parted-swap _ _ _ _ _ _ p) k (unlike-read k n) a)))
 
   a-reads : (w : World) (l : Logs) (wi wa ri ra : List (List ℕ)) → Inv w l wi wa ri ra → isAccepted (act (w .a) (w .i .turn) read .answer) ≡ true
       → Inv (next w true read) (record { i = l .i; a = l .a ++ added (w .a) (w .i .turn) read }) wi wa ri (ra ++ added (w .a) (w .i .turn) read)
@@ -131,33 +141,54 @@ module _ (c : Case) (s₀ : Sides) (v : List ℕ) where
     nothing : (l : List (List ℕ)) {b : List (List ℕ)} → b ≡ [] → l ≡ l ++ b
     nothing l e = sym (append-nil l) ∙ ap (λ (k : List (List ℕ)). l ++ k) (sym e)
 
-    i-accepted : (k : Call) → Marked false (marksOf false c) k → isAccepted (act (w .i) (w .a .turn) k .answer) ≡ true → (k ≡ read) ⊎ (isReading k ≡ false) → Then false k
+    i-accepted : (k : Call) → Marked false (marksOf false c) k → isAccepted (act (w .i) (w .a .turn) k .answer) ≡ true
+        → (k ≡ read) ⊎ (isReading k ≡ false) → Then false k
     i-accepted k m a d =
-        let logs : record { i = l .i ++ added (w .i) (w .a .turn) k; a = l .a } ≡ nextLogs w false k l = ap (λ (x : List (List ℕ)). record { i = x; a = l .a }) (pick (isAccepted (outcomeAt w false k .answer)) (l .i ++ added (w .i) (w .a .turn) k) (l .i) a) in
-        subst (λ (n : Logs). Inv (next w false k) n (wi ++ addedAt isWriting false w false k) (wa ++ []) (ri ++ addedAt isReading false w false k) (ra ++ [])) logs (go d) where
+        let logs : record { i = l .i ++ added (w .i) (w .a .turn) k; a = l .a } ≡ nextLogs w false k l =
+        ap (λ (x : List (List ℕ)). record { i = x; a = l .a })
+        (pick (isAccepted (outcomeAt w false k .answer)) (l .i ++ added (w .i) (w .a .turn) k) (l .i) a) in
+        subst (λ (n : Logs). Inv (next w false k) n (wi ++ addedAt isWriting false w false k) (wa ++ []) (ri ++ addedAt isReading false w false k)
+        (ra ++ [])) logs (go d) where
           acc : Bool
           acc = isAccepted (act (w .i) (w .a .turn) k .answer)
 
-          go : (k ≡ read) ⊎ (isReading k ≡ false) → Inv (next w false k) (record { i = l .i ++ added (w .i) (w .a .turn) k; a = l .a }) (wi ++ addedAt isWriting false w false k) (wa ++ []) (ri ++ addedAt isReading false w false k) (ra ++ [])
-          go (inr e) = move (next w false k) _ (by wi (added (w .i) (w .a .turn) k) (all-of (isWriting k) acc (added (w .i) (w .a .turn) k) (ap not e) a)) (nil wa) (nothing ri (none-of (isReading k) acc (added (w .i) (w .a .turn) k) e)) (nil ra) (i-writes w l wi wa ri ra b h k m e a)
+          go : (k ≡ read) ⊎ (isReading k ≡ false) → Inv (next w false k) (record { i = l .i ++ added (w .i) (w .a .turn) k; a = l .a })
+              (wi ++ addedAt isWriting false w false k) (wa ++ []) (ri ++ addedAt isReading false w false k) (ra ++ [])
+          go (inr e) =
+              move (next w false k) _ (by wi (added (w .i) (w .a .turn) k) (all-of (isWriting k) acc (added (w .i) (w .a .turn) k) (ap not e) a))
+              (nil wa) (nothing ri (none-of (isReading k) acc (added (w .i) (w .a .turn) k) e)) (nil ra) (i-writes w l wi wa ri ra b h k m e a)
           go (inl e) =
               let r : isReading k ≡ true = ap isReading e in
-              move (next w false k) _ (nothing wi (none-of (isWriting k) acc (added (w .i) (w .a .turn) k) (ap not r))) (nil wa) (by ri (added (w .i) (w .a .turn) k) (all-of (isReading k) acc (added (w .i) (w .a .turn) k) r a)) (nil ra)
-              (subst (λ (j : Call). isAccepted (act (w .i) (w .a .turn) j .answer) ≡ true → Inv (next w false j) (record { i = l .i ++ added (w .i) (w .a .turn) j; a = l .a }) wi wa (ri ++ added (w .i) (w .a .turn) j) ra) (sym e) (i-reads w l wi wa ri ra h) a)
+              move (next w false k) _ (nothing wi (none-of (isWriting k) acc (added (w .i) (w .a .turn) k) (ap not r))) (nil wa)
+              (by ri (added (w .i) (w .a .turn) k) (all-of (isReading k) acc (added (w .i) (w .a .turn) k) r a)) (nil ra)
+              (subst (λ (j : Call). isAccepted (act (w .i) (w .a .turn) j .answer) ≡ true
+              → Inv (next w false j) (record { i = l .i ++ added (w .i) (w .a .turn) j; a = l .a }) wi wa (ri ++ added (w .i) (w .a .turn) j) ra)
+              (sym e) (i-reads w l wi wa ri ra h) a)
 
-    a-accepted : (k : Call) → Marked true (marksOf true c) k → isAccepted (act (w .a) (w .i .turn) k .answer) ≡ true → (k ≡ read) ⊎ (isReading k ≡ false) → Then true k
+    a-accepted : (k : Call) → Marked true (marksOf true c) k → isAccepted (act (w .a) (w .i .turn) k .answer) ≡ true
+        → (k ≡ read) ⊎ (isReading k ≡ false) → Then true k
     a-accepted k m a d =
-        let logs : record { i = l .i; a = l .a ++ added (w .a) (w .i .turn) k } ≡ nextLogs w true k l = ap (λ (x : List (List ℕ)). record { i = l .i; a = x }) (pick (isAccepted (outcomeAt w true k .answer)) (l .a ++ added (w .a) (w .i .turn) k) (l .a) a) in
-        subst (λ (n : Logs). Inv (next w true k) n (wi ++ []) (wa ++ addedAt isWriting true w true k) (ri ++ []) (ra ++ addedAt isReading true w true k)) logs (go d) where
+        let logs : record { i = l .i; a = l .a ++ added (w .a) (w .i .turn) k } ≡ nextLogs w true k l =
+        ap (λ (x : List (List ℕ)). record { i = l .i; a = x })
+        (pick (isAccepted (outcomeAt w true k .answer)) (l .a ++ added (w .a) (w .i .turn) k) (l .a) a) in
+        subst (λ (n : Logs). Inv (next w true k) n (wi ++ []) (wa ++ addedAt isWriting true w true k) (ri ++ [])
+        (ra ++ addedAt isReading true w true k)) logs (go d) where
           acc : Bool
           acc = isAccepted (act (w .a) (w .i .turn) k .answer)
 
-          go : (k ≡ read) ⊎ (isReading k ≡ false) → Inv (next w true k) (record { i = l .i; a = l .a ++ added (w .a) (w .i .turn) k }) (wi ++ []) (wa ++ addedAt isWriting true w true k) (ri ++ []) (ra ++ addedAt isReading true w true k)
-          go (inr e) = move (next w true k) _ (nil wi) (by wa (added (w .a) (w .i .turn) k) (all-of (isWriting k) acc (added (w .a) (w .i .turn) k) (ap not e) a)) (nil ri) (nothing ra (none-of (isReading k) acc (added (w .a) (w .i .turn) k) e)) (a-writes w l wi wa ri ra b h k m e a)
+          go : (k ≡ read) ⊎ (isReading k ≡ false) → Inv (next w true k) (record { i = l .i; a = l .a ++ added (w .a) (w .i .turn) k }) (wi ++ [])
+              (wa ++ addedAt isWriting true w true k) (ri ++ []) (ra ++ addedAt isReading true w true k)
+          go (inr e) =
+              move (next w true k) _ (nil wi)
+              (by wa (added (w .a) (w .i .turn) k) (all-of (isWriting k) acc (added (w .a) (w .i .turn) k) (ap not e) a)) (nil ri)
+              (nothing ra (none-of (isReading k) acc (added (w .a) (w .i .turn) k) e)) (a-writes w l wi wa ri ra b h k m e a)
           go (inl e) =
               let r : isReading k ≡ true = ap isReading e in
-              move (next w true k) _ (nil wi) (nothing wa (none-of (isWriting k) acc (added (w .a) (w .i .turn) k) (ap not r))) (nil ri) (by ra (added (w .a) (w .i .turn) k) (all-of (isReading k) acc (added (w .a) (w .i .turn) k) r a))
-              (subst (λ (j : Call). isAccepted (act (w .a) (w .i .turn) j .answer) ≡ true → Inv (next w true j) (record { i = l .i; a = l .a ++ added (w .a) (w .i .turn) j }) wi wa ri (ra ++ added (w .a) (w .i .turn) j)) (sym e) (a-reads w l wi wa ri ra h) a)
+              move (next w true k) _ (nil wi) (nothing wa (none-of (isWriting k) acc (added (w .a) (w .i .turn) k) (ap not r))) (nil ri)
+              (by ra (added (w .a) (w .i .turn) k) (all-of (isReading k) acc (added (w .a) (w .i .turn) k) r a))
+              (subst (λ (j : Call). isAccepted (act (w .a) (w .i .turn) j .answer) ≡ true
+              → Inv (next w true j) (record { i = l .i; a = l .a ++ added (w .a) (w .i .turn) j }) wi wa ri (ra ++ added (w .a) (w .i .turn) j))
+              (sym e) (a-reads w l wi wa ri ra h) a)
 
     -- a refused call changes nothing, and adds nothing
     none-added : (sort : Call → Bool) (x y : Bool) (k : Call) → isAccepted (outcomeAt w y k .answer) ≡ false → addedAt sort x w y k ≡ []
@@ -170,7 +201,8 @@ module _ (c : Case) (s₀ : Sides) (v : List ℕ) where
     refused-then y k a n =
         let same : w ≡ next w y k = sym (refused-stays w y k (rw (a, n))) in
         let logs : l ≡ nextLogs w y k l = kept y a in
-        move (next w y k) (nextLogs w y k l) (nothing wi (none-added isWriting false y k a)) (nothing wa (none-added isWriting true y k a)) (nothing ri (none-added isReading false y k a)) (nothing ra (none-added isReading true y k a))
+        move (next w y k) (nextLogs w y k l) (nothing wi (none-added isWriting false y k a)) (nothing wa (none-added isWriting true y k a))
+        (nothing ri (none-added isReading false y k a)) (nothing ra (none-added isReading true y k a))
         (subst (λ (m : Logs). Inv (next w y k) m wi wa ri ra) logs (subst (λ (z : World). Inv z l wi wa ri ra) same h)) where
           kept : (z : Bool) → isAccepted (outcomeAt w z k .answer) ≡ false → l ≡ nextLogs w z k l
           kept false e = rw e
@@ -185,18 +217,22 @@ module _ (c : Case) (s₀ : Sides) (v : List ℕ) where
     twelve : (y : Bool) (k : Call) → isAccepted (outcomeAt w y k .answer) ≡ false → outcomeAt w y k .answer .refusal ≡ 12 → Closes y k
     twelve false k a n =
         let is : k ≡ read = only-reading-12 (w .i) (w .a .turn) k n in
-        inl (subst (λ (x : List (List ℕ)). Shut (next w false k .i) x (ri ++ addedAt isReading false w false k)) (nothing wa (none-added isWriting true false k a))
+        inl (subst (λ (x : List (List ℕ)). Shut (next w false k .i) x (ri ++ addedAt isReading false w false k))
+        (nothing wa (none-added isWriting true false k a))
         (subst (Shut (next w false k .i) wa) (nothing ri (none-added isReading false false k a))
-        (subst (λ (j : Call). act (w .i) (w .a .turn) j .answer .refusal ≡ 12 → Shut (moved (w .i) j (act (w .i) (w .a .turn) j)) wa ri) (sym is) (λ z. shuts (w .i) (w .a .turn) wa ri z (low h z)) n))) where
+        (subst (λ (j : Call). act (w .i) (w .a .turn) j .answer .refusal ≡ 12 → Shut (moved (w .i) j (act (w .i) (w .a .turn) j)) wa ri) (sym is)
+        (λ z. shuts (w .i) (w .a .turn) wa ri z (low h z)) n))) where
           low : Inv w l wi wa ri ra → act (w .i) (w .a .turn) read .answer .refusal ≡ 12 → length ri < length wa
           low (inl g) z = absurd (writer-12 c s₀ v false (w .i) (w .a) (l .i) (l .a) wi wa ri ra g z)
           low (inr (inl g)) z = reader-12 c s₀ v true (w .a) (w .i) (l .a) (l .i) wa wi ra ri g z
           low (inr (inr p)) z = absurd (parted-12 (w .i) (w .a) (p .here) z)
     twelve true k a n =
         let is : k ≡ read = only-reading-12 (w .a) (w .i .turn) k n in
-        inr (subst (λ (x : List (List ℕ)). Shut (next w true k .a) x (ra ++ addedAt isReading true w true k)) (nothing wi (none-added isWriting false true k a))
+        inr (subst (λ (x : List (List ℕ)). Shut (next w true k .a) x (ra ++ addedAt isReading true w true k))
+        (nothing wi (none-added isWriting false true k a))
         (subst (Shut (next w true k .a) wi) (nothing ra (none-added isReading true true k a))
-        (subst (λ (j : Call). act (w .a) (w .i .turn) j .answer .refusal ≡ 12 → Shut (moved (w .a) j (act (w .a) (w .i .turn) j)) wi ra) (sym is) (λ z. shuts (w .a) (w .i .turn) wi ra z (low h z)) n))) where
+        (subst (λ (j : Call). act (w .a) (w .i .turn) j .answer .refusal ≡ 12 → Shut (moved (w .a) j (act (w .a) (w .i .turn) j)) wi ra) (sym is)
+        (λ z. shuts (w .a) (w .i .turn) wi ra z (low h z)) n))) where
           low : Inv w l wi wa ri ra → act (w .a) (w .i .turn) read .answer .refusal ≡ 12 → length ra < length wi
           low (inl g) z = reader-12 c s₀ v false (w .i) (w .a) (l .i) (l .a) wi wa ri ra g z
           low (inr (inl g)) z = absurd (writer-12 c s₀ v true (w .a) (w .i) (l .a) (l .i) wa wi ra ri g z)
@@ -205,9 +241,11 @@ module _ (c : Case) (s₀ : Sides) (v : List ℕ) where
     step : (y : Bool) (k : Call) → (isAccepted (outcomeAt w y k .answer) ≡ true → Marked y (marksOf y c) k) → Then y k ⊎ Closes y k
     step y k m = elim (which (isAccepted (outcomeAt w y k .answer))) [
       | inl a ↦ inl (go y m a)
-      | inr a ↦ elim (which (eqb (outcomeAt w y k .answer .refusal) 12)) [ inl n ↦ inr (twelve y k a (eqb-true _ _ n)) | inr n ↦ inl (refused-then y k a n) ]
+      | inr a ↦ elim (which (eqb (outcomeAt w y k .answer .refusal) 12))
+          [ inl n ↦ inr (twelve y k a (eqb-true _ _ n)) | inr n ↦ inl (refused-then y k a n) ]
     ] where
-      go : (z : Bool) → (isAccepted (outcomeAt w z k .answer) ≡ true → Marked z (marksOf z c) k) → isAccepted (outcomeAt w z k .answer) ≡ true → Then z k
+      go : (z : Bool) → (isAccepted (outcomeAt w z k .answer) ≡ true → Marked z (marksOf z c) k) → isAccepted (outcomeAt w z k .answer) ≡ true
+          → Then z k
       go false n a = i-accepted k (n a) a (reading-or k)
       go true n a = a-accepted k (n a) a (reading-or k)
 
@@ -217,19 +255,25 @@ module _ (c : Case) (s₀ : Sides) (v : List ℕ) where
   abbrev State : World → Logs → List (List ℕ) → List (List ℕ) → List (List ℕ) → List (List ℕ) → Type 0
   State w l wi wa ri ra = Inv w l wi wa ri ra ⊎ (Shut (w .i) wa ri ⊎ Shut (w .a) wi ra)
 
-  moved-to : (w : World) (l : Logs) {wi wa ri ra wi′ wa′ ri′ ra′ : List (List ℕ)} → wi ≡ wi′ → wa ≡ wa′ → ri ≡ ri′ → ra ≡ ra′ → State w l wi wa ri ra → State w l wi′ wa′ ri′ ra′
+  moved-to : (w : World) (l : Logs) {wi wa ri ra wi′ wa′ ri′ ra′ : List (List ℕ)} → wi ≡ wi′ → wa ≡ wa′ → ri ≡ ri′ → ra ≡ ra′ → State w l wi wa ri ra
+      → State w l wi′ wa′ ri′ ra′
   moved-to w l {wi} {wa} {ri} {ra} {wi′} {wa′} {ri′} {ra′} a b d e h =
-      subst (λ (x : List (List ℕ)). State w l x wa′ ri′ ra′) a (subst (λ (x : List (List ℕ)). State w l wi x ri′ ra′) b (subst (λ (x : List (List ℕ)). State w l wi wa x ra′) d (subst (λ (x : List (List ℕ)). State w l wi wa ri x) e h)))
+      subst (λ (x : List (List ℕ)). State w l x wa′ ri′ ra′) a
+      (subst (λ (x : List (List ℕ)). State w l wi x ri′ ra′) b
+      (subst (λ (x : List (List ℕ)). State w l wi wa x ra′) d (subst (λ (x : List (List ℕ)). State w l wi wa ri x) e h)))
 
-  on : (w : World) (l : Logs) (wi wa ri ra : List (List ℕ)) → Both w l → State w l wi wa ri ra → (y : Bool) (k : Call) → (isAccepted (outcomeAt w y k .answer) ≡ true → Marked y (marksOf y c) k)
-      → State (next w y k) (nextLogs w y k l) (wi ++ addedAt isWriting false w y k) (wa ++ addedAt isWriting true w y k) (ri ++ addedAt isReading false w y k) (ra ++ addedAt isReading true w y k)
+  on : (w : World) (l : Logs) (wi wa ri ra : List (List ℕ)) → Both w l → State w l wi wa ri ra → (y : Bool) (k : Call)
+      → (isAccepted (outcomeAt w y k .answer) ≡ true → Marked y (marksOf y c) k)
+      → State (next w y k) (nextLogs w y k l) (wi ++ addedAt isWriting false w y k) (wa ++ addedAt isWriting true w y k)
+      (ri ++ addedAt isReading false w y k) (ra ++ addedAt isReading true w y k)
   on w l wi wa ri ra b (inl h) y k m = elim (step w l wi wa ri ra b h y k m) [ inl t ↦ inl t | inr t ↦ inr t ]
   on w l wi wa ri ra b (inr (inl s)) y k m = inr (inl (shut-initiator w y k isWriting wa ri s))
   on w l wi wa ri ra b (inr (inr s)) y k m = inr (inr (shut-acceptor w y k isWriting wi ra s))
 
   run-inv : (w : World) (l : Logs) (wi wa ri ra : List (List ℕ)) → Both w l → State w l wi wa ri ra → (cs : List (Bool × Call))
       → ((x : Entry) → List·Memᴰ x (run w cs) → isAccepted (x .said) ≡ true → Marked (x .acceptor) (marksOf (x .acceptor) c) (x .call))
-      → State (ends w cs) (logsAfter w l cs) (wi ++ writtenIn false w cs) (wa ++ writtenIn true w cs) (ri ++ readIn false w cs) (ra ++ readIn true w cs)
+      → State (ends w cs) (logsAfter w l cs) (wi ++ writtenIn false w cs) (wa ++ writtenIn true w cs) (ri ++ readIn false w cs)
+      (ra ++ readIn true w cs)
   run-inv w l wi wa ri ra b h [] m = moved-to w l (nil wi) (nil wa) (nil ri) (nil ra) h
   run-inv w l wi wa ri ra b h (x ∷ cs) m =
       let y : Bool = x .0 in
@@ -241,7 +285,8 @@ module _ (c : Case) (s₀ : Sides) (v : List ℕ) where
       (append-assoc ri (addedAt isReading false w y k) (readIn false w′ cs))
       (append-assoc ra (addedAt isReading true w y k) (readIn true w′ cs))
       (run-inv w′ (nextLogs w y k l)
-      (wi ++ addedAt isWriting false w y k) (wa ++ addedAt isWriting true w y k) (ri ++ addedAt isReading false w y k) (ra ++ addedAt isReading true w y k)
+      (wi ++ addedAt isWriting false w y k) (wa ++ addedAt isWriting true w y k) (ri ++ addedAt isReading false w y k)
+      (ra ++ addedAt isReading true w y k)
       (both-next w l b y k) (on w l wi wa ri ra b h y k (m (record { acceptor = y; call = k; said = outcomeAt w y k .answer }) (List·Memᴰ·head refl)))
       cs (λ z n. m z (List·Memᴰ·tail n)))
 
@@ -269,10 +314,12 @@ module _ (c : Case) (s₀ : Sides) (v : List ℕ) where
 
   module _ (x : Bool) (e f : End) (le lf we wf re rf : List (List ℕ)) (g : Good c s₀ v x e f le lf we wf re rf) (all : we ≡ rf) where
     none-left : g .own ≡ []
-    none-left = empty (g .own) (let n = length-append (ofSide x (g .turns)) (g .own) in omega (arith, ap length (g .wrote-e), ap length (g .read-f), ap length all)) where
-      empty : (l : List (List ℕ)) → length l ≡ 0 → l ≡ []
-      empty [] h = refl
-      empty (m ∷ l) h = absurd (omega arith)
+    none-left =
+        empty (g .own)
+        (let n = length-append (ofSide x (g .turns)) (g .own) in omega (arith, ap length (g .wrote-e), ap length (g .read-f), ap length all)) where
+          empty : (l : List (List ℕ)) → length l ≡ 0 → l ≡ []
+          empty [] h = refl
+          empty (m ∷ l) h = absurd (omega arith)
 
     no-own : (l : List (List ℕ)) → l ++ g .own ≡ l
     no-own l = ap (λ (k : List (List ℕ)). l ++ k) none-left ∙ append-nil l
@@ -285,7 +332,8 @@ module _ (c : Case) (s₀ : Sides) (v : List ℕ) where
 
     good-record : e .record-of ≡ sideOf x (sidesAfter c s₀ (g .turns))
     good-record = go (g .own) none-left (g .writer) where
-      go : (own : List (List ℕ)) → own ≡ [] → e .record-of ≡ spokenBy (marksOf x c) (sideOf x (sidesAfter c s₀ (g .turns))) own → e .record-of ≡ sideOf x (sidesAfter c s₀ (g .turns))
+      go : (own : List (List ℕ)) → own ≡ [] → e .record-of ≡ spokenBy (marksOf x c) (sideOf x (sidesAfter c s₀ (g .turns))) own
+          → e .record-of ≡ sideOf x (sidesAfter c s₀ (g .turns))
       go [] i h = h
       go (m ∷ ms) i h = absurd (omega (arith, ap length i))
 
@@ -354,13 +402,15 @@ shorter x (t ∷ ts) = go x (t .acceptor) refl (shorter x ts) where
   part : (y : Bool) → length (join (t .messages ++ ofSide y ts)) ≡ length (join (t .messages)) + length (join (ofSide y ts))
   part y = ap length (join-append (t .messages) (ofSide y ts)) ∙ length-append (join (t .messages)) (join (ofSide y ts))
 
-  go : (y b : Bool) → t .acceptor ≡ b → length (join (ofSide y ts)) ≤ length (join (allOf ts)) → length (join (ofSide y (t ∷ ts))) ≤ length (join (t .messages ++ allOf ts))
+  go : (y b : Bool) → t .acceptor ≡ b → length (join (ofSide y ts)) ≤ length (join (allOf ts))
+      → length (join (ofSide y (t ∷ ts))) ≤ length (join (t .messages ++ allOf ts))
   go true true e ih = rw e (omega (arith, whole, part true))
   go true false e ih = rw e (omega (arith, whole))
   go false true e ih = rw e (omega (arith, whole))
   go false false e ih = rw e (omega (arith, whole, part false))
 
-module _ (o : Opening) (cs : List (Bool × Call)) (mi ma : ℕ) (all : AllRead o cs) (marks : MarksAre o cs mi ma) (d : List ℕ) (wide : 65535 ≤ length d) where
+module _ (o : Opening) (cs : List (Bool × Call)) (mi ma : ℕ) (all : AllRead o cs) (marks : MarksAre o cs mi ma) (d : List ℕ)
+    (wide : 65535 ≤ length d) where
   abbrev c : Case
   c = caseOf o cs mi ma
 
@@ -402,7 +452,8 @@ module _ (o : Opening) (cs : List (Bool × Call)) (mi ma : ℕ) (all : AllRead o
     level true = record { used = refl; sequence = refl }
     level false = record { used = refl; sequence = refl }
 
-  its-marks : (y : Bool) (k : Call) (a : Answer) → List·Memᴰ (record { acceptor = y; call = k; said = a }) (run (world o) cs) → isAccepted a ≡ true → Marked y (marksOf y c) k
+  its-marks : (y : Bool) (k : Call) (a : Answer) → List·Memᴰ (record { acceptor = y; call = k; said = a }) (run (world o) cs) → isAccepted a ≡ true
+      → Marked y (marksOf y c) k
   its-marks y (offer nego) a m h = tt
   its-marks false (reply n nego) a m h = λ z. no-true z
   its-marks true (reply n nego) a m h = λ z. marks .replied n (record { content = nego; answered = a; accepted = h; entry = m })
@@ -414,8 +465,10 @@ module _ (o : Opening) (cs : List (Bool × Call)) (mi ma : ℕ) (all : AllRead o
 
   done : Done c s₀ (o .conversation .0) (ends (world o) cs) (logsOf o cs) (writtenIn false (world o) cs) (writtenIn true (world o) cs)
   done =
-      all-read c s₀ (o .conversation .0) (ends (world o) cs) (logsOf o cs) (writtenIn false (world o) cs) (writtenIn true (world o) cs) (readIn false (world o) cs) (readIn true (world o) cs)
-      (run-inv c s₀ (o .conversation .0) (world o) (record { i = []; a = [] }) [] [] [] [] (both-opened o) (inl start) cs (λ x m h. its-marks (x .acceptor) (x .call) (x .said) m h))
+      all-read c s₀ (o .conversation .0) (ends (world o) cs) (logsOf o cs) (writtenIn false (world o) cs) (writtenIn true (world o) cs)
+      (readIn false (world o) cs) (readIn true (world o) cs)
+      (run-inv c s₀ (o .conversation .0) (world o) (record { i = []; a = [] }) [] [] [] [] (both-opened o) (inl start) cs
+      (λ x m h. its-marks (x .acceptor) (x .call) (x .said) m h))
       (all .by-acceptor) (all .by-initiator)
 
   abbrev ts : List Turn
@@ -433,7 +486,9 @@ module _ (o : Opening) (cs : List (Bool × Call)) (mi ma : ℕ) (all : AllRead o
 
   all-short : length (join (allOf ts)) ≤ 65535
   all-short =
-      let u : length (join (logsOf o cs .i)) ≤ 65535 = (let z = limits-counts (ends (world o) cs .i .record-of) (first-none (limitRows (ends (world o) cs .i .record-of)) refl (counted-i .inside)) .0 in omega (arith, counted-i .used)) in
+      let u : length (join (logsOf o cs .i)) ≤ 65535 =
+      (let z = limits-counts (ends (world o) cs .i .record-of)
+      (first-none (limitRows (ends (world o) cs .i .record-of)) refl (counted-i .inside)) .0 in omega (arith, counted-i .used)) in
       subst (λ (l : List (List ℕ)). length (join l) ≤ 65535) (done .i-log) u
 
   file-ends : (w : Whose) (x : Bool) (file : List (List ℕ)) → file ≡ ofSide x ts → fileEnding w (some (join file)) ≡ finished
@@ -444,7 +499,8 @@ module _ (o : Opening) (cs : List (Bool × Call)) (mi ma : ℕ) (all : AllRead o
   file-messages : (x : Bool) (file : List (List ℕ)) → file ≡ ofSide x ts → messagesOf (join file) ≡ ofSide x ts
   file-messages x file is = ap (λ (l : List (List ℕ)). messagesOf (join l)) is ∙ messages-join (ofSide x ts) (done .pieces x)
 
-  given-ok : (l : List Id) (m : ℕ) → wholeIds l ≡ true → oneTo16 l ≡ true → below (length l) m ≡ true → listOk (joinIds l) && below (length (joinIds l) / 16) m ≡ true
+  given-ok : (l : List Id) (m : ℕ) → wholeIds l ≡ true → oneTo16 l ≡ true → below (length l) m ≡ true
+      → listOk (joinIds l) && below (length (joinIds l) / 16) m ≡ true
   given-ok l m whole ok b = rw (list-ok l whole ok, count-joined l (each-whole l whole)) b
 
   nothing-before : before c ≡ finished
@@ -460,12 +516,14 @@ module _ (o : Opening) (cs : List (Bool × Call)) (mi ma : ℕ) (all : AllRead o
 
   turns-are : turnsIn c ≡ ts
   turns-are =
-      ap (λ (l : List (List ℕ)). turnsOf l (messagesOf (join (writtenIn true (world o) cs)))) (file-messages false (writtenIn false (world o) cs) (done .i-file))
+      ap (λ (l : List (List ℕ)). turnsOf l (messagesOf (join (writtenIn true (world o) cs))))
+      (file-messages false (writtenIn false (world o) cs) (done .i-file))
       ∙ ap (turnsOf (ofSide false ts)) (file-messages true (writtenIn true (world o) cs) (done .a-file))
       ∙ turns-of-sides false ts (alternates false (done .last) ts (done .alternate)) ordered
 
   -- the sides that the replay opens are those of before, but for a conversation that no message has
-  opened-is : (us : List Turn) → opened c us d ≡ record { i = fresh false (joinIds (o .initiator)) (conversationIn us); a = fresh true (joinIds (o .acceptor)) zeroId; transcript = d }
+  opened-is : (us : List Turn) → opened c us d
+      ≡ record { i = fresh false (joinIds (o .initiator)) (conversationIn us); a = fresh true (joinIds (o .acceptor)) zeroId; transcript = d }
   opened-is us =
       let i = opening-fresh false (o .initiator) (conversationIn us) (o .initiator-whole) (o .initiator-ok) in
       let a = opening-fresh true (o .acceptor) zeroId (o .acceptor-whole) (o .acceptor-ok) in
@@ -475,10 +533,12 @@ module _ (o : Opening) (cs : List (Bool × Call)) (mi ma : ℕ) (all : AllRead o
   unfolding replayOf
   replay-is = rw (nothing-before, turns-are)
 
-  same-transcript : (r : Record) (t : List ℕ) (e : End) (log : List (List ℕ)) → Level r (allOf ts) → Holds t (allOf ts) → Counted (e .record-of) (e .transcript) log → log ≡ allOf ts → SameTranscript r t e
+  same-transcript : (r : Record) (t : List ℕ) (e : End) (log : List (List ℕ)) → Level r (allOf ts) → Holds t (allOf ts)
+      → Counted (e .record-of) (e .transcript) log → log ≡ allOf ts → SameTranscript r t e
   same-transcript r t e log l h k is = ap (λ (n : ℕ). take n t) (l .used) ∙ h .begins ∙ ap join (sym is) ∙ sym (k .transcript)
 
-  same-ends : (p : Played) → p .ending ≡ finished → choiceOf (p .sides .i) ≡ choiceOf (ends (world o) cs .i .record-of) → Level (p .sides .i) (allOf ts) → Level (p .sides .a) (allOf ts) → Holds (p .sides .transcript) (allOf ts) → SameEnds o cs p
+  same-ends : (p : Played) → p .ending ≡ finished → choiceOf (p .sides .i) ≡ choiceOf (ends (world o) cs .i .record-of)
+      → Level (p .sides .i) (allOf ts) → Level (p .sides .a) (allOf ts) → Holds (p .sides .transcript) (allOf ts) → SameEnds o cs p
   same-ends p e ch i a h = record {
     unrefused = e;
     choice = ch;
@@ -490,9 +550,11 @@ module _ (o : Opening) (cs : List (Bool × Call)) (mi ma : ℕ) (all : AllRead o
   ended : (us : List Turn) → ts ≡ us → TalksOf c s₀ (o .conversation .0) us → SameEnds o cs (playFrom c (opened c us d) us)
   unfolding headOf playFrom choiceOf
   ended (t ∷ us) is talk =
-      let at-start : opened c (t ∷ us) d ≡ s₀ = opened-is (t ∷ us) ∙ ap (λ (v : List ℕ). record { i = fresh false (joinIds (o .initiator)) v; a = s₀ .a; transcript = d }) talk in
+      let at-start : opened c (t ∷ us) d ≡ s₀ =
+      opened-is (t ∷ us) ∙ ap (λ (v : List ℕ). record { i = fresh false (joinIds (o .initiator)) v; a = s₀ .a; transcript = d }) talk in
       let k = played-all c s₀ (t ∷ us) (subst (AllHeard c s₀) is (done .heard)) in
-      let sides : playFrom c (opened c (t ∷ us) d) (t ∷ us) .sides ≡ sidesAfter c s₀ ts = ap (λ (s : Sides). playFrom c s (t ∷ us) .sides) at-start ∙ k .1 ∙ ap (sidesAfter c s₀) (sym is) in
+      let sides : playFrom c (opened c (t ∷ us) d) (t ∷ us) .sides ≡ sidesAfter c s₀ ts =
+      ap (λ (s : Sides). playFrom c s (t ∷ us) .sides) at-start ∙ k .1 ∙ ap (sidesAfter c s₀) (sym is) in
       same-ends (playFrom c (opened c (t ∷ us) d) (t ∷ us))
       (ap (λ (s : Sides). playFrom c s (t ∷ us) .ending) at-start ∙ k .0)
       (ap (λ (s : Sides). choiceOf (s .i)) sides ∙ ap choiceOf (sym (done .i-record)))
@@ -502,7 +564,8 @@ module _ (o : Opening) (cs : List (Bool × Call)) (mi ma : ℕ) (all : AllRead o
   ended [] is talk =
       let at-start = opened-is [] in
       let run-i : ends (world o) cs .i .record-of ≡ s₀ .i = done .i-record ∙ ap (λ (us : List Turn). sidesAfter c s₀ us .i) is in
-      let none : (r : Record) → r .used ≡ 0 → r .sequence ≡ 0 → Level r (allOf ts) = λ r u q. subst (λ (us : List Turn). Level r (allOf us)) (sym is) (record { used = u; sequence = q }) in
+      let none : (r : Record) → r .used ≡ 0 → r .sequence ≡ 0 → Level r (allOf ts) =
+      λ r u q. subst (λ (us : List Turn). Level r (allOf us)) (sym is) (record { used = u; sequence = q }) in
       same-ends (playFrom c (opened c [] d) []) refl
       (ap (λ (s : Sides). choiceOf (s .i)) at-start ∙ ap choiceOf (sym run-i))
       (none (opened c [] d .i) (ap (λ (s : Sides). s .i .used) at-start) (ap (λ (s : Sides). s .i .sequence) at-start))
@@ -511,4 +574,5 @@ module _ (o : Opening) (cs : List (Bool × Call)) (mi ma : ℕ) (all : AllRead o
 
 pub replays-run : ReplaysRun
 replays-run o cs mi ma all marks d wide =
-    subst (SameEnds o cs) (sym (replay-is o cs mi ma all marks d wide)) (ended o cs mi ma all marks d wide (ts o cs mi ma all marks d wide) refl (done o cs mi ma all marks d wide .talks))
+    subst (SameEnds o cs) (sym (replay-is o cs mi ma all marks d wide))
+    (ended o cs mi ma all marks d wide (ts o cs mi ma all marks d wide) refl (done o cs mi ma all marks d wide .talks))

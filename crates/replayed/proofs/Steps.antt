@@ -51,7 +51,8 @@ past-unread e f (begun-before l n) a =
     let g = first-number (e .record-of) (f .turn) (h .n) (h .scan) (h .is) in
     omega (arith, g .1)
 
-accepted-reads : (e : End) (peer : List ℕ) → isAccepted (act e peer read .answer) ≡ true → isAccepted (readingToken (e .record-of) (e .transcript) peer .answer) ≡ true
+accepted-reads : (e : End) (peer : List ℕ) → isAccepted (act e peer read .answer) ≡ true
+    → isAccepted (readingToken (e .record-of) (e .transcript) peer .answer) ≡ true
 unfolding act
 accepted-reads e peer a = a
 
@@ -62,7 +63,8 @@ record Wrote (e e′ : End) (message : List ℕ) : Type 0 where
   turn : e′ .turn ≡ e .turn ++ message
   counts : e′ .record-of .sequence ≡ e .record-of .sequence + 1
 
-wrote-by : (marks : ℕ) (e : End) (peer : List ℕ) (log : List (List ℕ)) (ok : Sound (e .record-of) (e .transcript) log) (k : Call) (a : isAccepted (act e peer k .answer) ≡ true)
+wrote-by : (marks : ℕ) (e : End) (peer : List ℕ) (log : List (List ℕ)) (ok : Sound (e .record-of) (e .transcript) log) (k : Call)
+    (a : isAccepted (act e peer k .answer) ≡ true)
     → (w : Writes e peer log ok marks k) → Wrote e (moved e k (act e peer k)) (w .message)
 wrote-by marks e peer log ok k a w = record {
   type = w .type;
@@ -95,7 +97,8 @@ pub parted-swap : (e f : End) (we wf re rf : List (List ℕ)) → Parted e f we 
 parted-swap e f we wf re rf p = record { here = p .there; there = p .here; unread = elim (p .unread) [ inl h ↦ inr h | inr h ↦ inl h ] }
 
 pub parted-on : (e f : End) (log we wf re rf : List (List ℕ)) (ok : Sound (e .record-of) (e .transcript) log) → Parted e f we wf re rf
-    → (k : Call) → (k ≡ read → ⊥) → isAccepted (act e (f .turn) k .answer) ≡ true → Parted (moved e k (act e (f .turn) k)) f (we ++ added e (f .turn) k) wf re rf
+    → (k : Call) → (k ≡ read → ⊥) → isAccepted (act e (f .turn) k .answer) ≡ true
+    → Parted (moved e k (act e (f .turn) k)) f (we ++ added e (f .turn) k) wf re rf
 parted-on e f log we wf re rf ok p k n a =
     let w = writes-call e (f .turn) log ok (marksIn k) k (marked-in _ k) n a in
     let v = wrote-by (marksIn k) e (f .turn) log ok k a w in
@@ -125,7 +128,8 @@ pub data Stale (e f : End) : Type 0 where
   fresh-reader : f .turn ≡ [] → f .record-of .acceptor ≡ true → f .record-of .stage ≡ 0 → f .record-of .position ≡ 0 → Stale e f
   had-turn : Past e f → Stale e f
 
-fresh-barred : (marks : ℕ) (r base : Record) (m : List ℕ) → r .acceptor ≡ true → r .stage ≡ 0 → base ≡ begun marks r → (writes (said base m) ≡ 3 → ⊥) → ⊥
+fresh-barred : (marks : ℕ) (r base : Record) (m : List ℕ) → r .acceptor ≡ true → r .stage ≡ 0 → base ≡ begun marks r → (writes (said base m) ≡ 3 → ⊥)
+    → ⊥
 unfolding begun said writing
 fresh-barred marks r base m role st b on =
     let same : begun marks r ≡ r = rw (role, st) in
@@ -193,7 +197,8 @@ module _ (c : Case) (s₀ : Sides) (v : List ℕ) where
 
     -- 3. the writer writes
 
-    pub good-writes : Sound (e .record-of) (e .transcript) le → (k : Call) → Marked x marks k → (k ≡ read → ⊥) → isAccepted (act e (f .turn) k .answer) ≡ true
+    pub good-writes : Sound (e .record-of) (e .transcript) le → (k : Call) → Marked x marks k → (k ≡ read → ⊥)
+        → isAccepted (act e (f .turn) k .answer) ≡ true
         → Good x (moved e k (act e (f .turn) k)) f (le ++ added e (f .turn) k) lf (we ++ added e (f .turn) k) wf re rf
     good-writes ok k m n a =
         let w = writes-call e (f .turn) le ok marks k (subst (λ (y : Bool). Marked y marks k) (sym (g .role-e)) m) n a in
@@ -228,7 +233,8 @@ module _ (c : Case) (s₀ : Sides) (v : List ℕ) where
           grown : (l a own : List (List ℕ)) (m : List ℕ) (b : List (List ℕ)) → l ≡ a ++ own → b ≡ m ∷ [] → l ++ b ≡ a ++ (own ++ (m ∷ []))
           grown l a own m b i j = ap (λ (k : List (List ℕ)). k ++ b) i ∙ ap (λ (k : List (List ℕ)). (a ++ own) ++ k) j ∙ append-assoc a own (m ∷ [])
 
-          then-said : (w : Writes e (f .turn) le ok marks k) (own : List (List ℕ)) → e .record-of ≡ spokenBy marks (sideOf x s) own → Underway marks (sideOf x s) (e .record-of) own
+          then-said : (w : Writes e (f .turn) le ok marks k) (own : List (List ℕ)) → e .record-of ≡ spokenBy marks (sideOf x s) own
+              → Underway marks (sideOf x s) (e .record-of) own
               → said (w .base) (w .message) ≡ spokenBy marks (sideOf x s) (own ++ (w .message ∷ []))
           then-said w [] is u =
               let b = w .begins (ap (λ (r : Record). r .position) is ∙ u) .0 in
@@ -237,21 +243,28 @@ module _ (c : Case) (s₀ : Sides) (v : List ℕ) where
               let b = w .goes-on (u .0) (u .1 .0) in
               ap (λ (r : Record). said r (w .message)) (b ∙ is) ∙ sym (said-snoc (begun marks (sideOf x s)) (h ∷ hs) (w .message))
 
-          then-talks : (w : Writes e (f .turn) le ok marks k) (ts : List Turn) (own : List (List ℕ)) → Talks v (e .record-of) ts own → Talks v (moved e k (act e (f .turn) k) .record-of) ts (own ++ (w .message ∷ []))
+          then-talks : (w : Writes e (f .turn) le ok marks k) (ts : List Turn) (own : List (List ℕ)) → Talks v (e .record-of) ts own
+              → Talks v (moved e k (act e (f .turn) k) .record-of) ts (own ++ (w .message ∷ []))
           then-talks w [] [] h = (ap (λ (r : Record). r .conversation) (w .next) ∙ w .talk ∙ h, λ rest. w .head .talk rest ∙ h)
           then-talks w [] (m ∷ ms) h = (ap (λ (r : Record). r .conversation) (w .next) ∙ w .talk ∙ h .0, h .1)
           then-talks w (t ∷ ts) own h = h
 
-          then-begins : (w : Writes e (f .turn) le ok marks k) (own : List (List ℕ)) → g .own ≡ own → Begins (length (allOf (g .turns))) own → Begins (length (allOf (g .turns))) (own ++ (w .message ∷ []))
+          then-begins : (w : Writes e (f .turn) le ok marks k) (own : List (List ℕ)) → g .own ≡ own → Begins (length (allOf (g .turns))) own
+              → Begins (length (allOf (g .turns))) (own ++ (w .message ∷ []))
           then-begins w [] is b = λ rest. w .head .number rest ∙ sequence-e ∙ (let z : length (g .own) ≡ 0 = ap length is in omega arith)
           then-begins w (h ∷ hs) is b = b
 
-          then-underway : (w : Writes e (f .turn) le ok marks k) (own : List (List ℕ)) → e .record-of ≡ spokenBy marks (sideOf x s) own → Underway marks (sideOf x s) (e .record-of) own
+          then-underway : (w : Writes e (f .turn) le ok marks k) (own : List (List ℕ)) → e .record-of ≡ spokenBy marks (sideOf x s) own
+              → Underway marks (sideOf x s) (e .record-of) own
               → Underway marks (sideOf x s) (moved e k (act e (f .turn) k) .record-of) (own ++ (w .message ∷ []))
           then-underway w [] is u =
               let b = w .begins (ap (λ (r : Record). r .position) is ∙ u) .1 in (
                 subst (λ (r : Record). 1 ≤ r .position) (sym (w .next)) (w .position),
-                (subst (λ (r : Record). writes r ≡ 3 → ⊥) (sym (w .next)) (w .on), λ rest. subst (λ (r : Record). owed marks r (w .message ++ rest) ≡ true) is (b rest)),
+                (
+                  subst (λ (r : Record). writes r ≡ 3 → ⊥) (sym (w .next)) (w .on),
+                  λ rest. subst
+                      (λ (r : Record). owed marks r (w .message ++ rest) ≡ true) is (b rest),
+                ),
               )
           then-underway w (h ∷ hs) is u = (
             subst (λ (r : Record). 1 ≤ r .position) (sym (w .next)) (w .position),
@@ -282,7 +295,8 @@ module _ (c : Case) (s₀ : Sides) (v : List ℕ) where
         let w = writes-call f (e .turn) lf ok (marksIn k) k (marked-in _ k) n a in
         let v = wrote-by (marksIn k) f (e .turn) lf ok k a w in
         go w v (g .stale) where
-          go : (w : Writes f (e .turn) lf ok (marksIn k) k) → Wrote f (moved f k (act f (e .turn) k)) (w .message) → Stale e f → Parted (moved f k (act f (e .turn) k)) e (wf ++ added f (e .turn) k) we rf re
+          go : (w : Writes f (e .turn) lf ok (marksIn k) k) → Wrote f (moved f k (act f (e .turn) k)) (w .message) → Stale e f
+              → Parted (moved f k (act f (e .turn) k)) e (wf ++ added f (e .turn) k) we rf re
           go w v (fresh-reader t r st p) = absurd (fresh-barred (marksIn k) (f .record-of) (w .base) (w .message) r st (w .begins p .0) (w .on))
           go w v (had-turn p) = record {
             here = past-turn (moved f k (act f (e .turn) k)) (v .counts);
@@ -351,7 +365,8 @@ module _ (c : Case) (s₀ : Sides) (v : List ℕ) where
       reader-level =
           subst (λ (l : List (List ℕ)). Level (sideOf (not x) s′) l) (sym all-then)
           (subst (λ (y : Record). Level y (allOf (g .turns) ++ g .own)) (sym reader-side)
-          (level-on r (allOf (g .turns)) (g .own) (taken r (join (g .own)) (h .n) (h .scan)) (g .levels (not x)) refl (ap (λ (k : ℕ). r .sequence + k) (through .count))))
+          (level-on r (allOf (g .turns)) (g .own) (taken r (join (g .own)) (h .n) (h .scan)) (g .levels (not x)) refl
+          (ap (λ (k : ℕ). r .sequence + k) (through .count))))
 
       then-holds : Holds (s′ .transcript) (allOf (g .turns ++ (t ∷ [])))
       then-holds =
@@ -359,18 +374,23 @@ module _ (c : Case) (s₀ : Sides) (v : List ℕ) where
           (subst (λ (y : List ℕ). Holds y (allOf (g .turns) ++ g .own)) (sym transcript-is)
           (holds-on d (r .used) (allOf (g .turns)) (g .own) (g .holds) (g .levels (not x) .used) (h .short)))
 
-      pub flipped : (f′ : End) → f′ .record-of ≡ next → f′ .turn ≡ [] → (more : List (List ℕ)) → more ≡ g .own → Good (not x) f′ e (lf ++ more) le wf we (rf ++ more) re
+      pub flipped : (f′ : End) → f′ .record-of ≡ next → f′ .turn ≡ [] → (more : List (List ℕ)) → more ≡ g .own
+          → Good (not x) f′ e (lf ++ more) le wf we (rf ++ more) re
       flipped f′ rec none more is =
           let then : f′ .record-of ≡ sideOf (not x) s′ = rec ∙ h .next ∙ sym reader-side in
           let here : ofSide x (g .turns ++ (t ∷ [])) ≡ ofSide x (g .turns) ++ g .own = side-here x (g .turns) (g .own) in
           let there : ofSide (not x) (g .turns ++ (t ∷ [])) ≡ ofSide (not x) (g .turns) = side-there x (g .turns) (g .own) in
-          let back : ofSide (not (not x)) (g .turns ++ (t ∷ [])) ≡ ofSide x (g .turns) ++ g .own = ap (λ (y : Bool). ofSide y (g .turns ++ (t ∷ []))) (not-not x) ∙ here in
+          let back : ofSide (not (not x)) (g .turns ++ (t ∷ [])) ≡ ofSide x (g .turns) ++ g .own =
+          ap (λ (y : Bool). ofSide y (g .turns ++ (t ∷ []))) (not-not x) ∙ here in
           record {
             turns = g .turns ++ (t ∷ []);
             own = [];
             heard = heard-snoc c s₀ (g .turns) t (g .heard) (ap (λ (o : Outcome). isAccepted (o .answer)) out);
             alternate = alternate-snoc false x (g .turns) (g .own) (g .alternate) (through .some);
-            pieces = either x (λ y. Pieces (ofSide y (g .turns ++ (t ∷ [])))) (subst Pieces (sym here) (pieces-append (ofSide x (g .turns)) (g .own) (g .pieces x) (through .pieces))) (subst Pieces (sym there) (g .pieces (not x)));
+            pieces =
+                either x (λ y. Pieces (ofSide y (g .turns ++ (t ∷ []))))
+                (subst Pieces (sym here) (pieces-append (ofSide x (g .turns)) (g .own) (g .pieces x) (through .pieces)))
+                (subst Pieces (sym there) (g .pieces (not x)));
             levels = either x (λ y. Level (sideOf y s′) (allOf (g .turns ++ (t ∷ [])))) writer-level reader-level;
             holds = then-holds;
             writer = then;
@@ -382,15 +402,20 @@ module _ (c : Case) (s₀ : Sides) (v : List ℕ) where
             exact = tt;
             begins = tt;
             underway = ap (λ (y : Record). y .position) reader-side;
-            stale = had-turn (begun-before (omega (arith, ap length (g .turn), own-long (g .own) (through .some) (g .exact))) (first-below f′ (rec ∙ h .next)));
-            log-e = ap (λ (l : List (List ℕ)). l ++ more) (g .log-f) ∙ ap (λ (l : List (List ℕ)). allOf (g .turns) ++ l) is ∙ sym all-then ∙ sym (append-nil (allOf (g .turns ++ (t ∷ []))));
+            stale =
+                had-turn
+                (begun-before (omega (arith, ap length (g .turn), own-long (g .own) (through .some) (g .exact))) (first-below f′ (rec ∙ h .next)));
+            log-e =
+                ap (λ (l : List (List ℕ)). l ++ more) (g .log-f) ∙ ap (λ (l : List (List ℕ)). allOf (g .turns) ++ l) is ∙ sym all-then
+                ∙ sym (append-nil (allOf (g .turns ++ (t ∷ []))));
             log-f = g .log-e ∙ sym all-then;
             wrote-e = g .wrote-f ∙ sym there ∙ sym (append-nil (ofSide (not x) (g .turns ++ (t ∷ []))));
             wrote-f = g .wrote-e ∙ sym back;
             read-e = ap (λ (l : List (List ℕ)). l ++ more) (g .read-f) ∙ ap (λ (l : List (List ℕ)). ofSide x (g .turns) ++ l) is ∙ sym back;
             read-f = g .read-e ∙ sym there;
           } where
-            then-talks : (ts : List Turn) (own : List (List ℕ)) → 0 < length own → (y : Record) → Talks v (e .record-of) ts own → Talks v y (ts ++ (record { acceptor = x; messages = own } ∷ [])) []
+            then-talks : (ts : List Turn) (own : List (List ℕ)) → 0 < length own → (y : Record) → Talks v (e .record-of) ts own
+                → Talks v y (ts ++ (record { acceptor = x; messages = own } ∷ [])) []
             then-talks [] [] some y q = absurd (omega arith)
             then-talks [] (m ∷ ms) some y q = q .1 (join ms)
             then-talks (u ∷ ts) own some y q = q
@@ -413,7 +438,10 @@ module _ (c : Case) (s₀ : Sides) (v : List ℕ) where
     good-reads a =
         let raw = heard-by (f .record-of) (f .transcript) (e .turn) a in
         let then : Record = readingToken (f .record-of) (f .transcript) (e .turn) .answer .next in
-        let h : Heard (sideOf (not x) s) (join (g .own)) then = subst (λ (l : List ℕ). Heard (sideOf (not x) s) l then) (g .turn) (subst (λ (y : Record). Heard y (e .turn) then) (g .reader) raw) in
+        let h : Heard (sideOf (not x) s) (join (g .own)) then =
+        subst (λ (l : List ℕ). Heard (sideOf (not x) s) l then) (g .turn) (subst (λ (y : Record). Heard y (e .turn) then) (g .reader) raw) in
         let same : messagesIn (chainFor (f .record-of) (e .turn)) ≡ g .own =
-        ap (λ (y : Record). messagesIn (chainFor y (e .turn))) (g .reader) ∙ ap (λ (l : List ℕ). messagesIn (chainFor (sideOf (not x) s) l)) (g .turn) ∙ through then h .same in
-        flipped then h (moved f read (readingToken (f .record-of) (f .transcript) (e .turn))) refl (rw a) (messagesIn (chainFor (f .record-of) (e .turn))) same
+        ap (λ (y : Record). messagesIn (chainFor y (e .turn))) (g .reader) ∙ ap (λ (l : List ℕ). messagesIn (chainFor (sideOf (not x) s) l)) (g .turn)
+        ∙ through then h .same in
+        flipped then h (moved f read (readingToken (f .record-of) (f .transcript) (e .turn))) refl (rw a)
+        (messagesIn (chainFor (f .record-of) (e .turn))) same

@@ -78,10 +78,16 @@ no-metadata-first token v = elim (which (leb token 1)) [ inl e ↦ rw e | inr e 
 -- a turn that begins with an exchange, a VERIFY or an ALERT is a later one
 speech-first : (s : Speech) (token : ℕ) (v : Bool) → not (eqb (after token 0 v (classIn s)) 0) ≡ true → token ≡ 2
 unfolding after afterOpening afterFurther
-speech-first (request value) token v h = elim (which (leb token 1)) [ inl f ↦ no-true (rw f at h) | inr f ↦ elim (which (eqb token 2)) [ inl e ↦ eqb-true _ _ e | inr e ↦ no-true (rw (f, e) at h) ] ]
+speech-first (request value) token v h =
+    elim (which (leb token 1))
+    [ inl f ↦ no-true (rw f at h) | inr f ↦ elim (which (eqb token 2)) [ inl e ↦ eqb-true _ _ e | inr e ↦ no-true (rw (f, e) at h) ] ]
 speech-first (checksum type value) token true h = no-true h
-speech-first (checksum type value) token false h = elim (which (leb token 1)) [ inl f ↦ no-true (rw f at h) | inr f ↦ elim (which (eqb token 2)) [ inl e ↦ eqb-true _ _ e | inr e ↦ no-true (rw (f, e) at h) ] ]
-speech-first (alarm code) token v h = elim (which (leb token 1)) [ inl f ↦ no-true (rw f at h) | inr f ↦ elim (which (eqb token 2)) [ inl e ↦ eqb-true _ _ e | inr e ↦ no-true (rw (f, e) at h) ] ]
+speech-first (checksum type value) token false h =
+    elim (which (leb token 1))
+    [ inl f ↦ no-true (rw f at h) | inr f ↦ elim (which (eqb token 2)) [ inl e ↦ eqb-true _ _ e | inr e ↦ no-true (rw (f, e) at h) ] ]
+speech-first (alarm code) token v h =
+    elim (which (leb token 1))
+    [ inl f ↦ no-true (rw f at h) | inr f ↦ elim (which (eqb token 2)) [ inl e ↦ eqb-true _ _ e | inr e ↦ no-true (rw (f, e) at h) ] ]
 
 -- and whoever writes a later one does not choose
 later-unchosen : (a : Bool) (st : ℕ) → writing a st ≡ 2 → not a && eqb st 2 ≡ false
@@ -92,7 +98,8 @@ later-unchosen false st h = elim (which (eqb st 2)) [
   | inr e ↦ rw e
 ]
 
-kind-type : (a : Bool) (kind : ℕ) → classOf true (typeOf true kind) ≡ kind → classOf false (typeOf false kind) ≡ kind → classOf a (typeOf a kind) ≡ kind
+kind-type : (a : Bool) (kind : ℕ) → classOf true (typeOf true kind) ≡ kind → classOf false (typeOf false kind) ≡ kind
+    → classOf a (typeOf a kind) ≡ kind
 kind-type true kind e f = e
 kind-type false kind e f = f
 
@@ -159,11 +166,13 @@ module _ (marks : ℕ) (r : Record) where
   unfolding owed
   owed-first t f l = rw (f, l) (same-refl (joinIds (ownOf r)))
 
-  owed-answer : (t : List ℕ) → eqb (writes r) FIRST ≡ false → eqb (writes r) ANSWER ≡ true → someLeft (left (ownOf r) (r .common) marks) ≡ true → listedBy t ≡ left (ownOf r) (r .common) marks → owed marks r t ≡ true
+  owed-answer : (t : List ℕ) → eqb (writes r) FIRST ≡ false → eqb (writes r) ANSWER ≡ true → someLeft (left (ownOf r) (r .common) marks) ≡ true
+      → listedBy t ≡ left (ownOf r) (r .common) marks → owed marks r t ≡ true
   unfolding owed
   owed-answer t f a s l = rw (f, a, s, l) (same-refl (joinIds (left (ownOf r) (r .common) marks)))
 
-  owed-choice : (t : List ℕ) → eqb (writes r) FIRST ≡ false → eqb (writes r) ANSWER ≡ false → mayChoose r ≡ true → someLeft (named (ownOf r) (openTo r marks)) ≡ true → schemeIn t ≡ firstOr (named (ownOf r) (openTo r marks)) → owed marks r t ≡ true
+  owed-choice : (t : List ℕ) → eqb (writes r) FIRST ≡ false → eqb (writes r) ANSWER ≡ false → mayChoose r ≡ true
+      → someLeft (named (ownOf r) (openTo r marks)) ≡ true → schemeIn t ≡ firstOr (named (ownOf r) (openTo r marks)) → owed marks r t ≡ true
   unfolding owed
   owed-choice t f a c s l = rw (f, a, c, s, l) (same-refl (firstOr (named (ownOf r) (openTo r marks))))
 
@@ -203,23 +212,28 @@ module _ (e : End) (peer : List ℕ) (log : List (List ℕ)) (ok : Sound (e .rec
       (λ g a. g)
 
   made : (k : Call) (base : Record) (kind : ℕ) (c : Contents) (w : WrittenAs)
-      → classOf (base .acceptor) (typeOf (base .acceptor) kind) ≡ kind → base .acceptor ≡ r .acceptor → base .sequence ≡ r .sequence → base .conversation ≡ r .conversation → Whole c
+      → classOf (base .acceptor) (typeOf (base .acceptor) kind) ≡ kind → base .acceptor ≡ r .acceptor → base .sequence ≡ r .sequence
+      → base .conversation ≡ r .conversation → Whole c
       → leb (r .used + length (messageOf base kind c)) (room d) ≡ true
       → saidAs base kind (schemeIn (messageOf base kind c)) ≡ w → mayWrite base kind ≡ true
       → added e peer k ≡ messageOf base kind c ∷ [] → turnAfter e k ≡ e .turn ++ messageOf base kind c
       → act e peer k .answer .next ≡ wrote base (placeAfter base kind) (length (messageOf base kind c)) w
-      → (Headed (typeOf (base .acceptor) kind) (r .sequence) (r .conversation) (messageOf base kind c) → Start base (messageOf base kind c)) → Writes k
+      → (Headed (typeOf (base .acceptor) kind) (r .sequence) (r .conversation) (messageOf base kind c) → Start base (messageOf base kind c))
+      → Writes k
   unfolding said
   made k base kind c w known role sequence talk whole fit says may adds turns next start =
       let x : List ℕ = messageOf base kind c in
       let low : r .used + length x ≤ room d = leb-true _ _ fit in
       let counts = limits-counts r (ok .limits) in
-      let h : Headed (typeOf (base .acceptor) kind) (base .sequence) (base .conversation) x = headed base kind c (omega (arith, counts)) (ap length talk ∙ ok .talk) whole (omega arith) in
+      let h : Headed (typeOf (base .acceptor) kind) (base .sequence) (base .conversation) x =
+      headed base kind c (omega (arith, counts)) (ap length talk ∙ ok .talk) whole (omega arith) in
       let h′ : Headed (typeOf (base .acceptor) kind) (r .sequence) (r .conversation) x =
-      subst (λ (v : List ℕ). Headed (typeOf (base .acceptor) kind) (r .sequence) v x) talk (subst (λ (q : ℕ). Headed (typeOf (base .acceptor) kind) q (base .conversation) x) sequence h) in
+      subst (λ (v : List ℕ). Headed (typeOf (base .acceptor) kind) (r .sequence) v x) talk
+      (subst (λ (q : ℕ). Headed (typeOf (base .acceptor) kind) q (base .conversation) x) sequence h) in
       let is : classOf (base .acceptor) (headOf x .kind) ≡ kind = ap (classOf (base .acceptor)) (h .kind) ∙ known in
       let same : said base x ≡ wrote base (placeAfter base kind) (length x) w =
-      ap (λ (j : ℕ). wrote base (placeAfter base j) (length x) (saidAs base j (schemeIn x))) is ∙ ap (wrote base (placeAfter base kind) (length x)) says in
+      ap (λ (j : ℕ). wrote base (placeAfter base j) (length x) (saidAs base j (schemeIn x))) is
+      ∙ ap (wrote base (placeAfter base kind) (length x)) says in
       let s = start h′ in
       record {
         message = x;
@@ -250,7 +264,8 @@ module _ (e : End) (peer : List ℕ) (log : List (List ℕ)) (ok : Sound (e .rec
       let action : Outcome = appended r d (placeAfter r NEGO) x (unchanged r) in
       let g = passed-by rows action refl a in
       let may : mayWrite r NEGO ≡ true = true-behind (limitRows r) (row 18 (mayWrite r NEGO)) (thenFits (offerRows r (nego .0)) r d x) g in
-      let role : not (r .acceptor) ≡ true = true-behind (stageRows r NEGO) (row 18 (not (r .acceptor))) (extensionRows (nego .0) ++ (fits r d (length x) ∷ [])) g in
+      let role : not (r .acceptor) ≡ true =
+      true-behind (stageRows r NEGO) (row 18 (not (r .acceptor))) (extensionRows (nego .0) ++ (fits r d (length x) ∷ [])) g in
       let (is-initiator, (x25, (x26, behind))) = back-true (stageRows r NEGO) (thenFits (offerRows r (nego .0)) r d x) g in
       let fit = true-behind (stageRows r NEGO ++ offerRows r (nego .0)) (fits r d (length x)) [] g in
       let start = nego-start (writes r) (r .position) (r .attested) may in
@@ -258,12 +273,16 @@ module _ (e : End) (peer : List ℕ) (log : List (List ℕ)) (ok : Sound (e .rec
       let sized = own-sized r (ok .ids) in
       let (l1, (l2, rest)) = ok .limits in
       let few : length (ownOf r) ≤ 16 = (let n : r .count ≤ 16 = leb-true _ _ l2 in omega (arith, own-length r)) in
-      let heads : Heads (typeOf (r .acceptor) NEGO) (ownOf r) x = heads-written r nego (ownOf r) sized few (ok .talk) (ok .limits) (x25, (x26, tt)) (take (16 * r .count) (r .list)) (own-joined r (ok .ids)) in
+      let heads : Heads (typeOf (r .acceptor) NEGO) (ownOf r) x =
+      heads-written r nego (ownOf r) sized few (ok .talk) (ok .limits) (x25, (x26, tt)) (take (16 * r .count) (r .list))
+      (own-joined r (ok .ids)) in
       let f : eqb (writes r) FIRST ≡ true = eq-eqb _ _ (first .0) in
       let n : eqb (writes r) ANSWER ≡ false = rw (first .0) in
-      made (offer nego) r NEGO c (unchanged r) (kind-type (r .acceptor) NEGO refl refl) refl refl refl (nego .1 .random) fit refl may refl refl (next-is rows action g)
+      made (offer nego) r NEGO c (unchanged r) (kind-type (r .acceptor) NEGO refl refl) refl refl refl (nego .1 .random) fit refl may refl refl
+      (next-is rows action g)
       (λ h. record {
-        begins = λ p. (sym (begun-same marks r (and-false (not (r .acceptor)) (first .1)) n), λ more. owed-first marks r (x ++ more) f (heads more .1));
+        begins =
+            λ p. (sym (begun-same marks r (and-false (not (r .acceptor)) (first .1)) n), λ more. owed-first marks r (x ++ more) f (heads more .1));
         goes-on = λ p q. absurd (let z = start .1 in omega arith);
       })
 
@@ -278,20 +297,26 @@ module _ (e : End) (peer : List ℕ) (log : List (List ℕ)) (ok : Sound (e .rec
       let action : Outcome = naming l (appended r d (placeAfter r NEGO) x w) in
       let g = passed-by rows action refl a in
       let may : mayWrite r NEGO ≡ true = true-behind (limitRows r) (row 18 (mayWrite r NEGO)) (thenFits (replyRows r marks (nego .0)) r d x) g in
-      let role : r .acceptor ≡ true = true-behind (stageRows r NEGO) (row 18 (r .acceptor)) (row 19 (below (r .count) marks) ∷ (extensionRows (nego .0) ++ (row 17 (someLeft l) ∷ fits r d (length x) ∷ []))) g in
+      let role : r .acceptor ≡ true =
+      true-behind (stageRows r NEGO) (row 18 (r .acceptor))
+      (row 19 (below (r .count) marks) ∷ (extensionRows (nego .0) ++ (row 17 (someLeft l) ∷ fits r d (length x) ∷ []))) g in
       let (is-acceptor, (below-count, (x25, (x26, behind)))) = back-true (stageRows r NEGO) (thenFits (replyRows r marks (nego .0)) r d x) g in
-      let some : someLeft l ≡ true = true-behind (stageRows r NEGO ++ (row 18 (r .acceptor) ∷ row 19 (below (r .count) marks) ∷ extensionRows (nego .0))) (row 17 (someLeft l)) (fits r d (length x) ∷ []) g in
+      let some : someLeft l ≡ true =
+      true-behind (stageRows r NEGO ++ (row 18 (r .acceptor) ∷ row 19 (below (r .count) marks) ∷ extensionRows (nego .0))) (row 17 (someLeft l))
+      (fits r d (length x) ∷ []) g in
       let fit = true-behind (stageRows r NEGO ++ replyRows r marks (nego .0)) (fits r d (length x)) [] g in
       let start = nego-start (writes r) (r .position) (r .attested) may in
       let answers : writes r ≡ 1 = acceptor-answers (r .acceptor) (r .stage) role (start .0) in
       let sized = left-sized (ownOf r) (r .common) marks (own-sized r (ok .ids)) in
       let (l1, (l2, rest)) = ok .limits in
       let few : length l ≤ 16 = (let n : r .count ≤ 16 = leb-true _ _ l2 in omega (arith, own-length r, sized .1)) in
-      let heads : Heads (typeOf (r .acceptor) NEGO) l x = heads-written r nego l (sized .0) few (ok .talk) (ok .limits) (x25, (x26, tt)) (joinIds l) refl in
+      let heads : Heads (typeOf (r .acceptor) NEGO) l x =
+      heads-written r nego l (sized .0) few (ok .talk) (ok .limits) (x25, (x26, tt)) (joinIds l) refl in
       let f : eqb (writes r) FIRST ≡ false = rw answers in
       let n : eqb (writes r) ANSWER ≡ true = rw answers in
       let no : mayChoose r ≡ false = rw role in
-      made (reply marks nego) (withMarks marks r) NEGO c w (kind-type (r .acceptor) NEGO refl refl) refl refl refl (nego .1 .random) fit refl may refl refl (next-is rows action g)
+      made (reply marks nego) (withMarks marks r) NEGO c w (kind-type (r .acceptor) NEGO refl refl) refl refl refl
+      (nego .1 .random) fit refl may refl refl (next-is rows action g)
       (λ h. record {
         begins = λ p. (sym (begun-answer marks r no n), λ more. owed-answer marks r (x ++ more) f n some (heads more .1));
         goes-on = λ p q. absurd (let z = start .1 in omega arith);
@@ -302,12 +327,16 @@ module _ (e : End) (peer : List ℕ) (log : List (List ℕ)) (ok : Sound (e .rec
   writes-metadata id value a =
       let x : List ℕ = metadataMessage r (id .0) value in
       let c : Contents = ofExchange (record { scheme = id .0; value = value }) in
-      let w : WrittenAs = record { marks = r .marks; metadata = r .metadata + 2 ^ place (ownOf r) (id .0); requested = r .requested; attested = r .attested } in
+      let w : WrittenAs =
+      record { marks = r .marks; metadata = r .metadata + 2 ^ place (ownOf r) (id .0); requested = r .requested; attested = r .attested } in
       let rows : List Row = stageRows r METADATA ++ thenFits (metadataRows r (id .0) (length value)) r d x in
       let action : Outcome = appended r d (placeAfter r METADATA) x w in
       let g = passed-by rows action refl a in
-      let may : mayWrite r METADATA ≡ true = true-behind (limitRows r) (row 18 (mayWrite r METADATA)) (thenFits (metadataRows r (id .0) (length value)) r d x) g in
-      let allowed : metadataAllowed r (id .0) ≡ true = true-behind (stageRows r METADATA ++ (row 19 (leb 1 (length value)) ∷ [])) (row 15 (metadataAllowed r (id .0))) (fits r d (length x) ∷ []) g in
+      let may : mayWrite r METADATA ≡ true =
+      true-behind (limitRows r) (row 18 (mayWrite r METADATA)) (thenFits (metadataRows r (id .0) (length value)) r d x) g in
+      let allowed : metadataAllowed r (id .0) ≡ true =
+      true-behind (stageRows r METADATA ++ (row 19 (leb 1 (length value)) ∷ [])) (row 15 (metadataAllowed r (id .0)))
+      (fits r d (length x) ∷ []) g in
       let fit = true-behind (stageRows r METADATA ++ metadataRows r (id .0) (length value)) (fits r d (length x)) [] g in
       let scheme : schemeIn x ≡ id .0 = scheme-exchange r METADATA (id .0) value (ok .talk) (id .1) in
       made (metadata id value) r METADATA c w (kind-type (r .acceptor) METADATA refl refl) refl refl refl (id .1) fit
@@ -316,11 +345,14 @@ module _ (e : End) (peer : List ℕ) (log : List (List ℕ)) (ok : Sound (e .rec
         begins = λ p. absurd (none p may);
         goes-on = λ p q. refl;
       }) where
-        told-is : (s : Id) → metadataAllowed r s ≡ true → saidAs r METADATA s ≡ record { marks = r .marks; metadata = r .metadata + 2 ^ place (ownOf r) s; requested = r .requested; attested = r .attested }
+        told-is : (s : Id) → metadataAllowed r s ≡ true → saidAs r METADATA s
+            ≡ record { marks = r .marks; metadata = r .metadata + 2 ^ place (ownOf r) s; requested = r .requested; attested = r .attested }
         told-is s h = rw (lt-ltb _ _ (place-own r s (allowed-own r s h))) (unfold withBit in rw (allowed-untold r s h))
 
         none : r .position ≡ 0 → mayWrite r METADATA ≡ true → ⊥
-        none p h = let z : not (eqb (after (writes r) 0 (r .attested) METADATA) 0) ≡ true = rw p at h in no-after (after (writes r) 0 (r .attested) METADATA) (no-metadata-first (writes r) (r .attested)) z
+        none p h =
+            let z : not (eqb (after (writes r) 0 (r .attested) METADATA) 0) ≡ true =
+            rw p at h in no-after (after (writes r) 0 (r .attested) METADATA) (no-metadata-first (writes r) (r .attested)) z
 
   writes-speech : (s : Speech) → isAccepted (act e peer (speak s) .answer) ≡ true → Writes (speak s)
   unfolding act speaking
@@ -331,11 +363,14 @@ module _ (e : End) (peer : List ℕ) (log : List (List ℕ)) (ok : Sound (e .rec
       let rows : List Row = stageRows r (classIn s) ++ thenFits (namedRows r (speechFits s)) r d x in
       let action : Outcome = appended r d (placeAfter r (classIn s)) x (spokenAs r s) in
       let g = passed-by rows action refl a in
-      let may : mayWrite r (classIn s) ≡ true = true-behind (limitRows r) (row 18 (mayWrite r (classIn s))) (thenFits (namedRows r (speechFits s)) r d x) g in
-      let allowed : schemeAllowed r ≡ true = true-behind (stageRows r (classIn s) ++ (row 25 (speechFits s) ∷ [])) (row 15 (schemeAllowed r)) (fits r d (length x) ∷ []) g in
+      let may : mayWrite r (classIn s) ≡ true =
+      true-behind (limitRows r) (row 18 (mayWrite r (classIn s))) (thenFits (namedRows r (speechFits s)) r d x) g in
+      let allowed : schemeAllowed r ≡ true =
+      true-behind (stageRows r (classIn s) ++ (row 25 (speechFits s) ∷ [])) (row 15 (schemeAllowed r)) (fits r d (length x) ∷ []) g in
       let fit = true-behind (stageRows r (classIn s) ++ namedRows r (speechFits s)) (fits r d (length x)) [] g in
       let whole : length id ≡ 16 = ok .ids (schemeNow r) (now-below r allowed) in
-      made (speak s) r (classIn s) c (spokenAs r s) (kind-speech (r .acceptor) s) refl refl refl (whole-speech s id whole) fit (said-spoken r s (schemeIn x)) may refl refl (next-is rows action g)
+      made (speak s) r (classIn s) c (spokenAs r s) (kind-speech (r .acceptor) s) refl refl refl (whole-speech s id whole) fit
+      (said-spoken r s (schemeIn x)) may refl refl (next-is rows action g)
       (λ h. record {
         begins = λ p.
             let later : writes r ≡ 2 = speech-first s (writes r) (r .attested) (rw p at may) in
@@ -357,14 +392,23 @@ module _ (e : End) (peer : List ℕ) (log : List (List ℕ)) (ok : Sound (e .rec
       let g = passed-by (choiceTable r d marks s) action refl a in
       let p = choice-passed r d marks s g in
       let role : r .acceptor ≡ false = not-true _ (and-l (not (r .acceptor)) (eqb (r .stage) 2) (p .may)) in
-      let none : writes r ≡ 3 = choosing-none (r .acceptor) (r .stage) (and-l (not (r .acceptor)) (eqb (r .stage) 2) (p .may)) (and-r (not (r .acceptor)) (eqb (r .stage) 2) (p .may)) in
+      let none : writes r ≡ 3 =
+      choosing-none (r .acceptor) (r .stage) (and-l (not (r .acceptor)) (eqb (r .stage) 2) (p .may))
+      (and-r (not (r .acceptor)) (eqb (r .stage) 2) (p .may)) in
       let (l1, (l2, (l3, (l4, (l5, (l6, (l7, rest))))))) = ok .limits in
-      let whole : length id ≡ 16 = ap (λ (k : ℕ). length (schemeAt q k)) (now-chosen r marks) ∙ ok .ids _ (chosen-below r marks (rw role at l7) (p .left)) in
+      let whole : length id ≡ 16 =
+      ap (λ (k : ℕ). length (schemeAt q k)) (now-chosen r marks) ∙ ok .ids _ (chosen-below r marks (rw role at l7) (p .left)) in
       let f : eqb (writes r) FIRST ≡ false = rw none in
       let n : eqb (writes r) ANSWER ≡ false = rw none in
-      made (choose marks s) q (classIn s) (contentsIn id s) (spokenAs q s) (kind-speech (r .acceptor) s) refl refl refl (whole-speech s id whole) (p .fitting) (said-spoken q s (schemeIn x)) (p .speaks) refl refl (next-is (choiceTable r d marks s) action g)
+      made (choose marks s) q (classIn s) (contentsIn id s) (spokenAs q s) (kind-speech (r .acceptor) s) refl refl refl (whole-speech s id whole)
+      (p .fitting) (said-spoken q s (schemeIn x)) (p .speaks) refl refl (next-is (choiceTable r d marks s) action g)
       (λ h. record {
-        begins = λ z. (sym (begun-choice marks r (p .may)), λ more. owed-choice marks r (x ++ more) f n (p .may) (p .left) (scheme-front x more (h .long) ∙ scheme-spoken q id s (ok .talk) whole ∙ scheme-chosen r marks (p .left)));
+        begins =
+            λ z. (
+              sym (begun-choice marks r (p .may)),
+              λ more. owed-choice marks r (x ++ more) f n (p .may) (p .left)
+                  (scheme-front x more (h .long) ∙ scheme-spoken q id s (ok .talk) whole ∙ scheme-chosen r marks (p .left)),
+            );
         goes-on = λ z y. absurd (y none);
       })
 
@@ -373,17 +417,20 @@ module _ (e : End) (peer : List ℕ) (log : List (List ℕ)) (ok : Sound (e .rec
   unfolding act replying
   reply-role m nego a =
       let x : List ℕ = replyMessage r m (nego .0) in
-      let rest : List Row = row 19 (below (r .count) m) ∷ (extensionRows (nego .0) ++ (row 17 (someLeft (left (ownOf r) (r .common) m)) ∷ fits r d (length x) ∷ [])) in
+      let rest : List Row =
+      row 19 (below (r .count) m) ∷ (extensionRows (nego .0) ++ (row 17 (someLeft (left (ownOf r) (r .common) m)) ∷ fits r d (length x) ∷ [])) in
       true-behind (stageRows r NEGO) (row 18 (r .acceptor)) rest (passed-by (stageRows r NEGO ++ (row 18 (r .acceptor) ∷ rest)) _ refl a)
 
   choice-role : (m : ℕ) (s : Speech) → isAccepted (act e peer (choose m s) .answer) ≡ true → r .acceptor ≡ false
   unfolding act choosing
-  choice-role m s a = not-true _ (and-l (not (r .acceptor)) (eqb (r .stage) 2) (choice-passed r d m s (passed-by (choiceTable r d m s) _ refl a) .may))
+  choice-role m s a =
+      not-true _ (and-l (not (r .acceptor)) (eqb (r .stage) 2) (choice-passed r d m s (passed-by (choiceTable r d m s) _ refl a) .may))
 
   pub writes-call : (k : Call) → Marked (r .acceptor) marks k → (k ≡ read → ⊥) → isAccepted (act e peer k .answer) ≡ true → Writes k
   writes-call (offer nego) m z a = writes-offer nego a
   writes-call (reply n nego) m z a =
-      subst (λ (j : ℕ). isAccepted (act e peer (reply j nego) .answer) ≡ true → Writes (reply j nego)) (sym (m (reply-role n nego a))) (writes-reply nego) a
+      subst (λ (j : ℕ). isAccepted (act e peer (reply j nego) .answer) ≡ true → Writes (reply j nego)) (sym (m (reply-role n nego a)))
+      (writes-reply nego) a
   writes-call (metadata id value) m z a = writes-metadata id value a
   writes-call (speak s) m z a = writes-speech s a
   writes-call read m z a = absurd (z refl)

@@ -32,7 +32,9 @@ pub left : List ℕ → List ℕ → Replay → ℕ
 left i a s = (length i - s .iplace) + (length a - s .aplace) + one (s .more)
 
 more-turns : (k k′ : ℕ) (p : Played) (t : Shown) → k′ ≡ k + 1 → counted k (summary (withTurn t p)) ≡ counted k′ (summary p)
-more-turns k k′ p t e = let z : k + suc (length (p .turns)) ≡ k′ + length (p .turns) = omega arith in ap (λ (n : ℕ). record { turns = n; sides = p .sides; ending = p .ending }) z
+more-turns k k′ p t e =
+    let z : k + suc (length (p .turns)) ≡ k′ + length (p .turns) =
+    omega arith in ap (λ (n : ℕ). record { turns = n; sides = p .sides; ending = p .ending }) z
 
 counted-none : (u : Summary) → counted 0 u ≡ u
 counted-none u = let z : 0 + u .turns ≡ u .turns = omega arith in ap (λ (n : ℕ). record { turns = n; sides = u .sides; ending = u .ending }) z
@@ -42,7 +44,8 @@ pub record AllOn (m : Marks) (i a : List ℕ) (total : Summary) (s : Replay) (d 
   pub open-yet : s .more ≡ true → endingAs (s .fault) ≡ finished
   pub come : total ≡ counted (s .turns) (summary (restOf m i a s d))
 
-pub all-begins : (m : Marks) (i a : List ℕ) (s : Replay) (d : List ℕ) → Fine i a s × (s .more ≡ true) × (endingAs (s .fault) ≡ finished) → AllOn m i a (counted (s .turns) (summary (restOf m i a s d))) s d
+pub all-begins : (m : Marks) (i a : List ℕ) (s : Replay) (d : List ℕ) → Fine i a s × (s .more ≡ true) × (endingAs (s .fault) ≡ finished)
+    → AllOn m i a (counted (s .turns) (summary (restOf m i a s d))) s d
 all-begins m i a s d h = record { fine = h .0; open-yet = λ e. h .2; come = refl }
 
 module _ (m : Marks) (i a : List ℕ) (total : Summary) (s : Replay) (d : List ℕ) (on : AllOn m i a total s d) where
@@ -56,7 +59,11 @@ module _ (m : Marks) (i a : List ℕ) (total : Summary) (s : Replay) (d : List �
   unfolding restOf
   all-ends e =
       let z : s .turns ≡ s .turns + 0 = omega arith in
-      sym (on .come ∙ ap (λ (b : Bool). counted (s .turns) (summary (cond b (playFrom (marked m) (sidesIn s d) (leftOf s i a)) (record { turns = []; sides = sidesIn s d; ending = endingAs (s .fault) })))) e ∙ ap (λ (k : ℕ). record { turns = k; sides = sidesIn s d; ending = endingAs (s .fault) }) (sym z))
+      sym (on .come
+      ∙ ap (λ (b : Bool). counted (s .turns)
+      (summary
+      (cond b (playFrom (marked m) (sidesIn s d) (leftOf s i a)) (record { turns = []; sides = sidesIn s d; ending = endingAs (s .fault) })))) e
+      ∙ ap (λ (k : ℕ). record { turns = k; sides = sidesIn s d; ending = endingAs (s .fault) }) (sym z))
 
   module _ (more : s .more ≡ true) (s′ : Replay) (d′ : List ℕ) (goes : Goes m i a s d s′ d′) where
     pub all-on : AllOn m i a total s′ d′
@@ -66,12 +73,15 @@ module _ (m : Marks) (i a : List ℕ) (total : Summary) (s : Replay) (d : List �
         fine = goes .fine;
         open-yet = λ e. ap endingAs (f .kept) ∙ on .open-yet more;
         come =
-            on .come ∙ ap (λ (p : Played). counted (s .turns) (summary p)) (f .come) ∙ more-turns (s .turns) (s′ .turns) (restOf m i a s′ d′) (record { turn = turnIn i a s s′; choice = choiceOf (s′ .initiator) }) (f .one);
+            on .come ∙ ap (λ (p : Played). counted (s .turns) (summary p)) (f .come)
+            ∙ more-turns (s .turns) (s′ .turns) (restOf m i a s′ d′) (record { turn = turnIn i a s s′; choice = choiceOf (s′ .initiator) })
+            (f .one);
       }
       go (inr f) = record {
         fine = goes .fine;
         open-yet = λ e. no-true (sym (f .over) ∙ e);
-        come = on .come ∙ ap (λ (p : Played). counted (s .turns) (summary p)) (f .come) ∙ ap (λ (k : ℕ). counted k (summary (restOf m i a s′ d′))) (sym (f .same));
+        come = on .come ∙ ap (λ (p : Played). counted (s .turns) (summary p)) (f .come)
+            ∙ ap (λ (k : ℕ). counted k (summary (restOf m i a s′ d′))) (sym (f .same));
       }
 
     pub all-less : left i a s′ < left i a s
@@ -116,7 +126,8 @@ ok-file w true file e = elim (which (leb (length file) 65535)) [
 -- play goes by the marks alone
 module _ (il al : List ℕ) (m : Marks) (f : Found) (i a : List ℕ) where
   same-step : (x : Bool) (ms : List (List ℕ)) (ts : List Turn) → ((s : Sides) → playFrom (caseWith il al m f i a) s ts ≡ playFrom (marked m) s ts)
-      → (s : Sides) → playFrom (caseWith il al m f i a) s (record { acceptor = x; messages = ms } ∷ ts) ≡ playFrom (marked m) s (record { acceptor = x; messages = ms } ∷ ts)
+      → (s : Sides) → playFrom (caseWith il al m f i a) s (record { acceptor = x; messages = ms } ∷ ts)
+      ≡ playFrom (marked m) s (record { acceptor = x; messages = ms } ∷ ts)
   unfolding playFrom
   same-step false ms ts ih s = rw (ih (soPlayed (marked m) s (record { acceptor = false; messages = ms })))
   same-step true ms ts ih s = rw (ih (soPlayed (marked m) s (record { acceptor = true; messages = ms })))
@@ -127,25 +138,29 @@ module _ (il al : List ℕ) (m : Marks) (f : Found) (i a : List ℕ) where
   same-marks s (t ∷ ts) = same-step (t .acceptor) (t .messages) ts (λ s′. same-marks s′ ts) s
 
 -- of an ending before play
-ended-first : (x : Fault) (s : Sides) (p : Played) → x .missing || not (eqb (x .refusal) 0) ≡ true → endedBy (endingAs x) s p ≡ record { turns = []; sides = s; ending = endingAs x }
+ended-first : (x : Fault) (s : Sides) (p : Played) → x .missing || not (eqb (x .refusal) 0) ≡ true
+    → endedBy (endingAs x) s p ≡ record { turns = []; sides = s; ending = endingAs x }
 unfolding endingAs
 ended-first x s p h = elim (which (x .missing)) [
   | inl m ↦ rw m
   | inr m ↦ elim (which (eqb (x .refusal) 0)) [ inl z ↦ no-true (rw (m, z) at h) | inr z ↦ rw (m, z) ]
 ]
 
-opened-counts : (x : Bool) (list v : List ℕ) → listOk list ≡ true → (opening x list v .next .count ≤ 16) × ((opening x list v .next .used ≡ 0) × (opening x list v .next .sequence ≡ 0))
+opened-counts : (x : Bool) (list v : List ℕ) → listOk list ≡ true
+    → (opening x list v .next .count ≤ 16) × ((opening x list v .next .used ≡ 0) × (opening x list v .next .sequence ≡ 0))
 unfolding opening
 opened-counts x list v h = rw h (few-in list h, (refl, refl))
 
-module _ (il al : List ℕ) (m : Marks) (f : Found) (i a : List ℕ) (x : Fault) (x-is : endingAs x ≡ before (caseWith il al m f i a)) (q : Bool) (q-is : q ≡ (x .missing || not (eqb (x .refusal) 0))) where
+module _ (il al : List ℕ) (m : Marks) (f : Found) (i a : List ℕ) (x : Fault) (x-is : endingAs x ≡ before (caseWith il al m f i a)) (q : Bool)
+    (q-is : q ≡ (x .missing || not (eqb (x .refusal) 0))) where
   abbrev the-case : Case
   the-case = caseWith il al m f i a
 
   ended-come : q ≡ true → (d : List ℕ) → restOf m i a (begunWith il al (replicate 16 0) x false) d ≡ replayOf the-case d
   unfolding restOf replayOf
   ended-come e d =
-      sym (ap (λ (z : Ending). endedBy z (opened the-case [] d) (playFrom the-case (opened the-case (turnsIn the-case) d) (turnsIn the-case))) (sym x-is)
+      sym (ap (λ (z : Ending). endedBy z (opened the-case [] d) (playFrom the-case (opened the-case (turnsIn the-case) d) (turnsIn the-case)))
+      (sym x-is)
       ∙ ended-first x (opened the-case [] d) (playFrom the-case (opened the-case (turnsIn the-case) d) (turnsIn the-case)) (sym q-is ∙ e))
 
   pub start-ended : q ≡ true → (r : Replay) → r ≡ begunWith il al (replicate 16 0) x false → Begun (caseWith il al m f i a) m i a r
@@ -194,7 +209,8 @@ module _ (il al : List ℕ) (m : Marks) (f : Found) (i a : List ℕ) (x : Fault)
     whole-turns : turnsIn the-case ≡ turnsOf (messagesOf i) (messagesOf a)
     whole-turns = rw (ok-i .0, ok-a .0)
 
-    whole-is : (d : List ℕ) → replayOf the-case d ≡ playFrom the-case (opened the-case (turnsOf (messagesOf i) (messagesOf a)) d) (turnsOf (messagesOf i) (messagesOf a))
+    whole-is : (d : List ℕ)
+        → replayOf the-case d ≡ playFrom the-case (opened the-case (turnsOf (messagesOf i) (messagesOf a)) d) (turnsOf (messagesOf i) (messagesOf a))
     unfolding replayOf
     whole-is d = rw (none-before, whole-turns)
 
@@ -221,7 +237,8 @@ module _ (il al : List ℕ) (m : Marks) (f : Found) (i a : List ℕ) (x : Fault)
       whole-left d =
           ap (λ (z : Replay). restOf m i a z d) s-is
           ∙ ap (λ (w : List ℕ). playFrom (marked m) (sidesIn (begunWith il al w x true) d) (turnsOf (messagesOf i) (messagesOf a))) v-is
-          ∙ sym (whole-is d ∙ same-marks il al m f i a (opened the-case (turnsOf (messagesOf i) (messagesOf a)) d) (turnsOf (messagesOf i) (messagesOf a)))
+          ∙ sym (whole-is d ∙ same-marks il al m f i a (opened the-case (turnsOf (messagesOf i) (messagesOf a)) d)
+          (turnsOf (messagesOf i) (messagesOf a)))
 
       pub start-goes : Begun (caseWith il al m f i a) m i a s
       start-goes = record {
@@ -239,17 +256,22 @@ module _ (c : Case) (m : Marks) (i a : List ℕ) (s : Replay) (begun : Begun c m
   begun-open h = begun .going h .1
 
   begun-counted : (d : List ℕ) → counted (s .turns) (summary (restOf m i a s d)) ≡ summary (replayOf c d)
-  begun-counted d = ap (λ (k : ℕ). counted k (summary (restOf m i a s d))) (begun .none-yet) ∙ counted-none (summary (restOf m i a s d)) ∙ ap summary (begun .come d)
+  begun-counted d =
+      ap (λ (k : ℕ). counted k (summary (restOf m i a s d))) (begun .none-yet) ∙ counted-none (summary (restOf m i a s d))
+      ∙ ap summary (begun .come d)
 
   pub whole-ended : (d : List ℕ) → s .more ≡ false → playedAs s d ≡ summary (replayOf c d)
   unfolding restOf
   whole-ended d e =
       let z : s .turns ≡ 0 = begun .none-yet in
       ap (λ (k : ℕ). record { turns = k; sides = sidesIn s d; ending = endingAs (s .fault) }) z
-      ∙ sym (ap (λ (b : Bool). summary (cond b (playFrom (marked m) (sidesIn s d) (leftOf s i a)) (record { turns = []; sides = sidesIn s d; ending = endingAs (s .fault) }))) e)
+      ∙ sym (ap
+      (λ (b : Bool). summary
+      (cond b (playFrom (marked m) (sidesIn s d) (leftOf s i a)) (record { turns = []; sides = sidesIn s d; ending = endingAs (s .fault) }))) e)
       ∙ ap summary (begun .come d)
 
-  pub whole-played : (d : List ℕ) (r : Replay) (d′ : List ℕ) → playedAs r d′ ≡ counted (s .turns) (summary (restOf m i a s d)) → playedAs r d′ ≡ summary (replayOf c d)
+  pub whole-played : (d : List ℕ) (r : Replay) (d′ : List ℕ) → playedAs r d′ ≡ counted (s .turns) (summary (restOf m i a s d))
+      → playedAs r d′ ≡ summary (replayOf c d)
   whole-played d r d′ e = e ∙ begun-counted d
 
 pub ruleset alls = (all-begins, all-fine, all-open, all-ends, all-on, all-less)

@@ -34,7 +34,8 @@ pub few-in : (list : List ℕ) → listOk list ≡ true → length list / 16 ≤
 unfolding listOk
 few-in list h =
     let o : oneTo16 (idsOf list) ≡ true = and-r (eqb (length list % 16) 0) (oneTo16 (idsOf list)) h in
-    let f : leb 1 (length (idsOf list)) && leb (length (idsOf list)) 16 ≡ true = and-l (leb 1 (length (idsOf list)) && leb (length (idsOf list)) 16) (distinct (idsOf list)) o in
+    let f : leb 1 (length (idsOf list)) && leb (length (idsOf list)) 16 ≡ true =
+    and-l (leb 1 (length (idsOf list)) && leb (length (idsOf list)) 16) (distinct (idsOf list)) o in
     let n : length (idsOf list) ≤ 16 = leb-true _ _ (and-r (leb 1 (length (idsOf list))) (leb (length (idsOf list)) 16) f) in
     omega (arith, length-ids (length list / 16) list)
 
@@ -53,10 +54,12 @@ pub fault-number : (f : Fault) → f .missing ≡ false → not (eqb (f .refusal
 fault-number f e = rw e
 
 module _ (found : Bool) (number : ℕ) (place : TokenPlace) (whose : ℕ) where
-  pub fault-found : found ≡ true → (r : Fault) → r ≡ record { missing = false; refusal = number; place = place; whose = whose } → r ≡ record { missing = not found; refusal = number; place = place; whose = whose }
+  pub fault-found : found ≡ true → (r : Fault) → r ≡ record { missing = false; refusal = number; place = place; whose = whose }
+      → r ≡ record { missing = not found; refusal = number; place = place; whose = whose }
   fault-found e r r-is = rw e r-is
 
-  pub fault-missing : found ≡ false → _≡_ {A = Fault} (record { missing = true; refusal = number; place = place; whose = whose }) (record { missing = not found; refusal = number; place = place; whose = whose })
+  pub fault-missing : found ≡ false → _≡_ {A = Fault} (record { missing = true; refusal = number; place = place; whose = whose })
+      (record { missing = not found; refusal = number; place = place; whose = whose })
   fault-missing e = rw e
 
 pub ruleset faults = (fault-found, fault-missing)
@@ -81,7 +84,9 @@ unfolding cutFrom cutEnding
 cut-ending w [] k p = refl
 cut-ending w (x ∷ xs) (suc k) p = cut-ending w xs k p
 cut-ending w (x ∷ xs) zero p = go (which (fits (x ∷ xs))) (cut-ending w xs (size (x ∷ xs) - 1) (p + size (x ∷ xs))) where
-  go : (fits (x ∷ xs) ≡ true) ⊎ (fits (x ∷ xs) ≡ false) → cutEnding w (cutFrom xs (size (x ∷ xs) - 1) (p + size (x ∷ xs))) ≡ endBy w (numberIn (cutFrom xs (size (x ∷ xs) - 1) (p + size (x ∷ xs)))) (placeIn (cutFrom xs (size (x ∷ xs) - 1) (p + size (x ∷ xs))))
+  go : (fits (x ∷ xs) ≡ true) ⊎ (fits (x ∷ xs) ≡ false)
+      → cutEnding w (cutFrom xs (size (x ∷ xs) - 1) (p + size (x ∷ xs)))
+      ≡ endBy w (numberIn (cutFrom xs (size (x ∷ xs) - 1) (p + size (x ∷ xs)))) (placeIn (cutFrom xs (size (x ∷ xs) - 1) (p + size (x ∷ xs))))
       → cutEnding w (cutFrom (x ∷ xs) 0 p) ≡ endBy w (numberIn (cutFrom (x ∷ xs) 0 p)) (placeIn (cutFrom (x ∷ xs) 0 p))
   go (inl e) ih = rw e ih
   go (inr e) ih = rw (e, ne-eqb _ _ (first-not-0 (x ∷ xs) e))
@@ -114,7 +119,8 @@ unfolding cutFrom messagesIn
 cut-few [] k p = omega arith
 cut-few (x ∷ xs) (suc k) p = let i = cut-few xs k p in omega arith
 cut-few (x ∷ xs) zero p = go (which (fits (x ∷ xs))) (cut-few xs (size (x ∷ xs) - 1) (p + size (x ∷ xs))) where
-  go : (fits (x ∷ xs) ≡ true) ⊎ (fits (x ∷ xs) ≡ false) → length (messagesIn (cutFrom xs (size (x ∷ xs) - 1) (p + size (x ∷ xs)))) ≤ length xs → length (messagesIn (cutFrom (x ∷ xs) 0 p)) ≤ length (x ∷ xs)
+  go : (fits (x ∷ xs) ≡ true) ⊎ (fits (x ∷ xs) ≡ false) → length (messagesIn (cutFrom xs (size (x ∷ xs) - 1) (p + size (x ∷ xs)))) ≤ length xs
+      → length (messagesIn (cutFrom (x ∷ xs) 0 p)) ≤ length (x ∷ xs)
   go (inl e) ih = rw e (omega arith)
   go (inr e) ih = rw e (omega arith)
 
@@ -128,7 +134,9 @@ file-whole file z = elim (which (leb (length file) 65535)) [
 
 -- 3. the files, in order
 
-module _ (f : Found) (i a : List ℕ) (ci : Cut) (ci-is : ci ≡ fileCut i) (x : Fault) (x-is : x ≡ record { missing = not (f .initiator); refusal = ci .number; place = ci .place; whose = 0 }) (q : Bool) (q-is : q ≡ (x .missing || not (eqb (x .refusal) 0))) where
+module _ (f : Found) (i a : List ℕ) (ci : Cut) (ci-is : ci ≡ fileCut i) (x : Fault)
+    (x-is : x ≡ record { missing = not (f .initiator); refusal = ci .number; place = ci .place; whose = 0 }) (q : Bool)
+    (q-is : q ≡ (x .missing || not (eqb (x .refusal) 0))) where
   abbrev last : Ending
   last = cond (inRow (messagesOf (fileOf (fileIf (f .initiator) i))) (messagesOf (fileOf (fileIf (f .acceptor) a)))) finished (refused 24 0 neither)
 
@@ -137,7 +145,9 @@ module _ (f : Found) (i a : List ℕ) (ci : Cut) (ci-is : ci ≡ fileCut i) (x :
 
   files-i : filesEnding f i a ≡ firstEnding (endingAs x) rest
   unfolding filesEnding
-  files-i = ap (λ (e : Ending). firstEnding e rest) (file-ending (f .initiator) i 0 ∙ ap (λ (z : Cut). endingAs (faultOf (f .initiator) z 0)) (sym ci-is) ∙ ap endingAs (sym x-is))
+  files-i =
+      ap (λ (e : Ending). firstEnding e rest)
+      (file-ending (f .initiator) i 0 ∙ ap (λ (z : Cut). endingAs (faultOf (f .initiator) z 0)) (sym ci-is) ∙ ap endingAs (sym x-is))
 
   pub ends-file-i : q ≡ true → endingAs x ≡ filesEnding f i a
   ends-file-i e = sym (files-i ∙ fault-first x rest (sym q-is ∙ e))
@@ -152,11 +162,14 @@ module _ (f : Found) (i a : List ℕ) (ci : Cut) (ci-is : ci ≡ fileCut i) (x :
     pub row-short-i : length i ≤ 65535
     row-short-i = whole-i .0
 
-    module _ (ca : Cut) (ca-is : ca ≡ fileCut a) (y : Fault) (y-is : y ≡ record { missing = not (f .acceptor); refusal = ca .number; place = ca .place; whose = 1 }) (u : Bool) (u-is : u ≡ (y .missing || not (eqb (y .refusal) 0))) where
+    module _ (ca : Cut) (ca-is : ca ≡ fileCut a) (y : Fault)
+        (y-is : y ≡ record { missing = not (f .acceptor); refusal = ca .number; place = ca .place; whose = 1 }) (u : Bool)
+        (u-is : u ≡ (y .missing || not (eqb (y .refusal) 0))) where
       files-a : filesEnding f i a ≡ firstEnding (endingAs y) last
       files-a =
           files-i ∙ ap (λ (e : Ending). firstEnding e rest) (fault-none x (sym q-is ∙ ni) .0)
-          ∙ ap (λ (e : Ending). firstEnding e last) (file-ending (f .acceptor) a 1 ∙ ap (λ (z : Cut). endingAs (faultOf (f .acceptor) z 1)) (sym ca-is) ∙ ap endingAs (sym y-is))
+          ∙ ap (λ (e : Ending). firstEnding e last)
+          (file-ending (f .acceptor) a 1 ∙ ap (λ (z : Cut). endingAs (faultOf (f .acceptor) z 1)) (sym ca-is) ∙ ap endingAs (sym y-is))
 
       pub ends-file-a : u ≡ true → endingAs y ≡ filesEnding f i a
       ends-file-a e = sym (files-a ∙ fault-first y last (sym u-is ∙ e))
@@ -187,17 +200,26 @@ module _ (f : Found) (i a : List ℕ) (ci : Cut) (ci-is : ci ≡ fileCut i) (x :
         module _ (b : Bool) (b-is : b ≡ eqb (together (turnsOf (messagesOf i) (messagesOf a))) (ci .messages + ca .messages)) where
           row-is : inRow (messagesOf (fileOf (fileIf (f .initiator) i))) (messagesOf (fileOf (fileIf (f .acceptor) a))) ≡ b
           row-is =
-              rw (is-open (f .initiator) (sym (ap (λ (z : Fault). z .missing) x-is) ∙ no-x .0), is-open (f .acceptor) (sym (ap (λ (z : Fault). z .missing) y-is) ∙ no-y .0))
-              (sym (b-is ∙ ap (λ (k : ℕ). eqb (together (turnsOf (messagesOf i) (messagesOf a))) (k + ca .messages)) count-i ∙ ap (λ (k : ℕ). eqb (together (turnsOf (messagesOf i) (messagesOf a))) (length (messagesOf i) + k)) count-a))
+              rw (
+                is-open (f .initiator) (sym (ap (λ (z : Fault). z .missing) x-is) ∙ no-x .0),
+                is-open (f .acceptor)
+                    (sym (ap (λ (z : Fault). z .missing) y-is) ∙ no-y .0),
+              )
+              (sym (b-is ∙ ap (λ (k : ℕ). eqb (together (turnsOf (messagesOf i) (messagesOf a))) (k + ca .messages)) count-i
+              ∙ ap (λ (k : ℕ). eqb (together (turnsOf (messagesOf i) (messagesOf a))) (length (messagesOf i) + k)) count-a))
 
           files-row : filesEnding f i a ≡ cond b finished (refused 24 0 neither)
-          files-row = files-a ∙ ap (λ (e : Ending). firstEnding e last) (fault-none y (sym u-is ∙ na) .0) ∙ ap (λ (z : Bool). cond z finished (refused 24 0 neither)) row-is
+          files-row =
+              files-a ∙ ap (λ (e : Ending). firstEnding e last) (fault-none y (sym u-is ∙ na) .0)
+              ∙ ap (λ (z : Bool). cond z finished (refused 24 0 neither)) row-is
 
-          pub ends-row : b ≡ false → (r : Fault) → r ≡ record { missing = false; refusal = 24; place = record { 0 = 0 }; whose = 2 } → endingAs r ≡ filesEnding f i a
+          pub ends-row : b ≡ false → (r : Fault) → r ≡ record { missing = false; refusal = 24; place = record { 0 = 0 }; whose = 2 }
+              → endingAs r ≡ filesEnding f i a
           unfolding endingAs
           ends-row e r r-is = ap endingAs r-is ∙ sym (files-row ∙ ap (λ (z : Bool). cond z finished (refused 24 0 neither)) e)
 
-          pub ends-none : b ≡ true → (r : Fault) → r ≡ record { missing = false; refusal = 0; place = record { 0 = 0 }; whose = 2 } → endingAs r ≡ filesEnding f i a
+          pub ends-none : b ≡ true → (r : Fault) → r ≡ record { missing = false; refusal = 0; place = record { 0 = 0 }; whose = 2 }
+              → endingAs r ≡ filesEnding f i a
           unfolding endingAs
           ends-none e r r-is = ap endingAs r-is ∙ sym (files-row ∙ ap (λ (z : Bool). cond z finished (refused 24 0 neither)) e)
 
@@ -206,12 +228,14 @@ pub ruleset filings = (ends-file-i, ends-file-a, row-short-i, row-short-a, row-s
 -- 4. the lists before them
 
 module _ (il al : List ℕ) (m : Marks) (f : Found) (i a : List ℕ) (gi : Bool) (gi-is : gi ≡ (listOk il && below (length il / 16) (m .initiator))) where
-  pub ends-list-i : gi ≡ false → (r : Fault) → r ≡ record { missing = false; refusal = 19; place = record { 0 = 0 }; whose = 2 } → endingAs r ≡ before (caseWith il al m f i a)
+  pub ends-list-i : gi ≡ false → (r : Fault) → r ≡ record { missing = false; refusal = 19; place = record { 0 = 0 }; whose = 2 }
+      → endingAs r ≡ before (caseWith il al m f i a)
   unfolding endingAs before
   ends-list-i e r r-is = ap endingAs r-is ∙ rw (sym gi-is ∙ e)
 
   module _ (ti : gi ≡ true) (ga : Bool) (ga-is : ga ≡ (listOk al && below (length al / 16) (m .acceptor))) where
-    pub ends-list-a : ga ≡ false → (r : Fault) → r ≡ record { missing = false; refusal = 19; place = record { 0 = 0 }; whose = 2 } → endingAs r ≡ before (caseWith il al m f i a)
+    pub ends-list-a : ga ≡ false → (r : Fault) → r ≡ record { missing = false; refusal = 19; place = record { 0 = 0 }; whose = 2 }
+        → endingAs r ≡ before (caseWith il al m f i a)
     unfolding endingAs before
     ends-list-a e r r-is = ap endingAs r-is ∙ rw (sym gi-is ∙ ti, sym ga-is ∙ e)
 

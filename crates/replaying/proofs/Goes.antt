@@ -40,7 +40,8 @@ rest-on : (m : Marks) (i a : List ℕ) (s : Replay) (d : List ℕ) → s .more �
 unfolding restOf
 rest-on m i a s d e = rw e
 
-rest-over : (m : Marks) (i a : List ℕ) (s : Replay) (d : List ℕ) → s .more ≡ false → restOf m i a s d ≡ record { turns = []; sides = sidesIn s d; ending = endingAs (s .fault) }
+rest-over : (m : Marks) (i a : List ℕ) (s : Replay) (d : List ℕ) → s .more ≡ false
+    → restOf m i a s d ≡ record { turns = []; sides = sidesIn s d; ending = endingAs (s .fault) }
 unfolding restOf
 rest-over m i a s d e = rw e
 
@@ -48,12 +49,19 @@ play-none : (c : Case) (s : Sides) → playFrom c s [] ≡ record { turns = []; 
 unfolding playFrom
 play-none c s = refl
 
-play-on : (c : Case) (s : Sides) (t : Turn) (ts : List Turn) → isAccepted (outcomeOf c s t .answer) ≡ true → playFrom c s (t ∷ ts) ≡ withTurn (record { turn = t; choice = choiceOf (soPlayed c s t .i) }) (playFrom c (soPlayed c s t) ts)
+play-on : (c : Case) (s : Sides) (t : Turn) (ts : List Turn) → isAccepted (outcomeOf c s t .answer) ≡ true
+    → playFrom c s (t ∷ ts) ≡ withTurn (record { turn = t; choice = choiceOf (soPlayed c s t .i) }) (playFrom c (soPlayed c s t) ts)
 unfolding playFrom
 play-on c s t ts e = rw e
 
 play-ends : (c : Case) (s : Sides) (t : Turn) (ts : List Turn) → isAccepted (outcomeOf c s t .answer) ≡ false
-    → playFrom c s (t ∷ ts) ≡ record { turns = []; sides = s; ending = refused (outcomeOf c s t .answer .refusal) (outcomeOf c s t .answer .place .0) (by (cond (eqb (outcomeOf c s t .answer .refusal) 28) (t .acceptor) (not (t .acceptor)))) }
+    → playFrom c s (t ∷ ts)
+    ≡ record {
+      turns = [];
+      sides = s;
+      ending = refused (outcomeOf c s t .answer .refusal) (outcomeOf c s t .answer .place .0)
+          (by (cond (eqb (outcomeOf c s t .answer .refusal) 28) (t .acceptor) (not (t .acceptor))));
+    }
 unfolding playFrom
 play-ends c s t ts e = rw e
 
@@ -72,7 +80,16 @@ abbrev size : List ℕ → List ℕ → Replay → Bool → ℕ
 size i a s x = length (join (run i a s x))
 
 still-fine : (i a : List ℕ) (s : Replay) (f : Fault) → Fine i a s → Fine i a (endedWith s f)
-still-fine i a s f fine = record { short-i = fine .short-i; short-a = fine .short-a; in-i = fine .in-i; in-a = fine .in-a; numbers = fine .numbers; few = fine .few; level = fine .level }
+still-fine i a s f fine =
+    record {
+      short-i = fine .short-i;
+      short-a = fine .short-a;
+      in-i = fine .in-i;
+      in-a = fine .in-a;
+      numbers = fine .numbers;
+      few = fine .few;
+      level = fine .level;
+    }
 
 -- by cases: the file of a role
 module _ (i a : List ℕ) (s : Replay) (fine : Fine i a s) where
@@ -141,10 +158,12 @@ module _ (m : Marks) (i a : List ℕ) (s : Replay) (d : List ℕ) (fine : Fine i
   first-left : (x : Bool) → (x ≡ true → length (run i a s false) ≤ 0) → 0 < length (run i a s x) → leftOf s i a ≡ turn x ∷ leftOf (behind x) i a
   first-left false none some =
       turns-initiator (s .number) (messagesOf (part i a s false)) (messagesOf (part i a s true)) some
-      ∙ ap (λ (l : List (List ℕ)). turn false ∷ turnsLeft (s .number + length (run i a s false)) l (messagesOf (part i a s true))) (sym (left-behind false))
+      ∙ ap (λ (l : List (List ℕ)). turn false ∷ turnsLeft (s .number + length (run i a s false)) l (messagesOf (part i a s true)))
+      (sym (left-behind false))
   first-left true none some =
       turns-acceptor (s .number) (messagesOf (part i a s false)) (messagesOf (part i a s true)) (none refl) some
-      ∙ ap (λ (l : List (List ℕ)). turn true ∷ turnsLeft (s .number + length (run i a s true)) (messagesOf (part i a s false)) l) (sym (left-behind true))
+      ∙ ap (λ (l : List (List ℕ)). turn true ∷ turnsLeft (s .number + length (run i a s true)) (messagesOf (part i a s false)) l)
+      (sym (left-behind true))
 
   -- by cases: the places and the records behind it
   record Moved (x : Bool) : Type 0 where
@@ -174,7 +193,8 @@ module _ (m : Marks) (i a : List ℕ) (s : Replay) (d : List ℕ) (fine : Fine i
       heard = heard-turn (owed (marks-by x) (roleOf x s) (token (turn x))) (roleOf (not x) s) d (token (turn x)) (eq-eqb _ _ e) .1
 
       gone : Gone (roleOf (not x) s) (run i a s x) (heard .n)
-      gone = gone-through (roleOf (not x) s) (run i a s x) (heard .n) (heard .scan) (pieces-exact (run i a s x) (pieces-run (s .number) (part i a s x))) (heard .is)
+      gone = gone-through (roleOf (not x) s) (run i a s x) (heard .n) (heard .scan)
+          (pieces-exact (run i a s x) (pieces-run (s .number) (part i a s x))) (heard .is)
 
       octets-are : octetsIn x i a s (behind x) ≡ token (turn x)
       octets-are =
@@ -213,14 +233,20 @@ module _ (m : Marks) (i a : List ℕ) (s : Replay) (d : List ℕ) (fine : Fine i
           one = refl;
           less = omega (arith, moved x .in-i, moved x .in-a, moved x .both, octets-run, some);
           octets = ap (λ (l : List ℕ). join (messagesOf l)) octets-are ∙ ap join mine ∙ sym octets-are;
-          accepted = subst Accepts (sym octets-are) (heard-accepts (roleOf (not x) s) (token (turn x)) (heard .n) (heard .scan) (omega (arith, heard .short)) (heard .is));
+          accepted =
+              subst Accepts (sym octets-are)
+              (heard-accepts (roleOf (not x) s) (token (turn x)) (heard .n) (heard .scan) (omega (arith, heard .short)) (heard .is));
           come =
               rest-on m i a s d more
               ∙ ap (playFrom (marked m) (sidesIn s d)) (first-left x none some)
-              ∙ play-on (marked m) (sidesIn s d) (turn x) (leftOf (behind x) i a) (ap (λ (o : Outcome). isAccepted (o .answer)) (same-out x) ∙ eq-eqb _ _ e)
-              ∙ ap (λ (y : Sides). withTurn (record { turn = turn x; choice = choiceOf (y .i) }) (playFrom (marked m) y (leftOf (behind x) i a))) (same-sides x)
-              ∙ ap (λ (p : Played). withTurn (record { turn = turn x; choice = choiceOf (behind x .initiator) }) p) (sym (rest-on m i a (behind x) (out x .transcript) more))
-              ∙ ap (λ (l : List (List ℕ)). withTurn (record { turn = record { acceptor = x; messages = l }; choice = choiceOf (behind x .initiator) }) (restOf m i a (behind x) (out x .transcript))) (sym (ap messagesOf octets-are ∙ mine));
+              ∙ play-on (marked m) (sidesIn s d) (turn x) (leftOf (behind x) i a)
+              (ap (λ (o : Outcome). isAccepted (o .answer)) (same-out x) ∙ eq-eqb _ _ e)
+              ∙ ap (λ (y : Sides). withTurn (record { turn = turn x; choice = choiceOf (y .i) }) (playFrom (marked m) y (leftOf (behind x) i a)))
+              (same-sides x)
+              ∙ ap (λ (p : Played). withTurn (record { turn = turn x; choice = choiceOf (behind x .initiator) }) p)
+              (sym (rest-on m i a (behind x) (out x .transcript) more))
+              ∙ ap (λ (l : List (List ℕ)). withTurn (record { turn = record { acceptor = x; messages = l }; choice = choiceOf (behind x .initiator) })
+              (restOf m i a (behind x) (out x .transcript))) (sym (ap messagesOf octets-are ∙ mine));
         });
       }
 
@@ -229,11 +255,19 @@ module _ (m : Marks) (i a : List ℕ) (s : Replay) (d : List ℕ) (fine : Fine i
     fault = record { missing = false; refusal = out x .answer .refusal; place = out x .answer .place; whose = whoseIn x (out x .answer .refusal) }
 
     abbrev ended-by : List ℕ → Outcome → Played
-    ended-by l o = record { turns = []; sides = sidesIn s l; ending = refused (o .answer .refusal) (o .answer .place .0) (by (cond (eqb (o .answer .refusal) 28) x (not x))) }
+    ended-by l o =
+        record {
+          turns = [];
+          sides = sidesIn s l;
+          ending = refused (o .answer .refusal) (o .answer .place .0) (by (cond (eqb (o .answer .refusal) 28) x (not x)));
+        }
 
-    fault-ends : (out x .answer .refusal ≡ 0 → ⊥) → refused (out x .answer .refusal) (out x .answer .place .0) (by (cond (eqb (out x .answer .refusal) 28) x (not x))) ≡ endingAs fault
+    fault-ends : (out x .answer .refusal ≡ 0 → ⊥)
+        → refused (out x .answer .refusal) (out x .answer .place .0) (by (cond (eqb (out x .answer .refusal) 28) x (not x))) ≡ endingAs fault
     unfolding endingAs
-    fault-ends h = rw (ne-eqb _ _ h) (ap (refused (out x .answer .refusal) (out x .answer .place .0)) (by-number (cond (eqb (out x .answer .refusal) 28) x (not x))))
+    fault-ends h =
+        rw (ne-eqb _ _ h)
+        (ap (refused (out x .answer .refusal) (out x .answer .place .0)) (by-number (cond (eqb (out x .answer .refusal) 28) x (not x))))
 
     ends : (out x .answer .refusal ≡ 0 → ⊥) → Goes m i a s d (endedWith s fault) (out x .transcript)
     ends h = record {
@@ -246,9 +280,11 @@ module _ (m : Marks) (i a : List ℕ) (s : Replay) (d : List ℕ) (fine : Fine i
         come =
             rest-on m i a s d more
             ∙ ap (playFrom (marked m) (sidesIn s d)) (first-left x none some)
-            ∙ play-ends (marked m) (sidesIn s d) (turn x) (leftOf (behind x) i a) (ap (λ (o : Outcome). isAccepted (o .answer)) (same-out x) ∙ ne-eqb _ _ h)
+            ∙ play-ends (marked m) (sidesIn s d) (turn x) (leftOf (behind x) i a)
+            (ap (λ (o : Outcome). isAccepted (o .answer)) (same-out x) ∙ ne-eqb _ _ h)
             ∙ ap (ended-by d) (same-out x)
-            ∙ ap (λ (l : List ℕ). ended-by l (out x)) (sym (refused-same (owed (marks-by x) (roleOf x s) (token (turn x))) (roleOf (not x) s) d (token (turn x)) h))
+            ∙ ap (λ (l : List ℕ). ended-by l (out x))
+            (sym (refused-same (owed (marks-by x) (roleOf x s) (token (turn x))) (roleOf (not x) s) d (token (turn x)) h))
             ∙ ap (λ (z : Ending). record { turns = []; sides = sidesIn s (out x .transcript); ending = z }) (fault-ends h)
             ∙ sym (rest-over m i a (endedWith s fault) (out x .transcript) refl);
       });
@@ -260,9 +296,12 @@ module _ (m : Marks) (i a : List ℕ) (s : Replay) (d : List ℕ) (fine : Fine i
     after r d′ is = go (which (eqb (out x .answer .refusal) 0)) where
       go : (eqb (out x .answer .refusal) 0 ≡ true) ⊎ (eqb (out x .answer .refusal) 0 ≡ false) → Goes m i a s d r d′
       go (inl e) =
-          let y : stood r d′ ≡ stood (wentOn x s (spoke (marks-by x) (roleOf x s) (messagesOf (token (turn x)))) (out x .answer .next) (size i a s x) (length (run i a s x))) (out x .transcript) = is ∙ rw e in
+          let y : stood r d′ ≡ stood (wentOn x s (spoke (marks-by x) (roleOf x s) (messagesOf (token (turn x)))) (out x .answer .next) (size i a s x)
+          (length (run i a s x))) (out x .transcript) = is ∙ rw e in
           subst (λ (z : Stood). Goes m i a s d (z .replay) (z .transcript))
-          (sym (y ∙ ap (λ (l : List (List ℕ)). stood (wentOn x s (spoke (marks-by x) (roleOf x s) l) (out x .answer .next) (size i a s x) (length (run i a s x))) (out x .transcript)) mine))
+          (sym (y
+          ∙ ap (λ (l : List (List ℕ)). stood
+          (wentOn x s (spoke (marks-by x) (roleOf x s) l) (out x .answer .next) (size i a s x) (length (run i a s x))) (out x .transcript)) mine))
           (goes (eqb-true _ _ e))
       go (inr e) =
           let y : stood r d′ ≡ stood (endedWith s fault) (out x .transcript) = is ∙ rw e in
@@ -272,13 +311,16 @@ module _ (m : Marks) (i a : List ℕ) (s : Replay) (d : List ℕ) (fine : Fine i
 abbrev octetsBy : Bool → Next → ℕ
 octetsBy x n = cond x (n .acceptor) (n .initiator)
 
-module _ (i a : List ℕ) (s : Replay) (fine : Fine i a s) (n : Next) (n-is : n ≡ nextIn (s .number) (take (length i - s .iplace) (drop (s .iplace) i)) (take (length a - s .aplace) (drop (s .aplace) a))) where
+module _ (i a : List ℕ) (s : Replay) (fine : Fine i a s) (n : Next)
+    (n-is : n ≡ nextIn (s .number) (take (length i - s .iplace) (drop (s .iplace) i)) (take (length a - s .aplace) (drop (s .aplace) a))) where
   said : Says (s .number) (part i a s false) (part i a s true) n
   said =
       says (s .number) (part i a s false) (part i a s true) n
-      (n-is ∙ ap (λ (l : List ℕ). nextIn (s .number) l (take (length a - s .aplace) (drop (s .aplace) a))) (tail-all i (s .iplace)) ∙ ap (nextIn (s .number) (part i a s false)) (tail-all a (s .aplace)))
+      (n-is ∙ ap (λ (l : List ℕ). nextIn (s .number) l (take (length a - s .aplace) (drop (s .aplace) a))) (tail-all i (s .iplace))
+      ∙ ap (nextIn (s .number) (part i a s false)) (tail-all a (s .aplace)))
 
-  pub turn-none : (m : Marks) (d : List ℕ) → s .more ≡ true → endingAs (s .fault) ≡ finished → n .messages ≡ 0 → (r : Replay) → r ≡ endedWith s (s .fault) → Goes m i a s d r d
+  pub turn-none : (m : Marks) (d : List ℕ) → s .more ≡ true → endingAs (s .fault) ≡ finished → n .messages ≡ 0 → (r : Replay)
+      → r ≡ endedWith s (s .fault) → Goes m i a s d r d
   turn-none m d more opened z r r-is = subst (λ (x : Replay). Goes m i a s d x d) (sym r-is) (go said) where
     go : Says (s .number) (part i a s false) (part i a s true) n → Goes m i a s d (endedWith s (s .fault)) d
     go (initiators p r o q k) = absurd (omega arith)
@@ -328,7 +370,9 @@ module _ (i a : List ℕ) (s : Replay) (fine : Fine i a s) (n : Next) (n-is : n 
           turns = omega (arith, fine .few, fine .numbers, fine .in-i, fine .in-a, fine .short-i, fine .short-a);
         }
 
-    pub turn-goes : (m : Marks) (d : List ℕ) → s .more ≡ true → (r : Replay) (d′ : List ℕ) → stood r d′ ≡ afterTurn x (marksOf x (marked m)) s d here (n .messages) → Goes m i a s d r d′
+    pub turn-goes : (m : Marks) (d : List ℕ) → s .more ≡ true → (r : Replay) (d′ : List ℕ)
+        → stood r d′ ≡ afterTurn x (marksOf x (marked m)) s d here (n .messages) → Goes m i a s d r d′
     turn-goes m d more r d′ is =
         after m i a s d fine more x (first-x .none) (omega (arith, first-x .count)) r d′
-        (is ∙ ap (λ (l : List ℕ). afterTurn x (marksOf x (marked m)) s d l (n .messages)) here-is ∙ ap (afterTurn x (marksOf x (marked m)) s d (join (run i a s x))) (first-x .count))
+        (is ∙ ap (λ (l : List ℕ). afterTurn x (marksOf x (marked m)) s d l (n .messages)) here-is
+        ∙ ap (afterTurn x (marksOf x (marked m)) s d (join (run i a s x))) (first-x .count))

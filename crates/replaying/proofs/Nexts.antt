@@ -78,10 +78,23 @@ pub ruleset talks = (talk-none, talk-long-a, talk-a, talk-long-i, talk-i)
 -- 2. the replay before its first turn, and whose a refusal is
 
 pub begin-is : (il al v : List ℕ) (f : Fault) (more : Bool) (i a : Answer) → i ≡ opening false il v → a ≡ opening true al zeroId
-    → record { initiator = i .next; acceptor = a .next; iplace = 0; aplace = 0; number = 0; turns = 0; last = false; more = more; fault = f } ≡ begunWith il al v f more
+    → record { initiator = i .next; acceptor = a .next; iplace = 0; aplace = 0; number = 0; turns = 0; last = false; more = more; fault = f }
+    ≡ begunWith il al v f more
 begin-is il al v f more i a i-is a-is =
-    ap (λ (x : Answer). record { initiator = x .next; acceptor = a .next; iplace = 0; aplace = 0; number = 0; turns = 0; last = false; more = more; fault = f }) i-is
-    ∙ ap (λ (x : Answer). record { initiator = opening false il v .next; acceptor = x .next; iplace = 0; aplace = 0; number = 0; turns = 0; last = false; more = more; fault = f }) a-is
+    ap (λ (x : Answer).
+    record { initiator = x .next; acceptor = a .next; iplace = 0; aplace = 0; number = 0; turns = 0; last = false; more = more; fault = f }) i-is
+    ∙ ap (λ (x : Answer).
+    record {
+      initiator = opening false il v .next;
+      acceptor = x .next;
+      iplace = 0;
+      aplace = 0;
+      number = 0;
+      turns = 0;
+      last = false;
+      more = more;
+      fault = f;
+    }) a-is
 
 pub whose-writer : (x : Bool) (number : ℕ) → number ≡ 28 → (r : ℕ) → r ≡ cond x 1 0 → r ≡ whoseIn x number
 whose-writer x number e r r-is = rw (eq-eqb _ _ e) r-is

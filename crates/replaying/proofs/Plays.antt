@@ -21,7 +21,8 @@ use Rattle.replaying.specs.declared.Replay.{Replay}
 use Rattle.replaying.specs.Playing.{stood, roleOf, wentOn, endedWith, whoseIn, heardBy, afterTurn, Level, Ready}
 
 pub end-is : (s : Replay) (x : Bool) (number : ℕ) (place : TokenPlace) (w : ℕ) → w ≡ whoseIn x number
-    → endedWith s (record { missing = false; refusal = number; place = place; whose = w }) ≡ endedWith s (record { missing = false; refusal = number; place = place; whose = whoseIn x number })
+    → endedWith s (record { missing = false; refusal = number; place = place; whose = w })
+    ≡ endedWith s (record { missing = false; refusal = number; place = place; whose = whoseIn x number })
 end-is s x number place w w-is = ap (λ (k : ℕ). endedWith s (record { missing = false; refusal = number; place = place; whose = k })) w-is
 
 -- by the role
@@ -58,14 +59,20 @@ counts ok r d t z =
     let (l1, (l2, (l3, (l4, (l5, (l6, (l7, (l8, (l9, (l10, (l11, rest))))))))))) = front-true (limitRows r) (tokenRows r (length t)) (h .rows) in
     record { numbers = leb-true _ _ l11; room = h .short }
 
-module _ (s : Replay) (x : Bool) (marks : ℕ) (d t : List ℕ) (n : ℕ) (ready : Ready s (length t) n) (w : Record) (w-is : w ≡ roleOf x s) (v : Record) (v-is : v ≡ roleOf (not x) s)
-    (good : Bool) (good-is : good ≡ owed marks w t) (a : Answer) (d′ : List ℕ) (is : _≡_ {A = Outcome} (record { answer = a; transcript = d′ }) (heardTurn good v d t)) where
+module _ (s : Replay) (x : Bool) (marks : ℕ) (d t : List ℕ) (n : ℕ) (ready : Ready s (length t) n) (w : Record) (w-is : w ≡ roleOf x s) (v : Record)
+    (v-is : v ≡ roleOf (not x) s)
+    (good : Bool) (good-is : good ≡ owed marks w t) (a : Answer) (d′ : List ℕ)
+    (is : _≡_ {A = Outcome} (record { answer = a; transcript = d′ }) (heardTurn good v d t)) where
   by-answer : afterTurn x marks s d t n ≡ heardBy x marks s t n (record { answer = a; transcript = d′ })
   unfolding afterTurn
   by-answer =
-      ap (heardBy x marks s t n) (ap (λ (b : Bool). heardTurn b (roleOf (not x) s) d t) (sym (good-is ∙ ap (λ (r : Record). owed marks r t) w-is)) ∙ ap (λ (r : Record). heardTurn good r d t) (sym v-is) ∙ sym is)
+      ap (heardBy x marks s t n)
+      (ap (λ (b : Bool). heardTurn b (roleOf (not x) s) d t) (sym (good-is ∙ ap (λ (r : Record). owed marks r t) w-is))
+      ∙ ap (λ (r : Record). heardTurn good r d t) (sym v-is) ∙ sym is)
 
-  pub side-refused : (a .refusal ≡ 0 → ⊥) → (r : Replay) → r ≡ endedWith s (record { missing = false; refusal = a .refusal; place = a .place; whose = whoseIn x (a .refusal) }) → stood r d′ ≡ afterTurn x marks s d t n
+  pub side-refused : (a .refusal ≡ 0 → ⊥) → (r : Replay)
+      → r ≡ endedWith s (record { missing = false; refusal = a .refusal; place = a .place; whose = whoseIn x (a .refusal) })
+      → stood r d′ ≡ afterTurn x marks s d t n
   side-refused h r r-is = sym (by-answer ∙ rw (ne-eqb _ _ h) (ap (λ (y : Replay). stood y d′) (sym r-is)))
 
   module _ (z : a .refusal ≡ 0) where
@@ -81,9 +88,12 @@ module _ (s : Replay) (x : Bool) (marks : ℕ) (d t : List ℕ) (n : ℕ) (ready
     pub side-room : w .used + length t ≤ 65535
     side-room = omega (arith, heard-counts .room, level .used)
 
-    pub side-accepted : (u : Record) → u ≡ spoke marks w (messagesOf t) → (r : Replay) → r ≡ wentOn x s u (a .next) (length t) n → stood r d′ ≡ afterTurn x marks s d t n
+    pub side-accepted : (u : Record) → u ≡ spoke marks w (messagesOf t) → (r : Replay) → r ≡ wentOn x s u (a .next) (length t) n
+        → stood r d′ ≡ afterTurn x marks s d t n
     side-accepted u u-is r r-is =
         ap (λ (y : Replay). stood y d′) r-is
-        ∙ sym (by-answer ∙ rw (eq-eqb _ _ z) (ap (λ (y : Record). stood (wentOn x s y (a .next) (length t) n) d′) (sym (u-is ∙ ap (λ (y : Record). spoke marks y (messagesOf t)) w-is))))
+        ∙ sym (by-answer ∙ rw (eq-eqb _ _ z)
+        (ap (λ (y : Record). stood (wentOn x s y (a .next) (length t) n) d′)
+        (sym (u-is ∙ ap (λ (y : Record). spoke marks y (messagesOf t)) w-is))))
 
 pub ruleset roles = (role-true, role-false, went-true, went-false)

@@ -87,7 +87,8 @@ abbrev pub marked : Marks → Case
 marked m = caseWith [] [] m (record { initiator = false; acceptor = false }) [] []
 
 unfoldable pub restOf : Marks → List ℕ → List ℕ → Replay → List ℕ → Played
-restOf m i a s d = cond (s .more) (playFrom (marked m) (sidesIn s d) (leftOf s i a)) (record { turns = []; sides = sidesIn s d; ending = endingAs (s .fault) })
+restOf m i a s d =
+    cond (s .more) (playFrom (marked m) (sidesIn s d) (leftOf s i a)) (record { turns = []; sides = sidesIn s d; ending = endingAs (s .fault) })
 
 -- a replay before its first turn, or one that ended before it
 abbrev pub begunWith : List ℕ → List ℕ → List ℕ → Fault → Bool → Replay
@@ -176,7 +177,8 @@ abbrev pub heardBy : Bool → ℕ → Replay → List ℕ → ℕ → Outcome �
 heardBy x m s t n o =
     cond (eqb (o .answer .refusal) 0)
     (stood (wentOn x s (spoke m (roleOf x s) (messagesOf t)) (o .answer .next) (length t) n) (o .transcript))
-    (stood (endedWith s (record { missing = false; refusal = o .answer .refusal; place = o .answer .place; whose = whoseIn x (o .answer .refusal) })) (o .transcript))
+    (stood (endedWith s (record { missing = false; refusal = o .answer .refusal; place = o .answer .place; whose = whoseIn x (o .answer .refusal) }))
+    (o .transcript))
 
 unfoldable pub afterTurn : Bool → ℕ → Replay → List ℕ → List ℕ → ℕ → Stood
 afterTurn x m s d t n = heardBy x m s t n (heardTurn (owed m (roleOf x s) t) (roleOf (not x) s) d t)

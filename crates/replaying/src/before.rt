@@ -97,7 +97,8 @@ pub fn fault_before(
     ifile: &[u8],
     afile: &[u8],
 ) -> Fault
-    ensures { λ r. ⌜ endingAs r ≡ before (caseWith (now (ilist .entry)) (now (alist .entry)) marks found (now (ifile .entry)) (now (afile .entry))) ⌝ }
+    ensures { λ r. ⌜ endingAs r ≡ before
+        (caseWith (now (ilist .entry)) (now (alist .entry)) marks found (now (ifile .entry)) (now (afile .entry))) ⌝ }
 {
     if given_ok(ilist, marks.initiator) {} else {
         return refuse(19, TokenPlace(0), Fault::NEITHER);

@@ -74,7 +74,8 @@ pub fn start(
     ifile: &[u8],
     afile: &[u8],
 ) -> Replay
-    ensures { λ r. ⌜ Begun (caseWith (now (ilist .entry)) (now (alist .entry)) marks found (now (ifile .entry)) (now (afile .entry))) marks (now (ifile .entry)) (now (afile .entry)) r ⌝ }
+    ensures { λ r. ⌜ Begun (caseWith (now (ilist .entry)) (now (alist .entry)) marks found (now (ifile .entry)) (now (afile .entry))) marks
+        (now (ifile .entry)) (now (afile .entry)) r ⌝ }
 {
     let f = fault_before(ilist, alist, marks, found, ifile, afile);
     if is_fault(f) {
@@ -219,7 +220,8 @@ pub fn play_turn(s: Replay, marks: Marks, ifile: &[u8], afile: &[u8], d: &mut [u
 // All turns that are left.
 fn play_all(s: Replay, marks: Marks, ifile: &[u8], afile: &[u8], d: &mut [u8]) -> Replay
     requires { ⌜ Fine (now ifile) (now afile) s × (s .more ≡ true) × (endingAs (s .fault) ≡ finished) ⌝ }
-    ensures { λ r. ⌜ playedAs r (now (d .exit)) ≡ counted (s .turns) (summary (restOf marks (now (ifile .entry)) (now (afile .entry)) s (now (d .entry)))) ⌝ }
+    ensures { λ r. ⌜ playedAs r (now (d .exit)) ≡ counted (s .turns)
+        (summary (restOf marks (now (ifile .entry)) (now (afile .entry)) s (now (d .entry)))) ⌝ }
 {
     let mut r = s;
     while r.more {
@@ -238,7 +240,9 @@ pub fn play(
     afile: &[u8],
     transcript: &mut [u8],
 ) -> Replay
-    ensures { λ r. ⌜ playedAs r (now (transcript .exit)) ≡ summary (replayOf (caseWith (now (ilist .entry)) (now (alist .entry)) marks found (now (ifile .entry)) (now (afile .entry))) (now (transcript .entry))) ⌝ }
+    ensures { λ r. ⌜ playedAs r (now (transcript .exit)) ≡ summary
+        (replayOf (caseWith (now (ilist .entry)) (now (alist .entry)) marks found (now (ifile .entry)) (now (afile .entry)))
+        (now (transcript .entry))) ⌝ }
 {
     let s = start(ilist, alist, marks, found, ifile, afile);
     if s.more {} else {

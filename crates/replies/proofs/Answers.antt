@@ -49,7 +49,8 @@ module _ (s : List ℕ) (r : Answer) (r-is : told r ≡ outcomeOf (tokenOf s)) w
 
     pub messages-number : (z : ℤ) → SFits w64 z → z ≡ pos n → toZ w64 (ofZ w64 z) ≡ messagesAnswer s
     messages-number z f e =
-        same z f (pos n) e ∙ ap pos (sym (answer-number s r r-is n here)) ∙ sym (ap (λ (x : Reply (List Placed)). answerOf (andThen x (λ ms. given (length ms)))) reply-given)
+        same z f (pos n) e ∙ ap pos (sym (answer-number s r r-is n here))
+        ∙ sym (ap (λ (x : Reply (List Placed)). answerOf (andThen x (λ ms. given (length ms)))) reply-given)
 
     pub place-none : (z : ℤ) → SFits w64 z → z ≡ pos 0 → toZ w64 (ofZ w64 z) ≡ placeAnswer s
     place-none z f e = same z f (pos 0) e ∙ sym (ap (λ (x : Reading). pos (faultPlace x)) (answer-accepts s r r-is n here))
@@ -58,11 +59,14 @@ module _ (s : List ℕ) (r : Answer) (r-is : told r ≡ outcomeOf (tokenOf s)) w
     pub reply-refused : messagesReply s ≡ refused n
     reply-refused = ap readingReply (answer-refuses s r r-is n place here)
 
-    pub any-refused : (f : List Placed → Reply ℕ) (z : ℤ) → SFits w64 z → z ≡ negℤ (pos n) → toZ w64 (ofZ w64 z) ≡ answerOf (andThen (messagesReply s) f)
+    pub any-refused : (f : List Placed → Reply ℕ) (z : ℤ) → SFits w64 z → z ≡ negℤ (pos n)
+        → toZ w64 (ofZ w64 z) ≡ answerOf (andThen (messagesReply s) f)
     any-refused f z g e = same z g (negℤ (pos n)) e ∙ sym (ap (λ (x : Reply (List Placed)). answerOf (andThen x f)) reply-refused)
 
-    pub lent-refused : (f : List Placed → Reply (List ℕ)) (d : List ℕ) (z : ℤ) → SFits w64 z → z ≡ negℤ (pos n) → lent (toZ w64 (ofZ w64 z)) d ≡ writtenIn d (andThen (messagesReply s) f)
-    lent-refused f d z g e = ap (λ (x : ℤ). lent x d) (same z g (negℤ (pos n)) e) ∙ sym (ap (λ (x : Reply (List Placed)). writtenIn d (andThen x f)) reply-refused)
+    pub lent-refused : (f : List Placed → Reply (List ℕ)) (d : List ℕ) (z : ℤ) → SFits w64 z → z ≡ negℤ (pos n)
+        → lent (toZ w64 (ofZ w64 z)) d ≡ writtenIn d (andThen (messagesReply s) f)
+    lent-refused f d z g e =
+        ap (λ (x : ℤ). lent x d) (same z g (negℤ (pos n)) e) ∙ sym (ap (λ (x : Reply (List Placed)). writtenIn d (andThen x f)) reply-refused)
 
     pub place-fault : (z : ℤ) → SFits w64 z → z ≡ pos (place .0) → toZ w64 (ofZ w64 z) ≡ placeAnswer s
     place-fault z f e = same z f (pos (place .0)) e ∙ sym (ap (λ (x : Reading). pos (faultPlace x)) (answer-refuses s r r-is n place here))

@@ -23,7 +23,9 @@ same-head (m ∷ ms) q v rest e h =
 stopped : (s : List ℕ) (n p : ℕ) (ms : List (List ℕ)) (rest : List ℕ) → Stop s n p ms rest → 0 < p → Accepts (take p s)
 stopped s n p ms rest stop h =
     let front : take p s ≡ join ms = ap (take p) (sym (stop .joins)) ∙ take-at (join ms) rest p (sym (stop .place)) in
-    let head : headOf s ≡ headOf (join ms) = ap headOf (sym (stop .joins)) ∙ same-head ms (headOf s .sequence) (headOf s .conversation) rest (stop .numbered) (omega (arith, stop .place)) in
+    let head : headOf s ≡ headOf (join ms) =
+    ap headOf (sym (stop .joins)) ∙ same-head ms (headOf s .sequence) (headOf s .conversation) rest (stop .numbered)
+    (omega (arith, stop .place)) in
     let read : tokenOf (join ms) ≡ Accepted (placedFrom 0 ms) = splits-accepted (join ms) ms (record {
       short = omega (arith, stop .short, ap length (stop .joins), length-append (join ms) rest);
       some = omega (arith, stop .place);

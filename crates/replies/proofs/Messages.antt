@@ -50,7 +50,8 @@ pub record Stands (end : ℕ) (m : Placed) : Type 0 where
   pub passes : Message number conversation (m .octets)
   pub ends : m .place + length (m .octets) ≤ end
 
-stands : (ms : List (List ℕ)) (place q : ℕ) (v : List ℕ) → Numbered q v ms → (k : ℕ) → k < length (placedFrom place ms) → Stands (place + length (join ms)) (getD (placedFrom place ms) k beyond)
+stands : (ms : List (List ℕ)) (place q : ℕ) (v : List ℕ) → Numbered q v ms → (k : ℕ) → k < length (placedFrom place ms)
+    → Stands (place + length (join ms)) (getD (placedFrom place ms) k beyond)
 stands [] place q v e k h = absurd (omega arith)
 stands (m ∷ ms) place q v e zero h = record { number = q; conversation = v; passes = e .0; ends = omega (arith, length-append m (join ms)) }
 stands (m ∷ ms) place q v e (suc k) h =
@@ -67,8 +68,15 @@ there s k h =
     let a = accepts (tokenOf s) k h in
     let (w, places) = whole s a in
     let x = stands (w .ms) 0 (w .q) (w .v) (w .numbered) k (omega (arith, ap length places)) in
-    let y : Stands (length (join (w .ms))) (messageAt s k) = subst (λ (ps : List Placed). Stands (length (join (w .ms))) (getD ps k beyond)) places (record { number = x .number; conversation = x .conversation; passes = x .passes; ends = omega (arith, x .ends) }) in
-    record { number = y .number; conversation = y .conversation; passes = y .passes; ends = omega (arith, y .ends, ap length (w .joins), accepted-short s a) }
+    let y : Stands (length (join (w .ms))) (messageAt s k) =
+    subst (λ (ps : List Placed). Stands (length (join (w .ms))) (getD ps k beyond)) places
+    (record { number = x .number; conversation = x .conversation; passes = x .passes; ends = omega (arith, x .ends) }) in
+    record {
+      number = y .number;
+      conversation = y .conversation;
+      passes = y .passes;
+      ends = omega (arith, y .ends, ap length (w .joins), accepted-short s a);
+    }
 
 none : (s : List ℕ) (k : ℕ) → length (messagesOf (tokenOf s)) ≤ k → messageAt s k ≡ beyond
 none s k h = List·getD-eq-default (messagesOf (tokenOf s)) beyond {n = k} h
@@ -101,7 +109,8 @@ module _ (s : List ℕ) (k : ℕ) (m : List ℕ) (m-is : m ≡ messageAt s k .oc
   module _ (empty : length m ≡ 0) where
     outside : length (messagesOf (tokenOf s)) ≤ k
     outside = elim (inside-or-not k (length (messagesOf (tokenOf s)))) [
-      | inl h ↦ let w = there s k h in absurd (omega (arith, ap length m-is, message-length (w .number) (w .conversation) (messageAt s k .octets) (w .passes)))
+      | inl h ↦ let w =
+          there s k h in absurd (omega (arith, ap length m-is, message-length (w .number) (w .conversation) (messageAt s k .octets) (w .passes)))
       | inr h ↦ h
     ]
 
@@ -134,7 +143,9 @@ module _ (s : List ℕ) (k : ℕ) (m : List ℕ) (m-is : m ≡ messageAt s k .oc
 
     pub message-given : messageIn s k ≡ given (messageAt s k)
     unfolding messageIn
-    message-given = ap (λ (r : Reading). andThen (readingReply r) (λ ms. itemAt ms k)) (accepts (tokenOf s) k inside) ∙ item-given (messagesOf (tokenOf s)) k beyond inside
+    message-given =
+        ap (λ (r : Reading). andThen (readingReply r) (λ ms. itemAt ms k)) (accepts (tokenOf s) k inside)
+        ∙ item-given (messagesOf (tokenOf s)) k beyond inside
 
     pub message-long : 40 ≤ length m
     message-long = omega (arith, ap length m-is, message-length (stand .number) (stand .conversation) (messageAt s k .octets) (stand .passes))
@@ -148,12 +159,14 @@ module _ (s : List ℕ) (k : ℕ) (m : List ℕ) (m-is : m ≡ messageAt s k .oc
         field-given h e =
             same z f (pos (getD xs i 0)) e
             ∙ ap (λ (l : List ℕ). pos (getD l i 0)) (xs-is ∙ ap fieldsIn message-is)
-            ∙ sym (ap (λ (x : Reply Placed). answerOf (andThen x (λ m. itemAt (fieldsIn m) i))) message-given ∙ ap answerOf (item-given (fieldsIn (messageAt s k)) i 0 h))
+            ∙ sym (ap (λ (x : Reply Placed). answerOf (andThen x (λ m. itemAt (fieldsIn m) i))) message-given
+            ∙ ap answerOf (item-given (fieldsIn (messageAt s k)) i 0 h))
 
         pub field-beyond : 5 ≤ i → z ≡ negℤ (pos 19) → toZ w64 (ofZ w64 z) ≡ fieldAnswer s k i
         field-beyond h e =
             same z f (negℤ (pos 19)) e
-            ∙ sym (ap (λ (x : Reply Placed). answerOf (andThen x (λ m. itemAt (fieldsIn m) i))) message-given ∙ ap answerOf (item-refused (fieldsIn (messageAt s k)) i h))
+            ∙ sym (ap (λ (x : Reply Placed). answerOf (andThen x (λ m. itemAt (fieldsIn m) i))) message-given
+            ∙ ap answerOf (item-refused (fieldsIn (messageAt s k)) i h))
 
     -- the conversation, where it fits
     id-long : length (headOf (messageAt s k .octets) .conversation) ≡ 16
@@ -164,9 +177,11 @@ module _ (s : List ℕ) (k : ℕ) (m : List ℕ) (m-is : m ≡ messageAt s k .oc
       pub conversation-full : length d < 16 → z ≡ negℤ (pos 16) → lent (toZ w64 (ofZ w64 z)) d ≡ conversationAnswer s k d
       conversation-full h e =
           ap (λ (x : ℤ). lent x d) (same z f (negℤ (pos 16)) e)
-          ∙ sym (ap (λ (x : Reply Placed). writtenIn d (andThen x (λ m. fits (length d) (headOf (m .octets) .conversation)))) message-given ∙ (let g : length d < length (headOf (messageAt s k .octets) .conversation) = omega (arith, id-long) in simp (lt-leb _ _ g)))
+          ∙ sym (ap (λ (x : Reply Placed). writtenIn d (andThen x (λ m. fits (length d) (headOf (m .octets) .conversation)))) message-given
+          ∙ (let g : length d < length (headOf (messageAt s k .octets) .conversation) = omega (arith, id-long) in simp (lt-leb _ _ g)))
 
-      pub conversation-put : 16 ≤ length d → (d' v : List ℕ) (n : ℕ) → v ≡ take 16 (drop 24 m) → Written d 0 (length v) v d' n → z ≡ pos n → lent (toZ w64 (ofZ w64 z)) d' ≡ conversationAnswer s k d
+      pub conversation-put : 16 ≤ length d → (d' v : List ℕ) (n : ℕ) → v ≡ take 16 (drop 24 m) → Written d 0 (length v) v d' n → z ≡ pos n
+          → lent (toZ w64 (ofZ w64 z)) d' ≡ conversationAnswer s k d
       conversation-put h d' v n v-is w e =
           let c = headOf (messageAt s k .octets) .conversation in
           let is : v ≡ c = v-is ∙ ap (λ (l : List ℕ). take 16 (drop 24 l)) m-is ∙ (unfold headOf in refl) in
@@ -175,6 +190,7 @@ module _ (s : List ℕ) (k : ℕ) (m : List ℕ) (m-is : m ≡ messageAt s k .oc
           ap (λ (x : ℤ). lent x d') (same z f (pos n) e)
           ∙ ap (λ (x : ℕ). lent (pos x) d') (after ∙ ap length is)
           ∙ ap (lent (pos (length c))) (w .holds ∙ ap (put d 0) is)
-          ∙ sym (ap (λ (x : Reply Placed). writtenIn d (andThen x (λ m. fits (length d) (headOf (m .octets) .conversation)))) message-given ∙ simp (le-leb _ _ g))
+          ∙ sym (ap (λ (x : Reply Placed). writtenIn d (andThen x (λ m. fits (length d) (headOf (m .octets) .conversation)))) message-given
+          ∙ simp (le-leb _ _ g))
 
 pub ruleset messages = (conversation-full, conversation-put, message-lacks, lacks-lent, message-long, message-early, field-given, field-beyond)

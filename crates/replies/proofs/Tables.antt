@@ -25,7 +25,9 @@ module _ (s : List ℕ) (a : Accepts s) (n : ℕ) (n-is : n ≡ length (tableOf 
       let g : length d < length (tableOf (messagesOf (tokenOf s))) = omega arith in
       ap (λ (x : ℤ). lent x d) (same z f (negℤ (pos 16)) e) ∙ sym (simp (lt-leb _ _ g)) ∙ answer-is
 
-  pub table-written : n ≤ length d → (d' : List ℕ) (r : ℕ) → Written d 0 (length (tableOf (messagesOf (tokenOf s)))) (tableOf (messagesOf (tokenOf s))) d' r → (z : ℤ) → SFits w64 z → z ≡ pos r → lent (toZ w64 (ofZ w64 z)) d' ≡ tableAnswer s d
+  pub table-written : n ≤ length d → (d' : List ℕ) (r : ℕ)
+      → Written d 0 (length (tableOf (messagesOf (tokenOf s)))) (tableOf (messagesOf (tokenOf s))) d' r → (z : ℤ) → SFits w64 z → z ≡ pos r
+      → lent (toZ w64 (ofZ w64 z)) d' ≡ tableAnswer s d
   table-written h d' r w z f e =
       let r-is : r ≡ length (tableOf (messagesOf (tokenOf s))) = omega (arith, w .after) in
       let g : length (tableOf (messagesOf (tokenOf s))) ≤ length d = omega arith in

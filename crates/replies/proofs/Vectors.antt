@@ -41,7 +41,14 @@ module _ (s : List ℕ) (k : ℕ) (m : List ℕ) (m-is : m ≡ messageAt s k .oc
     unfolding vectorPlace
     place-small j p p-is e = elim (which (eqb (extent v) 0)) [
       | inl z ↦ let b : a ≡ p = e ∙ simp z in omega (arith, message-early s j p p-is)
-      | inr z ↦ let b : a ≡ p + v .offset .0 = e ∙ simp z in omega (arith, message-early s j p p-is, lies-inside (messageAt s k .place) m (held (messageAt s k .place) refl) i v v-is (eqb-false _ _ z), held (messageAt s k .place) refl .ends)
+      | inr z ↦ let b : a ≡ p + v .offset .0 =
+          e ∙ simp z in omega (
+            arith,
+            message-early s j p p-is,
+            lies-inside (messageAt s k .place) m (held (messageAt s k .place) refl) i v v-is (eqb-false _ _ z),
+            held
+                (messageAt s k .place) refl .ends,
+          )
     ]
 
   module _ (n : ℕ) (n-is : n ≡ length (vectorsIn m)) where
@@ -54,16 +61,19 @@ module _ (s : List ℕ) (k : ℕ) (m : List ℕ) (m-is : m ≡ messageAt s k .oc
         ∙ sym (ap (λ (x : Reply Placed). answerOf (andThen x (λ m. given (length (vectorsIn (m .octets)))))) (message-given s k m m-is some))
 
     module _ (i : ℕ) where
-      here : (g : Placed → Vector → Reply ℕ) → andThen (messageIn s k) (λ x. andThen (itemAt (vectorsIn (x .octets)) i) (g x)) ≡ andThen (itemAt (vectorsIn m) i) (g (messageAt s k))
+      here : (g : Placed → Vector → Reply ℕ)
+          → andThen (messageIn s k) (λ x. andThen (itemAt (vectorsIn (x .octets)) i) (g x)) ≡ andThen (itemAt (vectorsIn m) i) (g (messageAt s k))
       here g =
           ap (λ (x : Reply Placed). andThen x (λ x. andThen (itemAt (vectorsIn (x .octets)) i) (g x))) (message-given s k m m-is some)
           ∙ ap (λ (l : List ℕ). andThen (itemAt (vectorsIn l) i) (g (messageAt s k))) (sym m-is)
 
       module _ (beyond : n ≤ i) (z : ℤ) (f : SFits w64 z) (z-is : z ≡ negℤ (pos 19)) where
-        pub vector-beyond : (g : Placed → Vector → Reply ℕ) → toZ w64 (ofZ w64 z) ≡ answerOf (andThen (messageIn s k) (λ x. andThen (itemAt (vectorsIn (x .octets)) i) (g x)))
+        pub vector-beyond : (g : Placed → Vector → Reply ℕ)
+            → toZ w64 (ofZ w64 z) ≡ answerOf (andThen (messageIn s k) (λ x. andThen (itemAt (vectorsIn (x .octets)) i) (g x)))
         vector-beyond g =
             same z f (negℤ (pos 19)) z-is
-            ∙ sym (ap answerOf (here g ∙ ap (λ (x : Reply Vector). andThen x (g (messageAt s k))) (item-refused (vectorsIn m) i (omega (arith, n-is)))))
+            ∙ sym (ap answerOf
+            (here g ∙ ap (λ (x : Reply Vector). andThen x (g (messageAt s k))) (item-refused (vectorsIn m) i (omega (arith, n-is)))))
 
         pub place-beyond : toZ w64 (ofZ w64 z) ≡ vectorPlaceAnswer s k i
         place-beyond = vector-beyond (λ x v. given (vectorPlace (x .place) v))
@@ -75,7 +85,8 @@ module _ (s : List ℕ) (k : ℕ) (m : List ℕ) (m-is : m ≡ messageAt s k .oc
         inside-all : i < length (vectorsIn m)
         inside-all = omega (arith, n-is)
 
-        given-is : (g : Placed → Vector → Reply ℕ) → g (messageAt s k) v ≡ andThen (messageIn s k) (λ x. andThen (itemAt (vectorsIn (x .octets)) i) (g x))
+        given-is : (g : Placed → Vector → Reply ℕ)
+            → g (messageAt s k) v ≡ andThen (messageIn s k) (λ x. andThen (itemAt (vectorsIn (x .octets)) i) (g x))
         given-is g =
             ap (g (messageAt s k)) v-is
             ∙ sym (here g ∙ ap (λ (x : Reply Vector). andThen x (g (messageAt s k))) (item-given (vectorsIn m) i noVector inside-all))

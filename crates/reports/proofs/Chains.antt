@@ -20,12 +20,14 @@ module _ (t a b u : Text) (p x : List ℕ) (first : a ≡ written (p ∷ x ∷ [
   pub field-then : (q : List ℕ) (ps : List (List ℕ)) → b ≡ written (q ∷ []) a → u ≡ written ps b → u ≡ written (p ∷ x ∷ q ∷ ps) t
   field-then q ps f g = then t b u _ _ (then t a b _ _ first f) g
 
-pub choice-then : (t a b e u : Text) (w i q y z : List ℕ) → a ≡ written (w ∷ []) t → b ≡ written (idText i) a → e ≡ written (q ∷ y ∷ []) b → u ≡ written (z ∷ []) e
+pub choice-then : (t a b e u : Text) (w i q y z : List ℕ) → a ≡ written (w ∷ []) t → b ≡ written (idText i) a → e ≡ written (q ∷ y ∷ []) b
+    → u ≡ written (z ∷ []) e
     → u ≡ written (w ∷ (idText i ++ (q ∷ y ∷ z ∷ []))) t
 choice-then t a b e u w i q y z f g h k = then t a u _ _ f (then a b u _ _ g (then b e u _ _ h k))
 
 module _ (c : Command) (a : Answer) (message : List ℕ) (t u : Text) where
-  pub report-refused : (a .refusal ≡ 0 → ⊥) → u ≡ written (numbersLine (quoted "refused ") (a .refusal) (quoted " at=") (a .place .0)) t → u ≡ written (reportOf c a message) t
+  pub report-refused : (a .refusal ≡ 0 → ⊥) → u ≡ written (numbersLine (quoted "refused ") (a .refusal) (quoted " at=") (a .place .0)) t
+      → u ≡ written (reportOf c a message) t
   unfolding reportOf
   report-refused h e = rw (ne-eqb _ _ h) e
 
@@ -35,7 +37,8 @@ module _ (c : Command) (a : Answer) (message : List ℕ) (t u : Text) where
     report-opened h e = rw (eq-eqb _ _ accepted, eq-eqb _ _ h) e
 
     module _ (called : c .verb ≡ 10 → ⊥) where
-      pub report-read : c .verb ≡ 7 → u ≡ written (numbersLine (quoted "read messages=") (a .messages) (quoted " length=") (c .length)) t → u ≡ written (reportOf c a message) t
+      pub report-read : c .verb ≡ 7 → u ≡ written (numbersLine (quoted "read messages=") (a .messages) (quoted " length=") (c .length)) t
+          → u ≡ written (reportOf c a message) t
       unfolding reportOf
       report-read h e = rw (eq-eqb _ _ accepted, ne-eqb _ _ called, eq-eqb _ _ h) e
 

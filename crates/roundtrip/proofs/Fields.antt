@@ -76,7 +76,8 @@ module _ (i at : ℕ) (fs : List (List ℕ)) (starts : length (joined (take i fs
   octets-at f rest e n h = ap (take n) (drop-joined i fs at starts ∙ ap joined e) ∙ take-at f (joined rest) n h
 
 -- a vector that keeps its rule shows the octets where it lies
-pub shown-field : (header : ℕ) (m f : List ℕ) (v : Vector) → keepsRule header (length m) v ≡ true → octets (extent v) m (v .offset .0) ≡ f → shown header m v ≡ f
+pub shown-field : (header : ℕ) (m f : List ℕ) (v : Vector) → keepsRule header (length m) v ≡ true → octets (extent v) m (v .offset .0) ≡ f
+    → shown header m v ≡ f
 unfolding shown
 shown-field header m f v k e = rw k e
 
@@ -88,7 +89,8 @@ module _ (size header count : ℕ) (f : List ℕ) (whole : count * size ≡ leng
   pub payload-rule : keepsRule header (header + length f) (behindHeader size header count) ≡ true
   payload-rule = inside-rule _ _ _ (record { behind = omega arith; before = omega arith })
 
-  pub payload-shown : (m : List ℕ) → length m ≡ header + length f → octets (length f) m header ≡ f → shown header m (behindHeader size header count) ≡ f
+  pub payload-shown : (m : List ℕ) → length m ≡ header + length f → octets (length f) m header ≡ f
+      → shown header m (behindHeader size header count) ≡ f
   payload-shown m n e = shown-field header m f (behindHeader size header count) (rw n payload-rule) (rw whole e)
 
 -- two's complement, there and back
@@ -101,7 +103,8 @@ signed-back (negsuc n) f =
     simp (le-ltb _ _ a) (ap negsuc b)
 
 -- what the reader of a signed number hands back of a message in which one was written
-pub signed-shown : (least : ℕ) (m : List ℕ) (at : ℕ) (z : ℤ) → least ≤ length m → le 4 m at ≡ unsigned32 z → mag z < 2147483648 → signedIn least m at ≡ z
+pub signed-shown : (least : ℕ) (m : List ℕ) (at : ℕ) (z : ℤ) → least ≤ length m → le 4 m at ≡ unsigned32 z → mag z < 2147483648
+    → signedIn least m at ≡ z
 unfolding signedIn
 signed-shown least m at z h e r = simp (le-leb _ _ h) (ap signed32 e ∙ signed-back z r)
 

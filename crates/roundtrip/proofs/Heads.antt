@@ -61,7 +61,12 @@ fitting h (ofAlert p) e =
     let a = both (hasKind (ofAlert p) (h .kind .0)) (fitsFields (ofAlert p)) e in
     let k = eqb-true (h .kind .0) 7 (a .0) in
     let s = fit-small (p .alerts) (a .1) .size in
-    record { shape = shape-alert (h .kind .0) (omega arith) (omega arith) (λ z. omega arith); known = omega arith; header = omega arith; small = omega arith }
+    record {
+      shape = shape-alert (h .kind .0) (omega arith) (omega arith) (λ z. omega arith);
+      known = omega arith;
+      header = omega arith;
+      small = omega arith;
+    }
 
 header-small : (s : Shape) → headerOf s < 4294967296
 header-small nego = omega arith
@@ -78,8 +83,17 @@ past : (xs ys : List Row) (v : Verdict) → allPass xs ≡ true → verdict (xs 
 past xs ys v e = verdict-append xs ys v ∙ verdict-is xs (verdict ys v) ∙ rw e
 
 -- the common header, whatever fields are behind it
-module _ (h : Heading) (n : ℕ) (fs : List (List ℕ)) (known : h .kind .0 ≤ 7) (number : h .sequence < 4294967296) (small : n < 4294967296) (id : length (h .conversation) ≡ 16) where
-  pub head-fields : headOf (joined (headFields h n ++ fs)) ≡ record { signature = SIGNATURE; kind = h .kind .0; sequence = h .sequence; header = headerOf (shapeOf (h .kind .0)); length = n; conversation = h .conversation }
+module _ (h : Heading) (n : ℕ) (fs : List (List ℕ)) (known : h .kind .0 ≤ 7) (number : h .sequence < 4294967296) (small : n < 4294967296)
+    (id : length (h .conversation) ≡ 16) where
+  pub head-fields : headOf (joined (headFields h n ++ fs))
+      ≡ record {
+        signature = SIGNATURE;
+        kind = h .kind .0;
+        sequence = h .sequence;
+        header = headerOf (shapeOf (h .kind .0));
+        length = n;
+        conversation = h .conversation;
+      }
   unfolding headOf
   head-fields =
       let s = signature-first (joined (drop 1 (headFields h n) ++ fs)) in
@@ -108,7 +122,15 @@ module _ (h : Heading) (c : Contents) (s : Sent h c) where
         let f = fits in
         let e = head-fields h (sizeOf c) (bodyFields c ++ (r ∷ [])) (f .known) (s .number) (f .small) (s .id) in
         ap headOf (behind (headFields h (sizeOf c) ++ bodyFields c) r) ∙ e
-        ∙ ap (λ (t : Shape). record { signature = SIGNATURE; kind = h .kind .0; sequence = h .sequence; header = headerOf t; length = sizeOf c; conversation = h .conversation }) (f .shape)
+        ∙ ap (λ (t : Shape).
+        record {
+          signature = SIGNATURE;
+          kind = h .kind .0;
+          sequence = h .sequence;
+          header = headerOf t;
+          length = sizeOf c;
+          conversation = h .conversation;
+        }) (f .shape)
 
     pub front-encoded : front (encoded h c ++ r) ≡ encoded h c
     front-encoded = ap (λ (g : Head). take (g .length) (encoded h c ++ r)) head-encoded ∙ take-at (encoded h c) r (sizeOf c) size-encoded
@@ -126,7 +148,8 @@ module _ (h : Heading) (c : Contents) (s : Sent h c) where
         (le-leb _ _ d, (eq-eqb SIGNATURE _ refl, (le-leb _ _ (f .known), (eq-eqb _ _ k, (le-leb _ _ a, (le-leb _ _ b, tt)))))))
 
     -- from what the layout says: the content, and vectors that keep their rule
-    module _ (content : contentOf (shapeFor c) (encoded h c) ≡ contentRead c) (rules : allKeepRule (headerOf (shapeFor c)) (sizeOf c) (vectorsOf (contentRead c)) ≡ true) where
+    module _ (content : contentOf (shapeFor c) (encoded h c) ≡ contentRead c)
+        (rules : allKeepRule (headerOf (shapeFor c)) (sizeOf c) (vectorsOf (contentRead c)) ≡ true) where
       version-encoded : (d : Contents) → versionOk (contentRead d) ≡ true
       version-encoded (ofNego o) = refl
       version-encoded (ofExchange p) = refl
@@ -167,7 +190,10 @@ module _ (h : Heading) (c : Contents) (s : Sent h c) where
 
       order-encoded : allPass (orderRows (headOf (encoded h c ++ r)) (h .sequence) (h .conversation)) ≡ true
       unfolding orderRows
-      order-encoded = rw head-encoded (giving (orderRows (headRead h c) (h .sequence) (h .conversation)) (eq-eqb (h .sequence) (h .sequence) refl, (id-refl (h .conversation) (s .id), tt)))
+      order-encoded =
+          rw head-encoded
+          (giving (orderRows (headRead h c) (h .sequence) (h .conversation))
+          (eq-eqb (h .sequence) (h .sequence) refl, (id-refl (h .conversation) (s .id), tt)))
 
       -- with its own number and conversation it passes 7 and 8 too
       next-encoded : (v : Verdict) → verdict (nextRows (encoded h c ++ r) (h .sequence) (h .conversation)) v ≡ cond (ordinaryIn c) v (refused 12)
@@ -178,7 +204,12 @@ module _ (h : Heading) (c : Contents) (s : Sent h c) where
           ∙ past order (frontRows (encoded h c ++ r)) v order-encoded ∙ front-verdict v
 
       pub passes-encoded : ordinaryIn c ≡ true → passes (encoded h c ++ r) (h .sequence) (h .conversation) ≡ true
-      passes-encoded o = let g = fieldsOf (headRead h c) in verdict-read (nextRows (encoded h c ++ r) (h .sequence) (h .conversation)) g g (next-encoded (read g) ∙ rw o) .0
+      passes-encoded o =
+          let g =
+          fieldsOf (headRead h c) in verdict-read (nextRows (encoded h c ++ r) (h .sequence) (h .conversation)) g g (next-encoded (read g) ∙ rw o) .0
 
-      pub stops-encoded : ordinaryIn c ≡ false → (passes (encoded h c ++ r) (h .sequence) (h .conversation) ≡ false) × (firstFailing (nextRows (encoded h c ++ r) (h .sequence) (h .conversation)) ≡ 12)
-      stops-encoded o = let g = fieldsOf (headRead h c) in verdict-refused (nextRows (encoded h c ++ r) (h .sequence) (h .conversation)) g 12 (next-encoded (read g) ∙ rw o)
+      pub stops-encoded : ordinaryIn c ≡ false → (passes (encoded h c ++ r) (h .sequence) (h .conversation) ≡ false)
+          × (firstFailing (nextRows (encoded h c ++ r) (h .sequence) (h .conversation)) ≡ 12)
+      stops-encoded o =
+          let g =
+          fieldsOf (headRead h c) in verdict-refused (nextRows (encoded h c ++ r) (h .sequence) (h .conversation)) g 12 (next-encoded (read g) ∙ rw o)

@@ -35,7 +35,8 @@ module _ (h : Heading) (id : length (h .conversation) ≡ 16) where
   first-field c x rest e n w = octets-at 6 40 (fields c) (simp (length-append, id)) x rest e n w
 
   -- NEGO
-  module _ (o : Offer) (whole : length (o .random) ≡ 32) (ids : length (o .schemes) % 16 ≡ 0) (count : length (o .schemes) ≤ 1048560) (fit : itemsFit (o .extensions) ≡ true) where
+  module _ (o : Offer) (whole : length (o .random) ≡ 32) (ids : length (o .schemes) % 16 ≡ 0) (count : length (o .schemes) ≤ 1048560)
+      (fit : itemsFit (o .extensions) ≡ true) where
     nego-random : octets 32 (encoded h (ofNego o)) 40 ≡ o .random
     nego-random = first-field (ofNego o) (o .random) _ refl 32 whole
 
@@ -57,11 +58,16 @@ module _ (h : Heading) (id : length (h .conversation) ≡ 16) where
 
     nego-extensions : le 4 (encoded h (ofNego o)) 88 ≡ offsetOf (length (o .extensions)) (96 + length (o .schemes))
     unfolding encoded
-    nego-extensions = number-at 11 88 (fields (ofNego o)) (simp (length-append, id, whole)) 4 (offsetOf (length (o .extensions)) (96 + length (o .schemes))) _ refl (offset-small _ _ (omega arith))
+    nego-extensions =
+        number-at 11 88 (fields (ofNego o)) (simp (length-append, id, whole)) 4 (offsetOf (length (o .extensions)) (96 + length (o .schemes))) _ refl
+        (offset-small _ _ (omega arith))
 
     nego-many : le 2 (encoded h (ofNego o)) 92 ≡ length (o .extensions)
     unfolding encoded
-    nego-many = let k = fit-small (o .extensions) fit .few in number-at 12 92 (fields (ofNego o)) (simp (length-append, id, whole)) 2 (length (o .extensions)) _ refl (omega arith)
+    nego-many =
+        let k =
+        fit-small (o .extensions) fit .few in
+        number-at 12 92 (fields (ofNego o)) (simp (length-append, id, whole)) 2 (length (o .extensions)) _ refl (omega arith)
 
     nego-behind : drop (96 + length (o .schemes)) (encoded h (ofNego o)) ≡ itemOctets (96 + length (o .schemes)) (o .extensions)
     unfolding encoded
@@ -95,11 +101,14 @@ module _ (h : Heading) (id : length (h .conversation) ≡ 16) where
     nego-schemes-rule = inside-rule _ _ _ (record { behind = omega arith; before = omega arith })
 
     -- the schemes show whatever the extensions' types are
-    pub nego-listed : (shown 96 (encoded h (ofNego o)) (schemeVector (encoded h (ofNego o))) ≡ o .schemes) × (schemesIn (encoded h (ofNego o)) ≡ idsOf (o .schemes))
+    pub nego-listed : (shown 96 (encoded h (ofNego o)) (schemeVector (encoded h (ofNego o))) ≡ o .schemes)
+        × (schemesIn (encoded h (ofNego o)) ≡ idsOf (o .schemes))
     unfolding schemesIn
     nego-listed =
         let e : shown 96 (encoded h (ofNego o)) (schemeVector (encoded h (ofNego o))) ≡ o .schemes =
-        rw nego-scheme-vector (shown-field 96 (encoded h (ofNego o)) (o .schemes) (behindHeader 16 96 (length (o .schemes) / 16)) (rw nego-length nego-schemes-rule) (rw counted nego-schemes)) in
+        rw nego-scheme-vector
+        (shown-field 96 (encoded h (ofNego o)) (o .schemes) (behindHeader 16 96 (length (o .schemes) / 16)) (rw nego-length nego-schemes-rule)
+        (rw counted nego-schemes)) in
         (e, ap idsOf e)
 
     module _ (types : TypesFit (o .extensions)) where
@@ -159,7 +168,8 @@ module _ (h : Heading) (id : length (h .conversation) ≡ 16) where
     pub exchange-shows : Shows (ofExchange p) (encoded h (ofExchange p))
     exchange-shows =
         let v : exchangeVector (encoded h (ofExchange p)) ≡ behindHeader 1 64 (length (p .value)) = simp (exchange-offset, exchange-length) in
-        rw v (payload-shown 1 64 (length (p .value)) (p .value) (omega arith) (encoded h (ofExchange p)) (length-encoded h id (ofExchange p) whole) exchange-value)
+        rw v (payload-shown 1 64 (length (p .value)) (p .value) (omega arith) (encoded h (ofExchange p))
+        (length-encoded h id (ofExchange p) whole) exchange-value)
 
   -- VERIFY
   module _ (k : Checksum) (whole : length (k .scheme) ≡ 16) (range : mag (k .type) < 2147483648) (size : length (k .value) ≤ 4294967215) where
@@ -176,7 +186,8 @@ module _ (h : Heading) (id : length (h .conversation) ≡ 16) where
 
     verify-type : le 4 (encoded h (ofVerify k)) 64 ≡ unsigned32 (k .type)
     unfolding encoded
-    verify-type = number-at 9 64 (fields (ofVerify k)) (simp (length-append, id, whole)) 4 (unsigned32 (k .type)) _ refl (unsigned-small (k .type) range)
+    verify-type =
+        number-at 9 64 (fields (ofVerify k)) (simp (length-append, id, whole)) 4 (unsigned32 (k .type)) _ refl (unsigned-small (k .type) range)
 
     verify-offset : le 4 (encoded h (ofVerify k)) 68 ≡ 80
     unfolding encoded
@@ -208,25 +219,36 @@ module _ (h : Heading) (id : length (h .conversation) ≡ 16) where
 
     pub verify-shows : Shows (ofVerify k) (encoded h (ofVerify k))
     verify-shows =
-        let v : checksumVector (encoded h (ofVerify k)) ≡ behindHeader 1 80 (length (k .value)) = simp (verify-offset, verify-length) in
-        (rw v (payload-shown 1 80 (length (k .value)) (k .value) (omega arith) (encoded h (ofVerify k)) (length-encoded h id (ofVerify k) whole) verify-value), signed-shown 80 _ 64 (k .type) (omega (arith, length-encoded h id (ofVerify k) whole)) verify-type range)
+        let v : checksumVector (encoded h (ofVerify k)) ≡ behindHeader 1 80 (length (k .value)) = simp (verify-offset, verify-length) in (
+          rw v (payload-shown 1 80 (length (k .value)) (k .value) (omega arith) (encoded h (ofVerify k))
+              (length-encoded h id (ofVerify k) whole) verify-value),
+          signed-shown 80 _ 64 (k .type)
+              (omega (arith, length-encoded h id (ofVerify k) whole)) verify-type range,
+        )
 
   -- ALERT
-  module _ (p : Alarm) (whole : length (p .scheme) ≡ 16) (range : mag (p .code) < 2147483648) (fit : itemsFit (p .alerts) ≡ true) (types : TypesFit (p .alerts)) where
+  module _ (p : Alarm) (whole : length (p .scheme) ≡ 16) (range : mag (p .code) < 2147483648) (fit : itemsFit (p .alerts) ≡ true)
+      (types : TypesFit (p .alerts)) where
     alert-scheme : octets 16 (encoded h (ofAlert p)) 40 ≡ p .scheme
     alert-scheme = first-field (ofAlert p) (p .scheme) _ refl 16 whole
 
     alert-code : le 4 (encoded h (ofAlert p)) 56 ≡ unsigned32 (p .code)
     unfolding encoded
-    alert-code = number-at 7 56 (fields (ofAlert p)) (simp (length-append, id, whole)) 4 (unsigned32 (p .code)) _ refl (unsigned-small (p .code) range)
+    alert-code =
+        number-at 7 56 (fields (ofAlert p)) (simp (length-append, id, whole)) 4 (unsigned32 (p .code)) _ refl (unsigned-small (p .code) range)
 
     alert-offset : le 4 (encoded h (ofAlert p)) 60 ≡ offsetOf (length (p .alerts)) 72
     unfolding encoded
-    alert-offset = number-at 8 60 (fields (ofAlert p)) (simp (length-append, id, whole)) 4 (offsetOf (length (p .alerts)) 72) _ refl (offset-small _ _ (omega arith))
+    alert-offset =
+        number-at 8 60 (fields (ofAlert p)) (simp (length-append, id, whole)) 4 (offsetOf (length (p .alerts)) 72) _ refl
+        (offset-small _ _ (omega arith))
 
     alert-count : le 2 (encoded h (ofAlert p)) 64 ≡ length (p .alerts)
     unfolding encoded
-    alert-count = let k = fit-small (p .alerts) fit .few in number-at 9 64 (fields (ofAlert p)) (simp (length-append, id, whole)) 2 (length (p .alerts)) _ refl (omega arith)
+    alert-count =
+        let k =
+        fit-small (p .alerts) fit .few in
+        number-at 9 64 (fields (ofAlert p)) (simp (length-append, id, whole)) 2 (length (p .alerts)) _ refl (omega arith)
 
     alert-pad : le 2 (encoded h (ofAlert p)) 66 ≡ 0
     unfolding encoded

@@ -103,8 +103,11 @@ read-encode h c s range r =
 -- What begins with a written NEGO reads as that NEGO: its type and its schemes, whatever follows.
 pub nego-begins : NegoBegins
 nego-begins h o s r =
-    let f = nego-fits h o s in
-    (ap (λ (g : Head). g .kind) (head-encoded h (ofNego o) s r), ap schemesIn (front-encoded h (ofNego o) s r) ∙ nego-listed h (s .id) o (s .whole) (f .ids) (f .count) (f .fit) .1)
+    let f = nego-fits h o s in (
+      ap (λ (g : Head). g .kind) (head-encoded h (ofNego o) s r),
+      ap schemesIn (front-encoded h (ofNego o) s r)
+          ∙ nego-listed h (s .id) o (s .whole) (f .ids) (f .count) (f .fit) .1,
+    )
 
 -- ids that are joined are the ids of the array
 abbrev pub AllIds : List (List ℕ) → Type 0
@@ -127,7 +130,8 @@ ids-joined is e =
     rw n (ids-at is e)
 
 -- a written message is one message, whole and no more, with its number in its conversation
-pub encoded-message : (h : Heading) (c : Contents) → Sent h c → InRange c → ordinaryIn c ≡ true → Message (h .sequence) (h .conversation) (encoded h c)
+pub encoded-message : (h : Heading) (c : Contents) → Sent h c → InRange c → ordinaryIn c ≡ true
+    → Message (h .sequence) (h .conversation) (encoded h c)
 encoded-message h c s range o =
     let l = laid h c s range in
     let e = append-nil (encoded h c) in
@@ -159,7 +163,8 @@ record Begins (q : ℕ) (v s : List ℕ) : Type 0 where
   number : headOf s .sequence ≡ q
   conversation : headOf s .conversation ≡ v
 
-begins-with : (q : ℕ) (v : List ℕ) (m : Outgoing) (ms : List Outgoing) (r : List ℕ) → InSequence q v (m ∷ ms) → Begins q v (encoded (m .heading) (m .contents) ++ r)
+begins-with : (q : ℕ) (v : List ℕ) (m : Outgoing) (ms : List Outgoing) (r : List ℕ) → InSequence q v (m ∷ ms)
+    → Begins q v (encoded (m .heading) (m .contents) ++ r)
 begins-with q v m ms r e =
     let k = head-encoded (m .heading) (m .contents) (e .0 .0) r in
     record { number = ap (λ (g : Head). g .sequence) k ∙ e .1 .0; conversation = ap (λ (g : Head). g .conversation) k ∙ e .1 .1 .0 }
@@ -167,11 +172,14 @@ begins-with q v m ms r e =
 begins : (q : ℕ) (v : List ℕ) (ms : List Outgoing) (m : Outgoing) (r : List ℕ) → InSequence q v ms → InSequence (q + length ms) v (m ∷ [])
     → Begins q v (join (octetsOfAll ms) ++ (encoded (m .heading) (m .contents) ++ r))
 begins q v [] m r e f = let b = begins-with (q + 0) v m [] r f in record { number = omega (arith, b .number); conversation = b .conversation }
-begins q v (x ∷ xs) m r e f = rw (append-assoc (encoded (x .heading) (x .contents)) (join (octetsOfAll xs)) (encoded (m .heading) (m .contents) ++ r)) (begins-with q v x xs _ e)
+begins q v (x ∷ xs) m r e f =
+    rw (append-assoc (encoded (x .heading) (x .contents)) (join (octetsOfAll xs)) (encoded (m .heading) (m .contents) ++ r))
+    (begins-with q v x xs _ e)
 
 -- a written message with a critical extension fails by 12
 pub critical-stops : (h : Heading) (c : Contents) → Sent h c → InRange c → ordinaryIn c ≡ false → (r : List ℕ)
-    → (passes (encoded h c ++ r) (h .sequence) (h .conversation) ≡ false) × (firstFailing (nextRows (encoded h c ++ r) (h .sequence) (h .conversation)) ≡ 12)
+    → (passes (encoded h c ++ r) (h .sequence) (h .conversation) ≡ false)
+    × (firstFailing (nextRows (encoded h c ++ r) (h .sequence) (h .conversation)) ≡ 12)
 critical-stops h c s range o r = let l = laid h c s range in stops-encoded h c s r (l .content) (l .rules) o
 
 pub some-octets : (h : Heading) (c : Contents) → Sent h c → (r : List ℕ) → 0 < length (encoded h c ++ r)
@@ -187,7 +195,9 @@ critical-refused q v ms m r e f o c w =
     let s = join (octetsOfAll ms) ++ t in
     let b = begins q v ms m r e f in
     let stop = critical-stops h (m .contents) (f .0 .0) (f .0 .1) c r in
-    let first : FirstFails 12 (nextRows t (h .sequence) (h .conversation)) = subst (λ (j : ℕ). FirstFails j (nextRows t (h .sequence) (h .conversation))) (stop .1) (refuses-first (nextRows t (h .sequence) (h .conversation)) (stop .0)) in
+    let first : FirstFails 12 (nextRows t (h .sequence) (h .conversation)) =
+    subst (λ (j : ℕ). FirstFails j (nextRows t (h .sequence) (h .conversation))) (stop .1)
+    (refuses-first (nextRows t (h .sequence) (h .conversation)) (stop .0)) in
     let j : h .sequence ≡ headOf s .sequence + length (octetsOfAll ms) = omega (arith, f .1 .0, b .number, count-all ms) in
     let d : h .conversation ≡ headOf s .conversation = f .1 .1 .0 ∙ sym (b .conversation) in
     stops-refused s 12 (length (join (octetsOfAll ms)))
@@ -199,9 +209,13 @@ critical-refused q v ms m r e f o c w =
           short = w;
           some = some-octets h (m .contents) (f .0 .0) r;
           joins = refl;
-          numbered = subst (λ (i : ℕ). Numbered i (headOf s .conversation) (octetsOfAll ms)) (sym (b .number)) (subst (λ (i : List ℕ). Numbered q i (octetsOfAll ms)) (sym (b .conversation)) (all-numbered q v ms e o));
+          numbered =
+              subst (λ (i : ℕ). Numbered i (headOf s .conversation) (octetsOfAll ms)) (sym (b .number))
+              (subst (λ (i : List ℕ). Numbered q i (octetsOfAll ms)) (sym (b .conversation)) (all-numbered q v ms e o));
           place = refl;
-          first = subst (λ (i : ℕ). FirstFails 12 (nextRows t i (headOf s .conversation))) j (subst (λ (i : List ℕ). FirstFails 12 (nextRows t (h .sequence) i)) d first);
+          first =
+              subst (λ (i : ℕ). FirstFails 12 (nextRows t i (headOf s .conversation))) j
+              (subst (λ (i : List ℕ). FirstFails 12 (nextRows t (h .sequence) i)) d first);
         },
       ),
     )))
@@ -216,7 +230,8 @@ stored-stands d at h c next d' e = go (which (encodable h c && leb (at + length 
   layer : put d at m ≡ take at d ++ (m ++ drop (at + length m) d)
   layer = unfold put in append-assoc (take at d) m (drop (at + length m) d)
 
-  go : (encodable h c && leb (at + length (encoded h c)) (length d) ≡ true) ⊎ (encodable h c && leb (at + length (encoded h c)) (length d) ≡ false) → Stands d at h c next d'
+  go : (encodable h c && leb (at + length (encoded h c)) (length d) ≡ true) ⊎ (encodable h c && leb (at + length (encoded h c)) (length d) ≡ false)
+      → Stands d at h c next d'
   go (inr f) = let w : unwritten d ≡ written next d' = simp f at e in let z : _≡_ {A = ℕ} 0 1 = cc in absurd (omega arith)
   go (inl f) =
       let b = both (encodable h c) (leb (at + length (encoded h c)) (length d)) f in
@@ -234,7 +249,8 @@ stored-stands d at h c next d' e = go (which (encodable h c && leb (at + length 
       }
 
 -- So a reader at that place finds the message as it was written, whatever the buffer holds behind it.
-pub stored-reads : (d : List ℕ) (at : ℕ) (h : Heading) (c : Contents) (next : ℕ) (d' : List ℕ) → storing d at h c ≡ written next d' → h .sequence < 4294967296 → length (h .conversation) ≡ 16 → Whole c → InRange c
+pub stored-reads : (d : List ℕ) (at : ℕ) (h : Heading) (c : Contents) (next : ℕ) (d' : List ℕ) → storing d at h c ≡ written next d'
+    → h .sequence < 4294967296 → length (h .conversation) ≡ 16 → Whole c → InRange c
     → (drop at d' ≡ encoded h c ++ drop next d) × ReadsBack h c (drop next d)
 stored-reads d at h c next d' e number id whole range =
     let t = stored-stands d at h c next d' e in

@@ -179,7 +179,8 @@ AllOrdinary (m ∷ ms) = (ordinaryIn (m .contents) ≡ true) × AllOrdinary ms
 
 abbrev pub WrittenAccepted : Type 0
 WrittenAccepted =
-    (q : ℕ) (v : List ℕ) (m : Outgoing) (ms : List Outgoing) → InSequence q v (m ∷ ms) → AllOrdinary (m ∷ ms) → length (join (octetsOfAll (m ∷ ms))) ≤ 65535
+    (q : ℕ) (v : List ℕ) (m : Outgoing) (ms : List Outgoing) → InSequence q v (m ∷ ms) → AllOrdinary (m ∷ ms)
+    → length (join (octetsOfAll (m ∷ ms))) ≤ 65535
     → tokenOf (join (octetsOfAll (m ∷ ms))) ≡ Accepted (placedFrom 0 (octetsOfAll (m ∷ ms)))
 
 -- C-22: "For a critical one the structural reading answers 12": for ms, then m, then any octets

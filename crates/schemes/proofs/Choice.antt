@@ -193,7 +193,8 @@ module _ (acc ini acc′ ini′ : List Id) (up : Longer acc ini acc′ ini′) (
         no-later = le;
         new = λ ne a i.
             let ge : place acc′ c ≤ place acc′ c′ =
-            first-place v acc′ c c′ (ap first e ∙ before) (and-i (mem c′ acc) (usable acc ini ma mi c′) a (sym (carried ma′ mi′ sa si c′ a i) ∙ h .0)) (h .1) in
+            first-place v acc′ c c′ (ap first e ∙ before) (and-i (mem c′ acc) (usable acc ini ma mi c′) a (sym (carried ma′ mi′ sa si c′ a i) ∙ h .0))
+            (h .1) in
             ne (place-inj acc′ c′ c (h .1) mc (omega arith));
       }
 

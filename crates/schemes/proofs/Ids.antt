@@ -107,7 +107,8 @@ module _ (s : List ℕ) (n : ℕ) where
     distinct-end h = sym (inv ∙ rw (rest-end n s k h))
 
     module _ (more : k < n) (b : Bool)
-        (b-is : b ≡ mem (take (k * 16 + 16 - k * 16) (drop (k * 16) s)) (idsAt (n - (k + 1)) (take (length s - (k * 16 + 16)) (drop (k * 16 + 16) s))))
+        (b-is : b ≡ mem (take (k * 16 + 16 - k * 16) (drop (k * 16) s))
+        (idsAt (n - (k + 1)) (take (length s - (k * 16 + 16)) (drop (k * 16 + 16) s))))
       where
         known : mem (octets 16 s (k * 16)) (rest n s (k + 1)) ≡ b
         known =

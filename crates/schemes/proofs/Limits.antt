@@ -83,7 +83,8 @@ pub kept-below : (own reply : List Id) (c : ℕ) → c < 2 ^ length (keptPlaces 
 kept-below own reply c h = all-kept (length own) (keptPlaces own reply) _ c (mentions-below own reply [] tt) h
 
 -- ---- for callers: a place that is chosen lies inside the list
-pub open-below : (n : ℕ) (ks : List ℕ) (c m : ℕ) → keptBelow n ks c ≡ true → (leftOf (openPlaces ks c m) .left ≡ 0 → ⊥) → leftOf (openPlaces ks c m) .place < n
+pub open-below : (n : ℕ) (ks : List ℕ) (c m : ℕ) → keptBelow n ks c ≡ true → (leftOf (openPlaces ks c m) .left ≡ 0 → ⊥)
+    → leftOf (openPlaces ks c m) .place < n
 unfolding keptBelow openPlaces leftOf
 open-below n [] c m h g = absurd (g refl)
 open-below n (k ∷ ks) c m h g =

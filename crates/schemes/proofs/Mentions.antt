@@ -146,7 +146,8 @@ module _ (k : Kept) (p n : ℕ) (pre : Noting k p n) where
     pub note-fits : b ≡ false → k .count + 1 < 4294967296
     note-fits t = omega (arith, note-room t)
 
-    pub note-new : b ≡ false → _≡_ {A = Kept} (record { places = set (k .places) (k .count) p; count = k .count + 1 }) (keptOf (noted n p (placesIn k)))
+    pub note-new : b ≡ false
+        → _≡_ {A = Kept} (record { places = set (k .places) (k .count) p; count = k .count + 1 }) (keptOf (noted n p (placesIn k)))
     unfolding keptOf
     note-new t =
         let ps : List ℕ = placesIn k in
@@ -186,7 +187,8 @@ module _ (own : List ℕ) (n : ℕ) (peer : List ℕ) where
     kept-turn p p-is r r-is =
         let e : p ≡ place (idsAt n own) (octets 16 peer (j * 16)) = rw add-sub-cancel-left at p-is in
         let m = mentions-snoc (idsAt n own) (idsAt j peer) (octets 16 peer (j * 16)) [] in
-        let q : noted n p (placesIn k) ≡ mentions (idsAt n own) (idsAt j peer ++ (octets 16 peer (j * 16) ∷ [])) [] = rw (kept-in, e) (sym (rw length-ids at m)) in
+        let q : noted n p (placesIn k) ≡ mentions (idsAt n own) (idsAt j peer ++ (octets 16 peer (j * 16) ∷ [])) [] =
+        rw (kept-in, e) (sym (rw length-ids at m)) in
         r-is ∙ ap keptOf (q ∙ ap (λ (l : List Id). mentions (idsAt n own) l []) (sym (rw add-one (ids-snoc j peer))))
 
     pub kept-done : j ≤ length peer / 16 → length peer / 16 ≤ j → k ≡ keptOf (keptPlaces (idsAt n own) (idsOf peer))

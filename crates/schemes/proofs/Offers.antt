@@ -67,7 +67,8 @@ pub left-few : (l : List Id) (c m : ℕ) → length (left l c m) ≤ length l
 unfolding left
 left-few [] c m = omega arith
 left-few (x ∷ l) c m = go (bit c 0 && not (bit m 0)) (left-few l (c / 2) (m / 2)) where
-  go : (d : Bool) → length (left l (c / 2) (m / 2)) ≤ length l → length (cond d (x ∷ left l (c / 2) (m / 2)) (left l (c / 2) (m / 2))) ≤ suc (length l)
+  go : (d : Bool) → length (left l (c / 2) (m / 2)) ≤ length l
+      → length (cond d (x ∷ left l (c / 2) (m / 2)) (left l (c / 2) (m / 2))) ≤ suc (length l)
   go true h = omega arith
   go false h = omega arith
 

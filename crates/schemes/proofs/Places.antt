@@ -126,7 +126,8 @@ module _ (ks : List ℕ) (c m : ℕ) (sized : length ks ≡ 16) (fits : c < 6553
   number : opened ks c m ≡ bitAnd c (65535 - w)
   number = rw (sized, w-is)
 
-  pub choice-some : _≡_ {A = Left} (record { place = getD ks (trailingZeros 16 (bitAnd c (65535 - w))) 0; left = ones (bitAnd c (65535 - w)) }) (leftOf (openPlaces ks c m))
+  pub choice-some : _≡_ {A = Left} (record { place = getD ks (trailingZeros 16 (bitAnd c (65535 - w))) 0; left = ones (bitAnd c (65535 - w)) })
+      (leftOf (openPlaces ks c m))
   unfolding leftOf
   choice-some =
       let h : c < 2 ^ length ks = rw sized fits in
@@ -213,16 +214,19 @@ pub left-below : (n c m : ℕ) → n ≤ 16 → c < 2 ^ n → leftPlaces 16 c m 
 left-below n c m h g =
     let e : 16 ≡ n + (16 - n) = omega arith in
     let f : c < 2 ^ length (placesFrom 0 n) = rw length-places g in
-    ap (λ (k : ℕ). openPlaces (placesFrom 0 k) c m) e ∙ ap (λ (l : List ℕ). openPlaces l c m) (places-append 0 n (16 - n)) ∙ open-append (placesFrom 0 n) _ c m f
+    ap (λ (k : ℕ). openPlaces (placesFrom 0 k) c m) e ∙ ap (λ (l : List ℕ). openPlaces l c m) (places-append 0 n (16 - n))
+    ∙ open-append (placesFrom 0 n) _ c m f
 
 -- ---- for callers: the schemes at the acceptor's places left are the own list's schemes left
-named-from : (own : List Id) (k : ℕ) (l : List Id) (c m : ℕ) → drop k own ≡ l → named own (openPlaces (placesFrom k (length l)) c m) ≡ left l c (m / 2 ^ k)
+named-from : (own : List Id) (k : ℕ) (l : List Id) (c m : ℕ) → drop k own ≡ l
+    → named own (openPlaces (placesFrom k (length l)) c m) ≡ left l c (m / 2 ^ k)
 unfolding openPlaces placesFrom left
 named-from own k [] c m e = refl
 named-from own k (x ∷ l) c m e =
     let (u, v) = split own k e in
     let b : bit (m / 2 ^ k) 0 ≡ bit m k = bit-shift m k in
-    let i : named own (openPlaces (placesFrom (suc k) (length l)) (c / 2) m) ≡ left l (c / 2) (m / 2 ^ k / 2) = named-from own (suc k) l (c / 2) m v ∙ rw (halved m k) in
+    let i : named own (openPlaces (placesFrom (suc k) (length l)) (c / 2) m) ≡ left l (c / 2) (m / 2 ^ k / 2) =
+    named-from own (suc k) l (c / 2) m v ∙ rw (halved m k) in
     rw b (go (bit c 0 && not (bit m k)) u i)
   where
     split : (s : List Id) (j : ℕ) → drop j s ≡ x ∷ l → (getD s j [] ≡ x) × (drop (suc j) s ≡ l)

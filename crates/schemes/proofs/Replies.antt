@@ -60,13 +60,15 @@ unfolding has
 has-append p [] qs = refl
 has-append p (q ∷ ps) qs = elim (which (eqb p q)) [ inl e ↦ rw e | inr e ↦ rw e (has-append p ps qs) ]
 
-fresh-place : (own l : List Id) (x : Id) → ((s : Id) → mem s (x ∷ l) ≡ true → mem s own ≡ true) → not (mem x l) ≡ true → (s : Id) → mem s l ≡ true → eqb (place own s) (place own x) ≡ false
+fresh-place : (own l : List Id) (x : Id) → ((s : Id) → mem s (x ∷ l) ≡ true → mem s own ≡ true) → not (mem x l) ≡ true → (s : Id) → mem s l ≡ true
+    → eqb (place own s) (place own x) ≡ false
 fresh-place own l x h n s m =
     ne-eqb (place own s) (place own x)
     (λ e. let q : s ≡ x = place-inj own s x (h s (mem-tail s x l m)) (h x (mem-head x l)) e in
     no-true (let k : mem x l ≡ true = rw q at m in rw k at n))
 
-pub mentions-all : (own l : List Id) (ps : List ℕ) → distinct l ≡ true → ((s : Id) → mem s l ≡ true → mem s own ≡ true) → ((s : Id) → mem s l ≡ true → has (place own s) ps ≡ false) → mentions own l ps ≡ ps ++ map (place own) l
+pub mentions-all : (own l : List Id) (ps : List ℕ) → distinct l ≡ true → ((s : Id) → mem s l ≡ true → mem s own ≡ true)
+    → ((s : Id) → mem s l ≡ true → has (place own s) ps ≡ false) → mentions own l ps ≡ ps ++ map (place own) l
 unfolding mentions distinct has
 mentions-all own [] ps d h f = sym (append-nil ps)
 mentions-all own (x ∷ l) ps d h f =

@@ -43,7 +43,8 @@ module _ (w s : List ℕ) (room : ℕ) (f : List ℕ) (f-is : f ≡ first (field
   unfolding givenOf
   given-other h g d e = rw (e, ← from-start s, ← f-is, ← b-is, h)
 
-  module _ (there : b ≡ true) (at : ℕ) (at-is : fieldsFrom s at ≡ others (fieldsFrom s 0)) (r : Number) (r-is : numberOf r ≡ numberIn 2 (fieldsFrom s at)) where
+  module _ (there : b ≡ true) (at : ℕ) (at-is : fieldsFrom s at ≡ others (fieldsFrom s 0)) (r : Number)
+      (r-is : numberOf r ≡ numberIn 2 (fieldsFrom s at)) where
     given-by : givenOf w s room ≡ givenBy (numberOf r) (fit room (restIn 8 (others (fieldsFrom s at))))
     unfolding givenOf
     given-by = rw (← from-start s, ← f-is, ← b-is, there, ← at-is, ← r-is)
@@ -51,7 +52,8 @@ module _ (w s : List ℕ) (room : ℕ) (f : List ℕ) (f-is : f ≡ first (field
     pub given-unmarked : r ≡ number.Bad → (g : GivenText) (d : List ℕ) → g ≡ noGiven → givenAs g d ≡ givenOf w s room
     given-unmarked h g d e = rw e (sym (given-by ∙ rw h))
 
-    module _ (m : ℕ) (m-is : r ≡ number.Is m) (from : ℕ) (from-is : fieldsFrom s from ≡ others (fieldsFrom s at)) (q : Decoded) (d : List ℕ) (q-is : decodedAs q d ≡ fit room (restIn 8 (fieldsFrom s from))) where
+    module _ (m : ℕ) (m-is : r ≡ number.Is m) (from : ℕ) (from-is : fieldsFrom s from ≡ others (fieldsFrom s at)) (q : Decoded) (d : List ℕ)
+        (q-is : decodedAs q d ≡ fit room (restIn 8 (fieldsFrom s from))) where
       given-front : givenOf w s room ≡ givenBy (numberOf (number.Is m)) (decodedAs q d)
       given-front = given-by ∙ rw (m-is, ← from-is, ← q-is)
 

@@ -17,7 +17,8 @@ use Rattle.script.specs.Steps.{fieldsFrom}
 use Rattle.script.proofs.Places.{past-none, field-there}
 
 -- the ids of a list: those in front stand already at the front of d
-module _ (s d : List ℕ) (room n at : ℕ) (x : Octets) (inv : x ≡ behindAll (take n d) (idsOf (fieldsFrom s at))) (inside : n ≤ length d) (sized : length d ≡ room) where
+module _ (s d : List ℕ) (room n at : ℕ) (x : Octets) (inv : x ≡ behindAll (take n d) (idsOf (fieldsFrom s at))) (inside : n ≤ length d)
+    (sized : length d ≡ room) where
   pub ids-end : length s < at → front n (take n d) ≡ fit room x
   unfolding idsOf
   ids-end h =
@@ -41,10 +42,12 @@ module _ (s d : List ℕ) (room n at : ℕ) (x : Octets) (inv : x ≡ behindAll 
           fit-long room (take n d ++ r .octets) (idsOf (others (fieldsFrom s at))) (omega (arith, length-append (take n d) (r .octets)))
           ∙ ap (fit room) (sym ids-one)
 
-      pub ids-more : 16 ≤ length d - n → (d' : List ℕ) (next : ℕ) → Written d n (length (r .octets)) (r .octets) d' next → (to : ℕ) → fieldsFrom s to ≡ others (fieldsFrom s at)
+      pub ids-more : 16 ≤ length d - n → (d' : List ℕ) (next : ℕ) → Written d n (length (r .octets)) (r .octets) d' next → (to : ℕ)
+          → fieldsFrom s to ≡ others (fieldsFrom s at)
           → x ≡ behindAll (take next d') (idsOf (fieldsFrom s to))
       ids-more h d' next w to e =
-          ids-one ∙ rw (← e, w .after, w .holds) (ap (λ (l : List ℕ). behindAll l (idsOf (fieldsFrom s to))) (sym (take-put d n (r .octets) (omega arith))))
+          ids-one ∙ rw (← e, w .after, w .holds)
+          (ap (λ (l : List ℕ). behindAll l (idsOf (fieldsFrom s to))) (sym (take-put d n (r .octets) (omega arith))))
 
 pub ids-start : (s d : List ℕ) (from : ℕ) → idsOf (fieldsFrom s from) ≡ behindAll (take 0 d) (idsOf (fieldsFrom s from))
 ids-start s d from = behind-none (idsOf (fieldsFrom s from))

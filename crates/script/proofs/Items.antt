@@ -42,8 +42,10 @@ module _ (s : List ℕ) (from at : ℕ) (at-is : fieldsFrom s at ≡ others (fie
   pub test-last : length s < at → false ≡ testIn (fieldsFrom s from)
   test-last h = test-none (fieldsFrom s from) (sym at-is ∙ past-none s at h)
 
-  pub test-word : at ≤ length s → (f : List ℕ) → f ≡ first (fieldsFrom s from) → (b : Bool) → b ≡ sameOctets f (quoted "test") → b ≡ testIn (fieldsFrom s from)
-  test-word h f f-is b b-is = b-is ∙ rw f-is (test-some (fieldsFrom s from) (first (fieldsFrom s at)) (others (fieldsFrom s at)) (sym at-is ∙ field-there s at h))
+  pub test-word : at ≤ length s → (f : List ℕ) → f ≡ first (fieldsFrom s from) → (b : Bool) → b ≡ sameOctets f (quoted "test")
+      → b ≡ testIn (fieldsFrom s from)
+  test-word h f f-is b b-is =
+      b-is ∙ rw f-is (test-some (fieldsFrom s from) (first (fieldsFrom s at)) (others (fieldsFrom s at)) (sym at-is ∙ field-there s at h))
 
 pub ruleset test-words = (test-last, test-word)
 
@@ -108,7 +110,8 @@ module _ (s d : List ℕ) (k : ℕ) (k-is : k ≡ getD s 8 0) where
     pub item-type : t ≡ number.Bad → ItemRead s d noText d
     item-type h = record { says = rw (item-is, h); inside = omega arith }
 
-    module _ (type : ℕ) (t-good : t ≡ number.Is type) (b : List ℕ) (b-is : b ≡ part s 9 (length s)) (r : Decoded) (d' : List ℕ) (reads : Decodes b d (octetsOf b) r d') where
+    module _ (type : ℕ) (t-good : t ≡ number.Is type) (b : List ℕ) (b-is : b ≡ part s 9 (length s)) (r : Decoded) (d' : List ℕ)
+        (reads : Decodes b d (octetsOf b) r d') where
       item-typed : itemOf s ≡ typed (is type) (octetsOf b)
       item-typed = item-is ∙ rw (t-good, b-is)
 
@@ -143,9 +146,11 @@ values-append : (xs ys : List Item) → joined (itemValues (xs ++ ys)) ≡ joine
 values-append [] ys = refl
 values-append (x ∷ xs) ys = rw (values-append xs ys) (sym (append-assoc (x .value) (joined (itemValues xs)) (joined (itemValues ys))))
 
-values-more : (o v : List ℕ) (xs : List Item) (t : ℕ) → o ++ joined (itemValues xs) ++ v ≡ o ++ joined (itemValues (xs ++ record { type = t; value = v } ∷ []))
+values-more : (o v : List ℕ) (xs : List Item) (t : ℕ)
+    → o ++ joined (itemValues xs) ++ v ≡ o ++ joined (itemValues (xs ++ record { type = t; value = v } ∷ []))
 values-more o v xs t =
-    append-assoc o (joined (itemValues xs)) v ∙ ap (λ (l : List ℕ). o ++ l) (sym (values-append xs (record { type = t; value = v } ∷ []) ∙ rw (append-nil v)))
+    append-assoc o (joined (itemValues xs)) v ∙ ap (λ (l : List ℕ). o ++ l)
+    (sym (values-append xs (record { type = t; value = v } ∷ []) ∙ rw (append-nil v)))
 
 filled-more : (k : ℕ) (ns : List ℕ) (x : ℕ) → set (filled k ns) (length ns) x ≡ filled k (ns ++ x ∷ [])
 filled-more zero ns x = refl
@@ -198,11 +203,13 @@ within-some : (room : ℕ) (xs : List Item) (y : Items) → these xs ≡ within 
 within-some room xs (these ys) e = within-at room xs ys (leb (length (joined (itemValues ys))) room) e
 within-some room xs noItems e = sym e
 
-unwithin-at : (room : ℕ) (xs : List Item) (b : Bool) → leb (length (joined (itemValues xs))) room ≡ b → noItems ≡ cond b (these xs) noItems → room < length (joined (itemValues xs))
+unwithin-at : (room : ℕ) (xs : List Item) (b : Bool) → leb (length (joined (itemValues xs))) room ≡ b → noItems ≡ cond b (these xs) noItems
+    → room < length (joined (itemValues xs))
 unwithin-at room xs true t e = let z : _≡_ {A = ℕ} 0 1 = ap there e in absurd (omega arith)
 unwithin-at room xs false t e = leb-false _ _ t
 
-unwithin : (room : ℕ) (P : Items → Type 0) → P noItems → ((xs : List Item) → room < length (joined (itemValues xs)) → P (these xs)) → (y : Items) → noItems ≡ within room y → P y
+unwithin : (room : ℕ) (P : Items → Type 0) → P noItems → ((xs : List Item) → room < length (joined (itemValues xs)) → P (these xs)) → (y : Items)
+    → noItems ≡ within room y → P y
 unwithin room P p q (these xs) e = q xs (unwithin-at room xs (leb (length (joined (itemValues xs))) room) refl e)
 unwithin room P p q noItems e = p
 
@@ -211,10 +218,12 @@ module _ (room : ℕ) (o : List ℕ) (g : Elements → ℕ → List ℕ → Line
   items-long xs h = rw (length-append o (joined (itemValues xs)), lt-leb _ _ h)
 
   -- behind items that have room, one that has none
-  items-full : (xs ys : List Item) (z : Items) → room < length o + length (joined (itemValues xs)) + length (joined (itemValues ys)) → badLine ≡ itemsThen room o (bothItems (these xs) (bothItems (these ys) z)) g
+  items-full : (xs ys : List Item) (z : Items) → room < length o + length (joined (itemValues xs)) + length (joined (itemValues ys))
+      → badLine ≡ itemsThen room o (bothItems (these xs) (bothItems (these ys) z)) g
   items-full xs ys noItems h = refl
   items-full xs ys (these zs) h =
-      let a : length (joined (itemValues (xs ++ (ys ++ zs)))) ≡ length (joined (itemValues xs)) + (length (joined (itemValues ys)) + length (joined (itemValues zs))) =
+      let a : length (joined (itemValues (xs ++ (ys ++ zs)))) ≡ length (joined (itemValues xs)) + (length (joined (itemValues ys)) + length
+      (joined (itemValues zs))) =
       rw (values-append xs (ys ++ zs), values-append ys zs) (simp length-append) in
       items-long (xs ++ (ys ++ zs)) (omega arith)
 
@@ -234,16 +243,19 @@ module _ (s d₀ d : List ℕ) (from start at n : ℕ) (e : Elements) (r : Read 
   so-far : n ≡ length (take start d₀) + length (joined (itemValues (r .items)))
   so-far = sym (length-take-le n d (r .inside)) ∙ ap length (r .octets) ∙ length-append (take start d₀) (joined (itemValues (r .items)))
 
-  module _ (more : at ≤ length s) (f : List ℕ) (f-is : f ≡ first (fieldsFrom s at)) (mid : List ℕ) (x : ItemText) (x-is : ItemRead f (behindIt d n) x mid) where
+  module _ (more : at ≤ length s) (f : List ℕ) (f-is : f ≡ first (fieldsFrom s at)) (mid : List ℕ) (x : ItemText)
+      (x-is : ItemRead f (behindIt d n) x mid) where
     next : itemsIn (fieldsFrom s from) ≡ bothItems (these (r .items)) (bothItems (itemOf f) (itemsIn (others (fieldsFrom s at))))
     unfolding itemsIn
     next = r .fields ∙ ap (λ (fs : List (List ℕ)). bothItems (these (r .items)) (itemsIn fs)) (field-there s at more) ∙ rw (← f-is)
 
-    pub items-bad : x .ok ≡ false → (c : Command) (d' : List ℕ) → c ≡ badLine .command → (g : Elements → ℕ → List ℕ → Line) → lineAs c d' ≡ itemsThen (length d₀) (take start d₀) (itemsIn (fieldsFrom s from)) g
+    pub items-bad : x .ok ≡ false → (c : Command) (d' : List ℕ) → c ≡ badLine .command → (g : Elements → ℕ → List ℕ → Line)
+        → lineAs c d' ≡ itemsThen (length d₀) (take start d₀) (itemsIn (fieldsFrom s from)) g
     items-bad h c d' c-is g =
         let z = itemsIn (others (fieldsFrom s at)) in
         bad-line c d' c-is
-        ∙ unwithin (length (behindIt d n)) (λ (y : Items). badLine ≡ itemsThen (length d₀) (take start d₀) (bothItems (these (r .items)) (bothItems y z)) g) refl
+        ∙ unwithin (length (behindIt d n))
+        (λ (y : Items). badLine ≡ itemsThen (length d₀) (take start d₀) (bothItems (these (r .items)) (bothItems y z)) g) refl
         (λ ys u.
         let a = r .inside in
         let b = r .room in
@@ -288,19 +300,25 @@ module _ (s d₀ d : List ℕ) (from start at n : ℕ) (e : Elements) (r : Read 
             few = let c = r .few in rw e'-is (omega arith);
           }
 
-  pub items-end : length s < at → (verb : ℕ) (acceptor : Bool) (marks k : ℕ) (i : List ℕ) (test : Bool) → lineAs (line verb acceptor marks k i test e n [] .command) d ≡ itemsThen (length d₀) (take start d₀) (itemsIn (fieldsFrom s from)) (line verb acceptor marks k i test)
+  pub items-end : length s < at → (verb : ℕ) (acceptor : Bool) (marks k : ℕ) (i : List ℕ) (test : Bool)
+      → lineAs (line verb acceptor marks k i test e n [] .command) d
+      ≡ itemsThen (length d₀) (take start d₀) (itemsIn (fieldsFrom s from)) (line verb acceptor marks k i test)
   unfolding itemsIn
   items-end h verb acceptor marks k i test =
       let a = r .inside in
       let b = r .room in
       let all : itemsIn (fieldsFrom s from) ≡ these (r .items) = r .fields ∙ rw (past-none s at h) (ap these (append-nil (r .items))) in
-      sym (rw (all, ← r .octets, ← r .elements) (ap (λ (x : Front). frontThen x (line verb acceptor marks k i test e)) (sym (fits (length d₀) n (of (take n d)) (take n d) refl (length-take-le n d a) (omega arith)))))
+      sym (rw (all, ← r .octets, ← r .elements)
+      (ap (λ (x : Front). frontThen x (line verb acceptor marks k i test e))
+      (sym (fits (length d₀) n (of (take n d)) (take n d) refl (length-take-le n d a) (omega arith)))))
 
 pub ruleset item-lists = (read-start, items-bad, items-more, items-end)
 
 -- RANDOM, and what is behind it
-module _ (fs : List (List ℕ)) (f : List ℕ) (f-is : f ≡ first fs) (d : List ℕ) (r : Decoded) (d' : List ℕ) (reads : Decodes f d (randomOf f) r d') where
-  pub random-bad : r ≡ decoded.Bad → (c : Command) → c ≡ badLine .command → (g : Bool → Elements → ℕ → List ℕ → Line) → lineAs c d' ≡ extended fs (length d) g
+module _ (fs : List (List ℕ)) (f : List ℕ) (f-is : f ≡ first fs) (d : List ℕ) (r : Decoded) (d' : List ℕ)
+    (reads : Decodes f d (randomOf f) r d') where
+  pub random-bad : r ≡ decoded.Bad → (c : Command) → c ≡ badLine .command → (g : Bool → Elements → ℕ → List ℕ → Line)
+      → lineAs c d' ≡ extended fs (length d) g
   unfolding extended
   random-bad h c c-is g =
       let t = testIn (others fs) in
@@ -317,7 +335,8 @@ module _ (fs : List (List ℕ)) (f : List ℕ) (f-is : f ≡ first fs) (d : List
     pub random-inside : length d' ≡ length d → n ≤ length d'
     random-inside h = let a = random-is .inside in omega arith
 
-    pub random-good : length d' ≡ length d → (gs hs : List (List ℕ)) → gs ≡ others fs → (t : Bool) → t ≡ testIn gs → hs ≡ past t gs → (g : Bool → Elements → ℕ → List ℕ → Line)
+    pub random-good : length d' ≡ length d → (gs hs : List (List ℕ)) → gs ≡ others fs → (t : Bool) → t ≡ testIn gs → hs ≡ past t gs
+        → (g : Bool → Elements → ℕ → List ℕ → Line)
         → (x : Line) → x ≡ itemsThen (length d') (take n d') (itemsIn hs) (g t) → x ≡ extended fs (length d) g
     unfolding extended
     random-good h gs hs gs-is t t-is hs-is g x e = e ∙ rw (h, hs-is, t-is, gs-is) (sym (rw (← f-is, random-is .octets)))

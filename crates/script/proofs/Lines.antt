@@ -84,7 +84,8 @@ module _ (s : List ℕ) (from room kind : ℕ) where
     unfolding restIn
     rest-none h = rw (ne-eqb _ _ no-ids, ne-eqb _ _ no-octets, past-none s from h) (fits room 0 (of []) [] refl refl (omega arith))
 
-module _ (s : List ℕ) (from kind : ℕ) (no-ids : kind ≡ 8 → ⊥) (f : List ℕ) (f-is : f ≡ only (fieldsFrom s from)) (d : List ℕ) (r : Decoded) (d' : List ℕ) where
+module _ (s : List ℕ) (from kind : ℕ) (no-ids : kind ≡ 8 → ⊥) (f : List ℕ) (f-is : f ≡ only (fieldsFrom s from)) (d : List ℕ) (r : Decoded)
+    (d' : List ℕ) where
   pub rest-octets : kind ≡ 7 → Decodes f d (octetsOf f) r d' → decodedAs r d' ≡ fit (length d) (restIn kind (fieldsFrom s from))
   unfolding restIn
   rest-octets h e = rw (ne-eqb _ _ no-ids, eq-eqb _ _ h, ← f-is) (e .says)
@@ -101,7 +102,8 @@ of-form f verb = List·getD-map f forms verb (form 0 0 0)
 pub bad-line : (c : Command) (d : List ℕ) → c ≡ badLine .command → lineAs c d ≡ badLine
 bad-line c d e = rw e
 
-module _ (verb : ℕ) (acceptor : Bool) (marks n : ℕ) (i : List ℕ) (fs : List (List ℕ)) (room kind : ℕ) (kind-is : kind ≡ getD (column (λ f. f .rest)) verb 0) where
+module _ (verb : ℕ) (acceptor : Bool) (marks n : ℕ) (i : List ℕ) (fs : List (List ℕ)) (room kind : ℕ)
+    (kind-is : kind ≡ getD (column (λ f. f .rest)) verb 0) where
   abbrev byKind : ℕ → Line
   byKind k =
       cond (eqb k 6) (extended fs room (line verb acceptor marks n i))
@@ -116,7 +118,8 @@ module _ (verb : ℕ) (acceptor : Bool) (marks n : ℕ) (i : List ℕ) (fs : Lis
   rested-extensions h x e = e ∙ sym (rested-is ∙ rw (eq-eqb _ _ h))
 
   module _ (no-random : kind ≡ 6 → ⊥) where
-    pub rested-alerts : kind ≡ 9 → (x : Line) → x ≡ itemsThen room [] (itemsIn fs) (line verb acceptor marks n i false) → x ≡ rested verb acceptor marks n i fs room
+    pub rested-alerts : kind ≡ 9 → (x : Line) → x ≡ itemsThen room [] (itemsIn fs) (line verb acceptor marks n i false)
+        → x ≡ rested verb acceptor marks n i fs room
     rested-alerts h x e = e ∙ sym (rested-is ∙ rw (ne-eqb _ _ no-random, eq-eqb _ _ h))
 
     module _ (no-alerts : kind ≡ 9 → ⊥) (r : Decoded) (d : List ℕ) (says : decodedAs r d ≡ fit room (restIn kind fs)) where
@@ -126,10 +129,12 @@ module _ (verb : ℕ) (acceptor : Bool) (marks n : ℕ) (i : List ℕ) (fs : Lis
       pub rested-bad : r ≡ decoded.Bad → (c : Command) → c ≡ badLine .command → lineAs c d ≡ rested verb acceptor marks n i fs room
       rested-bad h c e = bad-line c d e ∙ sym (rested-octets ∙ rw h)
 
-      pub rested-good : (k : ℕ) → r ≡ decoded.Octets k → (e : Elements) → e ≡ noElements → lineAs (line verb acceptor marks n i false e k [] .command) d ≡ rested verb acceptor marks n i fs room
+      pub rested-good : (k : ℕ) → r ≡ decoded.Octets k → (e : Elements) → e ≡ noElements
+          → lineAs (line verb acceptor marks n i false e k [] .command) d ≡ rested verb acceptor marks n i fs room
       rested-good k h e e-is = rw e-is (sym (rested-octets ∙ rw h))
 
-module _ (verb : ℕ) (acceptor : Bool) (marks n : ℕ) (fs : List (List ℕ)) (room kind : ℕ) (kind-is : kind ≡ getD (column (λ f. f .id)) verb 0) (b : Bool) (b-is : b ≡ hasId kind acceptor) (r : IdText) (says : idAs r ≡ idIn b fs) where
+module _ (verb : ℕ) (acceptor : Bool) (marks n : ℕ) (fs : List (List ℕ)) (room kind : ℕ) (kind-is : kind ≡ getD (column (λ f. f .id)) verb 0)
+    (b : Bool) (b-is : b ≡ hasId kind acceptor) (r : IdText) (says : idAs r ≡ idIn b fs) where
   named-is : named verb acceptor marks n fs room ≡ octetsThen (idAs r) (λ i. rested verb acceptor marks n i (past b fs) room)
   unfolding named
   named-is = simp (sym (of-form (λ f. f .id) verb), sym kind-is, sym b-is, sym says)
@@ -137,10 +142,12 @@ module _ (verb : ℕ) (acceptor : Bool) (marks n : ℕ) (fs : List (List ℕ)) (
   pub named-bad : r .ok ≡ false → (c : Command) (d : List ℕ) → c ≡ badLine .command → lineAs c d ≡ named verb acceptor marks n fs room
   named-bad h c d e = bad-line c d e ∙ sym (named-is ∙ rw h)
 
-  pub named-good : r .ok ≡ true → (gs : List (List ℕ)) → gs ≡ past b fs → (x : Line) → x ≡ rested verb acceptor marks n (r .octets) gs room → x ≡ named verb acceptor marks n fs room
+  pub named-good : r .ok ≡ true → (gs : List (List ℕ)) → gs ≡ past b fs → (x : Line) → x ≡ rested verb acceptor marks n (r .octets) gs room
+      → x ≡ named verb acceptor marks n fs room
   named-good h gs e x x-is = x-is ∙ rw e (sym (named-is ∙ rw h))
 
-module _ (verb : ℕ) (acceptor : Bool) (marks : ℕ) (fs : List (List ℕ)) (room kind : ℕ) (kind-is : kind ≡ getD (column (λ f. f .number)) verb 0) (r : Number) (says : numberOf r ≡ numberIn kind fs) where
+module _ (verb : ℕ) (acceptor : Bool) (marks : ℕ) (fs : List (List ℕ)) (room kind : ℕ) (kind-is : kind ≡ getD (column (λ f. f .number)) verb 0)
+    (r : Number) (says : numberOf r ≡ numberIn kind fs) where
   numbered-is : numbered verb acceptor marks fs room ≡ numberThen (numberOf r) (λ n. named verb acceptor marks n (past (not (eqb kind 0)) fs) room)
   unfolding numbered
   numbered-is = simp (sym (of-form (λ f. f .number) verb), sym kind-is, sym says)
@@ -148,7 +155,8 @@ module _ (verb : ℕ) (acceptor : Bool) (marks : ℕ) (fs : List (List ℕ)) (ro
   pub numbered-bad : r ≡ number.Bad → (c : Command) (d : List ℕ) → c ≡ badLine .command → lineAs c d ≡ numbered verb acceptor marks fs room
   numbered-bad h c d e = bad-line c d e ∙ sym (numbered-is ∙ rw h)
 
-  pub numbered-good : (n : ℕ) → r ≡ number.Is n → (gs : List (List ℕ)) → gs ≡ past (not (eqb kind 0)) fs → (x : Line) → x ≡ named verb acceptor marks n gs room → x ≡ numbered verb acceptor marks fs room
+  pub numbered-good : (n : ℕ) → r ≡ number.Is n → (gs : List (List ℕ)) → gs ≡ past (not (eqb kind 0)) fs → (x : Line)
+      → x ≡ named verb acceptor marks n gs room → x ≡ numbered verb acceptor marks fs room
   numbered-good n h gs e x x-is = x-is ∙ rw e (sym (numbered-is ∙ rw h))
 
 module _ (verb end marks : ℕ) (fs : List (List ℕ)) (room : ℕ) where
@@ -181,14 +189,16 @@ module _ (s : List ℕ) (from v p : ℕ) (v-is : v ≡ p) where
 
 -- `choose`, from MARKS on
 module _ (end : ℕ) (fs : List (List ℕ)) (room : ℕ) (r : Number) (says : numberOf r ≡ numberIn 2 fs) where
-  chosen-is : chosen end fs room ≡ numberThen (numberOf r) (λ m. called (speechVerb (placeOf (first (others fs)) speeches)) end m (others (others fs)) room)
+  chosen-is : chosen end fs room ≡ numberThen (numberOf r)
+      (λ m. called (speechVerb (placeOf (first (others fs)) speeches)) end m (others (others fs)) room)
   unfolding chosen
   chosen-is = rw (← says)
 
   pub chosen-bad : r ≡ number.Bad → (c : Command) (d : List ℕ) → c ≡ badLine .command → lineAs c d ≡ chosen end fs room
   chosen-bad h c d e = bad-line c d e ∙ sym (chosen-is ∙ rw h)
 
-  pub chosen-good : (m : ℕ) → r ≡ number.Is m → (gs hs : List (List ℕ)) → gs ≡ others fs → hs ≡ others gs → (w : List ℕ) → w ≡ first gs → (verb : ℕ) → verb ≡ speechVerb (placeOf w speeches)
+  pub chosen-good : (m : ℕ) → r ≡ number.Is m → (gs hs : List (List ℕ)) → gs ≡ others fs → hs ≡ others gs → (w : List ℕ) → w ≡ first gs → (verb : ℕ)
+      → verb ≡ speechVerb (placeOf w speeches)
       → (x : Line) → x ≡ called verb end m hs room → x ≡ chosen end fs room
   chosen-good m h gs hs g-is h-is w w-is verb v-is x x-is = x-is ∙ rw (v-is, w-is, h-is, g-is) (sym (chosen-is ∙ rw h))
 
@@ -238,8 +248,11 @@ unfolding fieldsLine
 line-is w [] room = sym (rw (no-end 10 [] room, no-verb (placeOf w ends) room) (either-bad (sameOctets w (quoted "open"))))
 line-is w (x ∷ fs) room = refl
 
-module _ (s : List ℕ) (at from : ℕ) (at-is : fieldsFrom s at ≡ others (fieldsFrom s 0)) (from-is : fieldsFrom s from ≡ others (fieldsFrom s at)) (w x : List ℕ) (w-is : w ≡ first (fieldsFrom s 0)) (x-is : x ≡ first (fieldsFrom s at)) (b : Bool) (b-is : b ≡ sameOctets w (quoted "open")) (room : ℕ) (l : Line) where
-  command-is : commandOf s room ≡ cond b (called 10 (placeOf x ends) 0 (fieldsFrom s from) room) (byVerb (verbOf (placeOf x verbs) (fieldsFrom s from)) (placeOf w ends) (fieldsFrom s from) room)
+module _ (s : List ℕ) (at from : ℕ) (at-is : fieldsFrom s at ≡ others (fieldsFrom s 0)) (from-is : fieldsFrom s from ≡ others (fieldsFrom s at))
+    (w x : List ℕ) (w-is : w ≡ first (fieldsFrom s 0)) (x-is : x ≡ first (fieldsFrom s at)) (b : Bool) (b-is : b ≡ sameOctets w (quoted "open"))
+    (room : ℕ) (l : Line) where
+  command-is : commandOf s room ≡ cond b (called 10 (placeOf x ends) 0 (fieldsFrom s from) room)
+      (byVerb (verbOf (placeOf x verbs) (fieldsFrom s from)) (placeOf w ends) (fieldsFrom s from) room)
   unfolding commandOf
   command-is =
       ap (λ (fs : List (List ℕ)). fieldsLine fs room) (sym (from-start s) ∙ field-there s 0 (omega arith))

@@ -81,7 +81,8 @@ module _ (s : List ℕ) (from : ℕ) where
     fields-at : fieldsFrom s from ≡ part s from (endOf s from) ∷ fieldsFrom s (endOf s from + 1)
     fields-at = opened ∙ split (drop from s) ∙ sym (rw (front, back))
 
-  at-place : (P : List (List ℕ) → Type 0) → (length s < from → P []) → (from ≤ length s → P (part s from (endOf s from) ∷ fieldsFrom s (endOf s from + 1))) → P (fieldsFrom s from)
+  at-place : (P : List (List ℕ) → Type 0) → (length s < from → P [])
+      → (from ≤ length s → P (part s from (endOf s from) ∷ fieldsFrom s (endOf s from + 1))) → P (fieldsFrom s from)
   at-place P f g =
       ⊎-elim
       (λ e. let h : length s < from = ltb-true _ _ e in subst P (sym (past-none h)) (f h))

@@ -10,7 +10,8 @@
 --   NONE              no field behind a verb; ROOM, MARKS, CODE, ID, CONVERSATION, OCTETS and IDS: the fields that there are; TYPE is read as CODE;
 --                     EXTENSIONS: RANDOM and the EXT behind it; ALERTS: the ALERT ..
 --   Form, forms       which fields a call has, by its verb: its number, its id and the rest of its line; form builds one, formOf is that of a verb
---   ends, verbs       the words; speeches: those behind `choose MARKS`; placeOf w ws: the place of the word w among ws, from 1, or 0 where it is none of them; placeFrom: from another number
+--   ends, verbs       the words; speeches: those behind `choose MARKS`; placeOf w ws: the place of the word w among ws, from 1, or 0 where it is none of them;
+--                     placeFrom: from another number
 --                     on
 --   verbOf v fs       the verb of a word, where the fields fs stand behind it; speechVerb: that of a place among speeches
 --   idsOf fs          the ids of the fields fs, one behind the other; both joins octets, where none of them is bad
@@ -282,7 +283,8 @@ lineAs c d = record { command = c; octets = take (c .length) d }
 abbrev pub line : ℕ → Bool → ℕ → ℕ → List ℕ → Bool → Elements → ℕ → List ℕ → Line
 line verb acceptor marks number id test elements length octets =
     record {
-      command = record { verb = verb; acceptor = acceptor; marks = marks; number = number; id = id; test = test; elements = elements; length = length };
+      command =
+          record { verb = verb; acceptor = acceptor; marks = marks; number = number; id = id; test = test; elements = elements; length = length };
       octets = octets;
     }
 

@@ -165,7 +165,8 @@ fn bad() -> Command
 // A command with extensions or alerts, whose values are put one behind the other, from `start` on.
 fn with_items(c: Command, line: &[u8], from: usize, start: usize, lent: &mut [u8]) -> Command
     requires { ⌜ start ≤ length (now lent) ⌝ }
-    ensures { λ r. ⌜ lineAs r (now (lent .exit)) ≡ itemsThen (length (now (lent .entry))) (take start (now (lent .entry))) (itemsIn (fieldsFrom (now (line .entry)) from)) (Grammar·line (c .verb) (c .acceptor) (c .marks) (c .number) (c .id) (c .test)) ⌝ }
+    ensures { λ r. ⌜ lineAs r (now (lent .exit)) ≡ itemsThen (length (now (lent .entry))) (take start (now (lent .entry)))
+        (itemsIn (fieldsFrom (now (line .entry)) from)) (Grammar·line (c .verb) (c .acceptor) (c .marks) (c .number) (c .id) (c .test)) ⌝ }
 {
     let mut elements = Elements::none();
     let mut at = from;
@@ -187,7 +188,8 @@ fn with_items(c: Command, line: &[u8], from: usize, start: usize, lent: &mut [u8
 
 // A command with RANDOM and extensions.
 fn with_random(c: Command, line: &[u8], from: usize, lent: &mut [u8]) -> Command
-    ensures { λ r. ⌜ lineAs r (now (lent .exit)) ≡ extended (fieldsFrom (now (line .entry)) from) (length (now (lent .entry))) (Grammar·line (c .verb) (c .acceptor) (c .marks) (c .number) (c .id)) ⌝ }
+    ensures { λ r. ⌜ lineAs r (now (lent .exit)) ≡ extended (fieldsFrom (now (line .entry)) from) (length (now (lent .entry)))
+        (Grammar·line (c .verb) (c .acceptor) (c .marks) (c .number) (c .id)) ⌝ }
 {
     let value = random(field_at(line, from), lent);
     let Decoded::Octets(n) = value else {
@@ -202,7 +204,8 @@ fn with_random(c: Command, line: &[u8], from: usize, lent: &mut [u8]) -> Command
 
 // A command with the rest of its line.
 fn with_rest(c: Command, line: &[u8], from: usize, lent: &mut [u8]) -> Command
-    ensures { λ r. ⌜ lineAs r (now (lent .exit)) ≡ rested (c .verb) (c .acceptor) (c .marks) (c .number) (c .id) (fieldsFrom (now (line .entry)) from) (length (now (lent .entry))) ⌝ }
+    ensures { λ r. ⌜ lineAs r (now (lent .exit)) ≡ rested (c .verb) (c .acceptor) (c .marks) (c .number) (c .id) (fieldsFrom (now (line .entry)) from)
+        (length (now (lent .entry))) ⌝ }
 {
     let kind = octet(&RESTS, c.verb);
     if kind == EXTENSIONS {
@@ -238,7 +241,8 @@ fn has_id(kind: u8, acceptor: bool) -> bool
 
 // A command with its id, and what is behind it.
 fn with_id(c: Command, line: &[u8], from: usize, lent: &mut [u8]) -> Command
-    ensures { λ r. ⌜ lineAs r (now (lent .exit)) ≡ named (c .verb) (c .acceptor) (c .marks) (c .number) (fieldsFrom (now (line .entry)) from) (length (now (lent .entry))) ⌝ }
+    ensures { λ r. ⌜ lineAs r (now (lent .exit)) ≡ named (c .verb) (c .acceptor) (c .marks) (c .number) (fieldsFrom (now (line .entry)) from)
+        (length (now (lent .entry))) ⌝ }
 {
     let some = has_id(octet(&NAMES, c.verb), c.acceptor);
     let id = id_in(line, from, some);

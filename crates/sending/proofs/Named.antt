@@ -38,14 +38,19 @@ module _ (r : Record) (kind : ℕ) (fit : Bool) (size len n : ℕ) (n-is : n ≡
 pub ruleset named-refusals = (write-stage, named-unfit, named-scheme, named-crowded, named-fits)
 
 -- ---- the call, by its refusal, for any contents of a scheme
-pub named-inside : (r : Record) (kind : ℕ) (fit : Bool) (size len n : ℕ) → n ≡ writeRefusal r kind (namedRows r fit) size len → n ≡ 0 → (r .count ≤ 16) × (schemeNow r < r .count)
-named-inside r kind fit size len n n-is z =
-    (passed-inside r kind (namedRows r fit) size len n n-is z refl .few, now-below r (passed-own r kind (namedRows r fit) size len n n-is z refl .1 .0))
+pub named-inside : (r : Record) (kind : ℕ) (fit : Bool) (size len n : ℕ) → n ≡ writeRefusal r kind (namedRows r fit) size len → n ≡ 0
+    → (r .count ≤ 16) × (schemeNow r < r .count)
+named-inside r kind fit size len n n-is z = (
+  passed-inside r kind (namedRows r fit) size len n n-is z refl .few,
+  now-below r
+      (passed-own r kind (namedRows r fit) size len n n-is z refl .1 .0),
+)
 
 pub named-keeps : (r : Record) (kind : ℕ) (fit : Bool) (size len n : ℕ) → n ≡ writeRefusal r kind (namedRows r fit) size len → n ≡ 0 → fit ≡ true
 named-keeps r kind fit size len n n-is z = passed-own r kind (namedRows r fit) size len n n-is z refl .0
 
-module _ (r : Record) (arrays : Arrays r) (d : List ℕ) (kind : ℕ) (fit : Bool) (of : List ℕ → Contents) (whole-of : (s : List ℕ) → length s ≡ 16 → Whole (of s)) (size : ℕ) (sized : fit ≡ true → sizeOf (of (schemeAt r (schemeNow r))) ≡ size) (n : ℕ)
+module _ (r : Record) (arrays : Arrays r) (d : List ℕ) (kind : ℕ) (fit : Bool) (of : List ℕ → Contents)
+    (whole-of : (s : List ℕ) → length s ≡ 16 → Whole (of s)) (size : ℕ) (sized : fit ≡ true → sizeOf (of (schemeAt r (schemeNow r))) ≡ size) (n : ℕ)
     (n-is : n ≡ writeRefusal r kind (namedRows r fit) size (length d)) where
   abbrev contents : Contents
   contents = of (schemeAt r (schemeNow r))
@@ -53,9 +58,14 @@ module _ (r : Record) (arrays : Arrays r) (d : List ℕ) (kind : ℕ) (fit : Boo
   whole : Inside r → AllTrue (namedRows r fit) → Whole contents × (sizeOf contents ≡ size)
   whole i t = (whole-of _ (own-id r arrays (i .few) (schemeNow r) (now-below r (t .1 .0))), sized (t .0))
 
-  pub named-refused : (n ≡ 0 → ⊥) → (a : Answer) → a ≡ answered n 0 r → (action : Outcome) → _≡_ {A = Outcome} (record { answer = a; transcript = d }) (called r d kind (namedRows r fit) contents action)
+  pub named-refused : (n ≡ 0 → ⊥) → (a : Answer) → a ≡ answered n 0 r → (action : Outcome)
+      → _≡_ {A = Outcome} (record { answer = a; transcript = d }) (called r d kind (namedRows r fit) contents action)
   named-refused = write-refused r arrays d kind (namedRows r fit) contents size whole n n-is
 
-  pub named-written : n ≡ 0 → (w : Record → WrittenAs) (s : List ℕ) → s ≡ schemeAt r (schemeNow r) → (v : Contents) → v ≡ of s → (d' : List ℕ) (next : Record) → Appended r d kind v d' next → (a : Answer) → a ≡ answered 0 0 (changed next (w next))
-      → _≡_ {A = Outcome} (record { answer = a; transcript = d' }) (called r d kind (namedRows r fit) contents (appended r d (placeAfter r kind) (messageOf r kind contents) (w (wrote r (placeAfter r kind) (length (messageOf r kind contents)) (unchanged r)))))
+  pub named-written : n ≡ 0 → (w : Record → WrittenAs) (s : List ℕ) → s ≡ schemeAt r (schemeNow r) → (v : Contents) → v ≡ of s
+      → (d' : List ℕ) (next : Record) → Appended r d kind v d' next → (a : Answer) → a ≡ answered 0 0 (changed next (w next))
+      → _≡_ {A = Outcome} (record { answer = a; transcript = d' })
+      (called r d kind (namedRows r fit) contents
+      (appended r d (placeAfter r kind) (messageOf r kind contents)
+      (w (wrote r (placeAfter r kind) (length (messageOf r kind contents)) (unchanged r)))))
   named-written z w s s-is v v-is = write-written r arrays d kind (namedRows r fit) contents size whole n n-is z refl w v (v-is ∙ ap of s-is)

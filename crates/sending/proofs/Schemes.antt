@@ -65,7 +65,8 @@ place-of (x ∷ l) (suc k) d h = go (sameOctets (getD l k []) x) refl (place-of 
   there i = mem-place (getD l k []) l ∙ rw i (lt-ltb k (length l) (omega arith))
 
   go : (b : Bool) → sameOctets (getD l k []) x ≡ b → place l (getD l k []) ≡ k → cond b 0 (suc (place l (getD l k []))) ≡ suc k
-  go true e i = no-true (sym (not-true (mem x l) (and-l (not (mem x l)) (distinct l) d)) ∙ ap (λ (y : Id). mem y l) (sym (same-eq (getD l k []) x e)) ∙ there i)
+  go true e i =
+      no-true (sym (not-true (mem x l) (and-l (not (mem x l)) (distinct l) d)) ∙ ap (λ (y : Id). mem y l) (sym (same-eq (getD l k []) x e)) ∙ there i)
   go false e i = ap suc i
 
 -- ---- the AP_REQUEST's scheme and the reply's first
@@ -77,7 +78,8 @@ module _ (r : Record) (b : Inside r) (z : Left) (z-is : z ≡ leftOf (leftPlaces
   pub first-empty : z .left ≡ 0 → false ≡ firstOfReply r
   first-empty e = go (ltb (r .requested) (r .count)) where
     go : (b : Bool) → false ≡ (b && startsWith (replied r) (schemeAt r (r .requested)))
-    go true = sym (starts-none (replied r) (schemeAt r (r .requested)) (own-none (r .list) (r .count) z (b .few) (r .common) (r .marks) (b .bound) z-is e))
+    go true =
+        sym (starts-none (replied r) (schemeAt r (r .requested)) (own-none (r .list) (r .count) z (b .few) (r .common) (r .marks) (b .bound) z-is e))
     go false = refl
 
   module _ (some : z .left ≡ 0 → ⊥) where
@@ -96,16 +98,22 @@ module _ (r : Record) (b : Inside r) (z : Left) (z-is : z ≡ leftOf (leftPlaces
     place-at k h = place-of (ownOf r) k (b .different) (rw length-ids h)
 
     pub first-same : eqb (z .place) (r .requested) ≡ firstOfReply r
-    first-same = rw starts (go (which (eqb (z .place) (r .requested))) (which (ltb (r .requested) (r .count))) (which (sameOctets (schemeAt r (r .requested)) (schemeAt r (z .place))))) where
-      go : (eqb (z .place) (r .requested) ≡ true) ⊎ (eqb (z .place) (r .requested) ≡ false) → (ltb (r .requested) (r .count) ≡ true) ⊎ (ltb (r .requested) (r .count) ≡ false)
-          → (sameOctets (schemeAt r (r .requested)) (schemeAt r (z .place)) ≡ true) ⊎ (sameOctets (schemeAt r (r .requested)) (schemeAt r (z .place)) ≡ false)
-          → eqb (z .place) (r .requested) ≡ (ltb (r .requested) (r .count) && sameOctets (schemeAt r (r .requested)) (schemeAt r (z .place)))
-      go (inl e) l s =
-          let p : z .place ≡ r .requested = eqb-true _ _ e in
-          e ∙ sym (rw (← p, lt-ltb _ _ inside) (same-refl (schemeAt r (z .place))))
-      go (inr e) (inr l) s = rw (e, l)
-      go (inr e) (inl l) (inr s) = rw (e, l, s)
-      go (inr e) (inl l) (inl s) =
-          absurd (eqb-false _ _ e (sym (place-at (z .place) inside) ∙ ap (place (ownOf r)) (sym (same-eq _ _ s)) ∙ place-at (r .requested) (ltb-true _ _ l)))
+    first-same =
+        rw starts
+        (go (which (eqb (z .place) (r .requested))) (which (ltb (r .requested) (r .count)))
+        (which (sameOctets (schemeAt r (r .requested)) (schemeAt r (z .place))))) where
+          go : (eqb (z .place) (r .requested) ≡ true) ⊎ (eqb (z .place) (r .requested) ≡ false)
+              → (ltb (r .requested) (r .count) ≡ true) ⊎ (ltb (r .requested) (r .count) ≡ false)
+              → (sameOctets (schemeAt r (r .requested)) (schemeAt r (z .place)) ≡ true)
+              ⊎ (sameOctets (schemeAt r (r .requested)) (schemeAt r (z .place)) ≡ false)
+              → eqb (z .place) (r .requested) ≡ (ltb (r .requested) (r .count) && sameOctets (schemeAt r (r .requested)) (schemeAt r (z .place)))
+          go (inl e) l s =
+              let p : z .place ≡ r .requested = eqb-true _ _ e in
+              e ∙ sym (rw (← p, lt-ltb _ _ inside) (same-refl (schemeAt r (z .place))))
+          go (inr e) (inr l) s = rw (e, l)
+          go (inr e) (inl l) (inr s) = rw (e, l, s)
+          go (inr e) (inl l) (inl s) =
+              absurd (eqb-false _ _ e
+              (sym (place-at (z .place) inside) ∙ ap (place (ownOf r)) (sym (same-eq _ _ s)) ∙ place-at (r .requested) (ltb-true _ _ l)))
 
 pub ruleset firsts = (first-empty, first-same)

@@ -39,7 +39,8 @@ fn append_alert(
     values: &[u8],
 ) -> Record
     requires { ⌜ (elementsFit alerts (now values) ≡ true) × Ready r (now transcript) ALERT (alertOf id code (itemsOf alerts (now values))) ⌝ }
-    ensures { λ a. ⌜ Appended r (now (transcript .entry)) ALERT (alertOf id code (itemsOf alerts (now (values .entry)))) (now (transcript .exit)) a ⌝ }
+    ensures { λ a. ⌜ Appended r (now (transcript .entry)) ALERT (alertOf id code (itemsOf alerts (now (values .entry))))
+        (now (transcript .exit)) a ⌝ }
 {
     let heading = heading_of(r, Class::ALERT);
     let size = size_of(alerts, values);
@@ -55,7 +56,8 @@ pub fn write_alert(
     alerts: Elements,
     values: &[u8],
 ) -> Answer
-    ensures { λ a. ⌜ leaving a (now (transcript .exit)) ≡ speaking r (now (transcript .entry)) (alarm (alertContent code alerts (now (values .entry)))) ⌝ }
+    ensures { λ a. ⌜ leaving a (now (transcript .exit)) ≡ speaking r (now (transcript .entry))
+        (alarm (alertContent code alerts (now (values .entry)))) ⌝ }
 {
     let fit = fits(alerts, values);
     let size = size_of(alerts, values);
@@ -77,7 +79,8 @@ pub fn choose_alert(
     alerts: Elements,
     values: &[u8],
 ) -> Answer
-    ensures { λ a. ⌜ leaving a (now (transcript .exit)) ≡ choosing r (now (transcript .entry)) marks (alarm (alertContent code alerts (now (values .entry)))) ⌝ }
+    ensures { λ a. ⌜ leaving a (now (transcript .exit)) ≡ choosing r (now (transcript .entry)) marks
+        (alarm (alertContent code alerts (now (values .entry)))) ⌝ }
 {
     let fit = fits(alerts, values);
     let n = choice_refusal(r, Class::ALERT, marks, fit);

@@ -28,11 +28,13 @@ module _ (r : Record) (t : ℕ) (t-is : t ≡ writing (r .acceptor) (r .stage)) 
 pub ruleset requesteds = (requested-first, requested-later)
 
 -- ---- the call, by its refusal
-module _ (r : Record) (arrays : Arrays r) (d value : List ℕ) (n : ℕ) (n-is : n ≡ writeRefusal r 3 (namedRows r true) (64 + length value) (length d)) where
+module _ (r : Record) (arrays : Arrays r) (d value : List ℕ) (n : ℕ)
+    (n-is : n ≡ writeRefusal r 3 (namedRows r true) (64 + length value) (length d)) where
   abbrev exchange : List ℕ → Contents
   exchange s = ofExchange (record { scheme = s; value = value })
 
-  pub exchange-refused : (n ≡ 0 → ⊥) → (a : Answer) → a ≡ answered n 0 r → _≡_ {A = Outcome} (record { answer = a; transcript = d }) (speaking r d (request value))
+  pub exchange-refused : (n ≡ 0 → ⊥) → (a : Answer) → a ≡ answered n 0 r
+      → _≡_ {A = Outcome} (record { answer = a; transcript = d }) (speaking r d (request value))
   unfolding speaking
   exchange-refused h a a-is = named-refused r arrays d 3 true exchange (λ s l. l) (64 + length value) (λ t. refl) n n-is h a a-is _
 
@@ -47,4 +49,6 @@ module _ (r : Record) (arrays : Arrays r) (d value : List ℕ) (n : ℕ) (n-is :
           → _≡_ {A = Outcome} (record { answer = a; transcript = d' }) (speaking r d (request value))
       unfolding speaking
       exchange-written k k-is d' next y a a-is =
-          named-written r arrays d 3 true exchange (λ s l. l) (64 + length value) (λ t. refl) n n-is z (λ q. record { marks = q .marks; metadata = q .metadata; requested = requestedBy r; attested = q .attested }) s s-is (exchange s) refl d' next y a (a-is ∙ rw k-is)
+          named-written r arrays d 3 true exchange (λ s l. l) (64 + length value) (λ t. refl) n n-is z
+          (λ q. record { marks = q .marks; metadata = q .metadata; requested = requestedBy r; attested = q .attested }) s s-is
+          (exchange s) refl d' next y a (a-is ∙ rw k-is)

@@ -109,14 +109,16 @@ module _ (r : Record) (id : Id) (v len n : ℕ) (n-is : n ≡ writeRefusal r 2 (
   unfolding withBit
   metadata-told p p-is = ap (withBit (r .metadata)) p-is ∙ rw (allowed-untold r id allowed)
 
-module _ (r : Record) (arrays : Arrays r) (d : List ℕ) (id : Id) (full : length id ≡ 16) (value : List ℕ) (n : ℕ) (n-is : n ≡ writeRefusal r 2 (metadataRows r id (length value)) (64 + length value) (length d)) where
+module _ (r : Record) (arrays : Arrays r) (d : List ℕ) (id : Id) (full : length id ≡ 16) (value : List ℕ) (n : ℕ)
+    (n-is : n ≡ writeRefusal r 2 (metadataRows r id (length value)) (64 + length value) (length d)) where
   abbrev contents : Contents
   contents = ofExchange (record { scheme = id; value = value })
 
   whole : Inside r → AllTrue (metadataRows r id (length value)) → Whole contents × (sizeOf contents ≡ 64 + length value)
   whole i t = (full, refl)
 
-  pub metadata-refused : (n ≡ 0 → ⊥) → (a : Answer) → a ≡ answered n 0 r → _≡_ {A = Outcome} (record { answer = a; transcript = d }) (writingMetadata r d id value)
+  pub metadata-refused : (n ≡ 0 → ⊥) → (a : Answer) → a ≡ answered n 0 r
+      → _≡_ {A = Outcome} (record { answer = a; transcript = d }) (writingMetadata r d id value)
   unfolding writingMetadata
   metadata-refused h a a-is = write-refused r arrays d 2 (metadataRows r id (length value)) contents (64 + length value) whole n n-is h a a-is _
 
@@ -125,11 +127,13 @@ module _ (r : Record) (arrays : Arrays r) (d : List ℕ) (id : Id) (full : lengt
     unfolding typeOf
     metadata-ready = write-ready r d 2 (metadataRows r id (length value)) (64 + length value) n n-is z refl contents refl tt refl refl
 
-    pub metadata-written : (p : ℕ) → p ≡ place (ownOf r) id → (t : ℕ) → t ≡ withBit (r .metadata) p → (d' : List ℕ) (next : Record) → Appended r d 2 contents d' next → (a : Answer)
+    pub metadata-written : (p : ℕ) → p ≡ place (ownOf r) id → (t : ℕ) → t ≡ withBit (r .metadata) p → (d' : List ℕ) (next : Record)
+        → Appended r d 2 contents d' next → (a : Answer)
         → a ≡ answered 0 0 (changed next (record { marks = next .marks; metadata = t; requested = next .requested; attested = next .attested }))
         → _≡_ {A = Outcome} (record { answer = a; transcript = d' }) (writingMetadata r d id value)
     unfolding writingMetadata
     metadata-written p p-is t t-is d' next y a a-is =
         let e : t ≡ r .metadata + 2 ^ place (ownOf r) id = t-is ∙ metadata-told r id (length value) (length d) n n-is z p p-is in
         write-written r arrays d 2 (metadataRows r id (length value)) contents (64 + length value) whole n n-is z refl
-        (λ q. record { marks = q .marks; metadata = r .metadata + 2 ^ place (ownOf r) id; requested = q .requested; attested = q .attested }) contents refl d' next y a (a-is ∙ rw e)
+        (λ q. record { marks = q .marks; metadata = r .metadata + 2 ^ place (ownOf r) id; requested = q .requested; attested = q .attested }) contents
+        refl d' next y a (a-is ∙ rw e)

@@ -33,7 +33,8 @@ pub(crate) fn append_payload(
     value: &[u8],
 ) -> Record
     requires { ⌜ Ready r (now transcript) class (ofExchange (record { scheme = id; value = now value })) ⌝ }
-    ensures { λ a. ⌜ Appended r (now (transcript .entry)) class (ofExchange (record { scheme = id; value = now (value .entry) })) (now (transcript .exit)) a ⌝ }
+    ensures { λ a. ⌜ Appended r (now (transcript .entry)) class (ofExchange (record { scheme = id; value = now (value .entry) }))
+        (now (transcript .exit)) a ⌝ }
 {
     let heading = heading_of(r, class);
     let n = value.len();

@@ -32,7 +32,8 @@ module _ (test : Bool) (e : Elements) (v : List ℕ) (f : Bool) (f-is : f ≡ el
 pub ruleset extensions = (extension-unfit, extension-critical, extension-ok)
 
 -- ---- the message at the transcript's end: k is how many octets the extensions are written as
-module _ (r : Record) (d random schemes : List ℕ) (e : Elements) (v : List ℕ) (y : NegoReady r d random schemes e v) (k : ℕ) (k-is : k ≡ handedSize e v) where
+module _ (r : Record) (d random schemes : List ℕ) (e : Elements) (v : List ℕ) (y : NegoReady r d random schemes e v) (k : ℕ)
+    (k-is : k ≡ handedSize e v) where
   pub nego-size : 96 + length schemes + k ≡ sizeOf (negoOf random schemes (itemsOf e v))
   nego-size = ap (λ (i : ℕ). 96 + length schemes + i) (k-is ∙ sym (handed-size e v (y .keeps)))
 

@@ -42,7 +42,8 @@ module _ (r : Record) (g : NegoContent) (len n : ℕ) (n-is : n ≡ stageRefusal
     pub offer-header-size : 96 + 16 * r .count < 18446744073709551616
     offer-header-size = omega (arith, stage-inside r 1 n n-is z .few)
 
-    behind : (x : ℕ) → x ≡ firstFailing (row 18 (not (r .acceptor)) ∷ (extensionRows g ++ (row 16 (roomFor (r .used) (offerSize r g) len) ∷ []))) → x ≡ refusal
+    behind : (x : ℕ) → x ≡ firstFailing (row 18 (not (r .acceptor)) ∷ (extensionRows g ++ (row 16 (roomFor (r .used) (offerSize r g) len) ∷ [])))
+        → x ≡ refusal
     behind = write-on r 1 (offerRows r g) (offerSize r g) len n n-is z
 
     pub offer-role : r .acceptor ≡ true → 18 ≡ refusal
@@ -50,9 +51,11 @@ module _ (r : Record) (g : NegoContent) (len n : ℕ) (n-is : n ≡ stageRefusal
 
     module _ (i : r .acceptor ≡ false) (x : ℕ) (x-is : x ≡ firstFailing (extensionRows g)) where
       pub offer-extensions : (x ≡ 0 → ⊥) → x ≡ refusal
-      offer-extensions h = behind x (rw i (x-is ∙ first-stop (extensionRows g) (row 16 (roomFor (r .used) (offerSize r g) len) ∷ []) (λ e. h (x-is ∙ e))))
+      offer-extensions h =
+          behind x (rw i (x-is ∙ first-stop (extensionRows g) (row 16 (roomFor (r .used) (offerSize r g) len) ∷ []) (λ e. h (x-is ∙ e))))
 
-      module _ (w : x ≡ 0) (k : ℕ) (k-is : k ≡ handedSize (g .extensions) (g .values)) (b : Bool) (b-is : b ≡ roomFor (r .used) (96 + 16 * r .count + k) len) where
+      module _ (w : x ≡ 0) (k : ℕ) (k-is : k ≡ handedSize (g .extensions) (g .values)) (b : Bool)
+          (b-is : b ≡ roomFor (r .used) (96 + 16 * r .count + k) len) where
         passed : AllTrue (extensionRows g)
         passed = first-none (extensionRows g) refl (sym x-is ∙ w)
 
@@ -66,7 +69,8 @@ module _ (r : Record) (g : NegoContent) (len n : ℕ) (n-is : n ≡ stageRefusal
         offer-fits e = behind 0 (rw (i, passed .0, passed .1 .0, room, e))
 
 -- ---- the call, by its refusal
-module _ (r : Record) (arrays : Arrays r) (d : List ℕ) (g : NegoContent) (full : length (g .random) ≡ 32) (n : ℕ) (n-is : n ≡ writeRefusal r 1 (offerRows r g) (offerSize r g) (length d)) where
+module _ (r : Record) (arrays : Arrays r) (d : List ℕ) (g : NegoContent) (full : length (g .random) ≡ 32) (n : ℕ)
+    (n-is : n ≡ writeRefusal r 1 (offerRows r g) (offerSize r g) (length d)) where
   abbrev offer : Contents
   offer = negoIn g (take (16 * r .count) (r .list))
 
@@ -104,10 +108,13 @@ module _ (r : Record) (arrays : Arrays r) (d : List ℕ) (g : NegoContent) (full
     offer-ready =
         let p : length (take (16 * r .count) (r .list)) % 16 ≡ 0 = (let q = own-part few in omega arith) in
         record {
-          ready = write-ready r d 1 (offerRows r g) (offerSize r g) n n-is z refl offer (measure few keeps) (p, handed (g .extensions) (g .values) keeps .fit) refl refl;
+          ready =
+              write-ready r d 1 (offerRows r g) (offerSize r g) n n-is z refl offer (measure few keeps)
+              (p, handed (g .extensions) (g .values) keeps .fit) refl refl;
           keeps = keeps;
         }
 
-    pub offer-written : (d' : List ℕ) (next : Record) → Appended r d 1 offer d' next → (a : Answer) → a ≡ answered 0 0 next → _≡_ {A = Outcome} (record { answer = a; transcript = d' }) (offering r d g)
+    pub offer-written : (d' : List ℕ) (next : Record) → Appended r d 1 offer d' next → (a : Answer) → a ≡ answered 0 0 next
+        → _≡_ {A = Outcome} (record { answer = a; transcript = d' }) (offering r d g)
     unfolding offering
     offer-written = write-written r arrays d 1 (offerRows r g) offer (offerSize r g) whole n n-is z refl unchanged offer refl

@@ -83,15 +83,19 @@ module _ (r : Record) (m : ℕ) (g : NegoContent) (len n : ℕ) (n-is : n ≡ st
           passed = first-none (extensionRows g) refl (sym x-is ∙ w)
 
           pub reply-none : l .left ≡ 0 → 17 ≡ refusal
-          reply-none e = behind 17 (rw (i, ← b-is, t, passed .0, passed .1 .0, ← own-none (r .list) (r .count) l (within .few) (r .common) m (within .bound) l-is e))
+          reply-none e =
+              behind 17
+              (rw (i, ← b-is, t, passed .0, passed .1 .0, ← own-none (r .list) (r .count) l (within .few) (r .common) m (within .bound) l-is e))
 
-          module _ (s : l .left ≡ 0 → ⊥) (k : ℕ) (k-is : k ≡ handedSize (g .extensions) (g .values)) (f : Bool) (f-is : f ≡ roomFor (r .used) (96 + 16 * l .left + k) len) where
+          module _ (s : l .left ≡ 0 → ⊥) (k : ℕ) (k-is : k ≡ handedSize (g .extensions) (g .values)) (f : Bool)
+              (f-is : f ≡ roomFor (r .used) (96 + 16 * l .left + k) len) where
             some : someLeft (listed r m) ≡ true
             some = sym (own-some (r .list) (r .count) l (within .few) (r .common) m (within .bound) l-is s)
 
             room : roomFor (r .used) (replySize r m g) len ≡ f
             room =
-                ap (λ (j : ℕ). roomFor (r .used) (96 + 16 * j + handedSize (g .extensions) (g .values)) len) (sym (own-count (r .list) (r .count) l (within .few) (r .common) m (within .bound) l-is))
+                ap (λ (j : ℕ). roomFor (r .used) (96 + 16 * j + handedSize (g .extensions) (g .values)) len)
+                (sym (own-count (r .list) (r .count) l (within .few) (r .common) m (within .bound) l-is))
                 ∙ ap (λ (j : ℕ). roomFor (r .used) (96 + 16 * l .left + j) len) (sym k-is) ∙ sym f-is
 
             pub reply-crowded : f ≡ false → 16 ≡ refusal
@@ -137,14 +141,33 @@ module _ (r : Record) (d : List ℕ) (m : ℕ) (random : List ℕ) (e : Elements
     pub reply-named : (l : Left) → l ≡ leftOf (leftPlaces 16 (r .common) m) → (d' : List ℕ) (next : Record)
         → Appended r d 1 (negoOf random (take (16 * s .count) (s .octets)) (itemsOf e v)) d' next
         → (id : List ℕ) → id ≡ octets 16 (r .list) (16 * l .place) → (a : Answer)
-        → a ≡ record { refusal = 0; place = record { 0 = 0 }; messages = 0; choice = id; left = l .left; next = changed next (record { marks = m; metadata = next .metadata; requested = next .requested; attested = next .attested }) }
-        → _≡_ {A = Outcome} (record { answer = a; transcript = d' }) (naming (listed r m) (appended r d (placeAfter r 1) (messageOf r 1 (negoOf random (joinIds (listed r m)) (itemsOf e v))) (record { marks = m; metadata = r .metadata; requested = r .requested; attested = r .attested })))
+        → a ≡ record {
+          refusal = 0;
+          place = record { 0 = 0 };
+          messages = 0;
+          choice = id;
+          left = l .left;
+          next = changed next (record { marks = m; metadata = next .metadata; requested = next .requested; attested = next .attested });
+        }
+        → _≡_ {A = Outcome} (record { answer = a; transcript = d' })
+        (naming (listed r m)
+        (appended r d (placeAfter r 1) (messageOf r 1 (negoOf random (joinIds (listed r m)) (itemsOf e v)))
+        (record { marks = m; metadata = r .metadata; requested = r .requested; attested = r .attested })))
     reply-named l l-is d' next w id id-is a a-is =
         let x : Appended r d 1 (negoOf random (joinIds (listed r m)) (itemsOf e v)) d' next = rw reply-octets at w in
-        rw (a-is, x .counted, x .holds, id-is, own-first (r .list) (r .count) l (inside .few) (r .common) m (inside .bound) l-is (y .some), own-count (r .list) (r .count) l (inside .few) (r .common) m (inside .bound) l-is)
+        rw (
+          a-is,
+          x .counted,
+          x .holds,
+          id-is,
+          own-first (r .list) (r .count) l (inside .few) (r .common) m (inside .bound) l-is (y .some),
+          own-count
+              (r .list) (r .count) l (inside .few) (r .common) m (inside .bound) l-is,
+        )
 
 -- ---- the call, by its refusal
-module _ (r : Record) (arrays : Arrays r) (d : List ℕ) (m : ℕ) (g : NegoContent) (full : length (g .random) ≡ 32) (n : ℕ) (n-is : n ≡ writeRefusal r 1 (replyRows r m g) (replySize r m g) (length d)) where
+module _ (r : Record) (arrays : Arrays r) (d : List ℕ) (m : ℕ) (g : NegoContent) (full : length (g .random) ≡ 32) (n : ℕ)
+    (n-is : n ≡ writeRefusal r 1 (replyRows r m g) (replySize r m g) (length d)) where
   abbrev answer : Contents
   answer = negoIn g (joinIds (listed r m))
 
@@ -171,12 +194,16 @@ module _ (r : Record) (arrays : Arrays r) (d : List ℕ) (m : ℕ) (g : NegoCont
         let p : length (joinIds (listed r m)) % 16 ≡ 0 = (let q = joined few in omega arith) in
         record {
           nego = record {
-            ready = write-ready r d 1 (replyRows r m g) (replySize r m g) n n-is z refl answer (measure few keeps) (p, handed (g .extensions) (g .values) keeps .fit) refl refl;
+            ready =
+                write-ready r d 1 (replyRows r m g) (replySize r m g) n n-is z refl answer (measure few keeps)
+                (p, handed (g .extensions) (g .values) keeps .fit) refl refl;
             keeps = keeps;
           };
           some = own .1 .1 .1 .1 .0;
         }
 
-    pub reply-written : (o : Outcome) → o ≡ naming (listed r m) (appended r d (placeAfter r 1) (messageOf r 1 answer) (record { marks = m; metadata = r .metadata; requested = r .requested; attested = r .attested })) → o ≡ replying r d m g
+    pub reply-written : (o : Outcome) → o ≡ naming (listed r m)
+        (appended r d (placeAfter r 1) (messageOf r 1 answer)
+        (record { marks = m; metadata = r .metadata; requested = r .requested; attested = r .attested })) → o ≡ replying r d m g
     unfolding replying
     reply-written o e = e ∙ write-passed r arrays d 1 (replyRows r m g) answer (replySize r m g) whole n n-is z refl _

@@ -57,7 +57,8 @@ pub(crate) fn append_nego(
     values: &[u8],
 ) -> Record
     requires { ⌜ NegoReady r (now transcript) random (now schemes) extensions (now values) ⌝ }
-    ensures { λ a. ⌜ Appended r (now (transcript .entry)) NEGO (negoOf random (now (schemes .entry)) (itemsOf extensions (now (values .entry)))) (now (transcript .exit)) a ⌝ }
+    ensures { λ a. ⌜ Appended r (now (transcript .entry)) NEGO (negoOf random (now (schemes .entry)) (itemsOf extensions (now (values .entry))))
+        (now (transcript .exit)) a ⌝ }
 {
     let heading = heading_of(r, Class::NEGO);
     let n = schemes.len();

@@ -22,7 +22,8 @@ use message::field;
 use vector::TokenPlace;
 
 fn offer_refusal(r: Record, test: bool, extensions: Elements, values: &[u8], len: usize) -> u32
-    ensures { λ a. ⌜ a ≡ writeRefusal r NEGO (offerRows r (tested test extensions (now (values .entry)))) (96 + 16 * r .count + handedSize extensions (now (values .entry))) len ⌝ }
+    ensures { λ a. ⌜ a ≡ writeRefusal r NEGO (offerRows r (tested test extensions (now (values .entry))))
+        (96 + 16 * r .count + handedSize extensions (now (values .entry))) len ⌝ }
 {
     let n = stage_refusal(r, Class::NEGO);
     if n != 0 {
@@ -51,7 +52,8 @@ pub fn write_offer(
     extensions: Elements,
     values: &[u8],
 ) -> Answer
-    ensures { λ a. ⌜ leaving a (now (transcript .exit)) ≡ offering r (now (transcript .entry)) (negoContent random test extensions (now (values .entry))) ⌝ }
+    ensures { λ a. ⌜ leaving a (now (transcript .exit)) ≡ offering r (now (transcript .entry))
+        (negoContent random test extensions (now (values .entry))) ⌝ }
 {
     let n = offer_refusal(r, test, extensions, values, transcript.len());
     if n != 0 {

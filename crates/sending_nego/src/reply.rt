@@ -39,7 +39,8 @@ fn reply_refusal(
     values: &[u8],
     len: usize,
 ) -> u32
-    ensures { λ a. ⌜ a ≡ writeRefusal r NEGO (replyRows r marks (tested test extensions (now (values .entry)))) (96 + 16 * length (left (ownOf r) (r .common) marks) + handedSize extensions (now (values .entry))) len ⌝ }
+    ensures { λ a. ⌜ a ≡ writeRefusal r NEGO (replyRows r marks (tested test extensions (now (values .entry))))
+        (96 + 16 * length (left (ownOf r) (r .common) marks) + handedSize extensions (now (values .entry))) len ⌝ }
 {
     let n = stage_refusal(r, Class::NEGO);
     if n != 0 {
@@ -76,7 +77,10 @@ fn reply_with(
     values: &[u8],
 ) -> Answer
     requires { ⌜ ReplyReady r (now transcript) marks random extensions (now values) ⌝ }
-    ensures { λ a. ⌜ leaving a (now (transcript .exit)) ≡ naming (left (ownOf r) (r .common) marks) (appended r (now (transcript .entry)) (placeAfter r NEGO) (messageOf r NEGO (negoOf random (joinIds (left (ownOf r) (r .common) marks)) (itemsOf extensions (now (values .entry))))) (marking marks r)) ⌝ }
+    ensures { λ a. ⌜ leaving a (now (transcript .exit)) ≡ naming (left (ownOf r) (r .common) marks)
+        (appended r (now (transcript .entry)) (placeAfter r NEGO)
+        (messageOf r NEGO (negoOf random (joinIds (left (ownOf r) (r .common) marks)) (itemsOf extensions (now (values .entry)))))
+        (marking marks r)) ⌝ }
 {
     let list = r.list;
     let s = gather(list, r.count, r.common & !marks);
@@ -99,7 +103,8 @@ pub fn write_reply(
     extensions: Elements,
     values: &[u8],
 ) -> Answer
-    ensures { λ a. ⌜ leaving a (now (transcript .exit)) ≡ replying r (now (transcript .entry)) marks (negoContent random test extensions (now (values .entry))) ⌝ }
+    ensures { λ a. ⌜ leaving a (now (transcript .exit)) ≡ replying r (now (transcript .entry)) marks
+        (negoContent random test extensions (now (values .entry))) ⌝ }
 {
     let n = reply_refusal(r, marks, test, extensions, values, transcript.len());
     if n != 0 {

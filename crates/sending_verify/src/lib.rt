@@ -33,7 +33,8 @@ fn append_verify(
     value: &[u8],
 ) -> Record
     requires { ⌜ Ready r (now transcript) VERIFY (ofVerify (record { scheme = id; type = checksum; value = now value })) ⌝ }
-    ensures { λ a. ⌜ Appended r (now (transcript .entry)) VERIFY (ofVerify (record { scheme = id; type = checksum; value = now (value .entry) })) (now (transcript .exit)) a ⌝ }
+    ensures { λ a. ⌜ Appended r (now (transcript .entry)) VERIFY (ofVerify (record { scheme = id; type = checksum; value = now (value .entry) }))
+        (now (transcript .exit)) a ⌝ }
 {
     let heading = heading_of(r, Class::VERIFY);
     let n = value.len();
@@ -70,7 +71,8 @@ pub fn choose_verify(
     checksum: i32,
     value: &[u8],
 ) -> Answer
-    ensures { λ a. ⌜ leaving a (now (transcript .exit)) ≡ choosing r (now (transcript .entry)) marks (Speech·checksum checksum (now (value .entry))) ⌝ }
+    ensures { λ a. ⌜ leaving a (now (transcript .exit)) ≡ choosing r (now (transcript .entry)) marks
+        (Speech·checksum checksum (now (value .entry))) ⌝ }
 {
     let n = choice_refusal(r, Class::VERIFY, marks, true);
     if n != 0 {

@@ -31,11 +31,13 @@ skip-cut [] k place = rw (drop-nil k)
 skip-cut (x ∷ xs) zero place = refl
 skip-cut (x ∷ xs) (suc k) place = skip-cut xs k place
 
-first : (place x : ℕ) (xs : List ℕ) → fits (x ∷ xs) ≡ true → cutFrom (x ∷ xs) 0 place ≡ message (placed place (front (x ∷ xs))) (cutFrom xs (size (x ∷ xs) - 1) (place + size (x ∷ xs)))
+first : (place x : ℕ) (xs : List ℕ) → fits (x ∷ xs) ≡ true
+    → cutFrom (x ∷ xs) 0 place ≡ message (placed place (front (x ∷ xs))) (cutFrom xs (size (x ∷ xs) - 1) (place + size (x ∷ xs)))
 unfolding cutFrom
 first place x xs e = rw e
 
-pub turn-fits : (place : ℕ) (s : List ℕ) → fits s ≡ true → cutFrom s 0 place ≡ message (placed place (front s)) (cutFrom (drop (size s) s) 0 (place + size s))
+pub turn-fits : (place : ℕ) (s : List ℕ) → fits s ≡ true
+    → cutFrom s 0 place ≡ message (placed place (front s)) (cutFrom (drop (size s) s) 0 (place + size s))
 turn-fits place [] e = let z = fits-sized [] e in absurd (omega (arith, z))
 turn-fits place (x ∷ xs) e =
     let z = fits-sized (x ∷ xs) e in
@@ -44,7 +46,8 @@ turn-fits place (x ∷ xs) e =
     (skip-cut xs (size (x ∷ xs) - 1) (place + size (x ∷ xs))
     ∙ ap (λ (l : List ℕ). cutFrom l 0 (place + size (x ∷ xs))) (drop-one x xs (size (x ∷ xs)) (omega (arith, z))))
 
-pub turn-stops : (place : ℕ) (s : List ℕ) → 0 < length s → fits s ≡ false → cutFrom s 0 place ≡ cutAt (firstFailing (commonRows (length s) (headOf s))) place
+pub turn-stops : (place : ℕ) (s : List ℕ) → 0 < length s → fits s ≡ false
+    → cutFrom s 0 place ≡ cutAt (firstFailing (commonRows (length s) (headOf s))) place
 unfolding cutFrom
 turn-stops place [] w e = absurd (omega arith)
 turn-stops place (x ∷ xs) w e = rw e
@@ -105,14 +108,16 @@ unfolding cutFrom messagesIn
 pieces-cut [] k place = tt
 pieces-cut (x ∷ xs) (suc k) place = pieces-cut xs k place
 pieces-cut (x ∷ xs) zero place = go (which (fits (x ∷ xs))) (pieces-cut xs (size (x ∷ xs) - 1) (place + size (x ∷ xs))) where
-  go : (fits (x ∷ xs) ≡ true) ⊎ (fits (x ∷ xs) ≡ false) → Pieces (messagesIn (cutFrom xs (size (x ∷ xs) - 1) (place + size (x ∷ xs)))) → Pieces (messagesIn (cutFrom (x ∷ xs) 0 place))
+  go : (fits (x ∷ xs) ≡ true) ⊎ (fits (x ∷ xs) ≡ false) → Pieces (messagesIn (cutFrom xs (size (x ∷ xs) - 1) (place + size (x ∷ xs))))
+      → Pieces (messagesIn (cutFrom (x ∷ xs) 0 place))
   go (inl e) ih = rw e (piece-front (x ∷ xs) e, ih)
   go (inr e) ih = rw e tt
 
 cut-pieces : (place : ℕ) (ms : List (List ℕ)) → Pieces ms → messagesIn (cutFrom (join ms) 0 place) ≡ ms
 unfolding messagesIn
 cut-pieces place [] e = unfold cutFrom in refl
-cut-pieces place (m ∷ ms) e = ap messagesIn (cut-piece m (join ms) (e .0) place) ∙ ap (λ (l : List (List ℕ)). m ∷ l) (cut-pieces (place + length m) ms (e .1))
+cut-pieces place (m ∷ ms) e =
+    ap messagesIn (cut-piece m (join ms) (e .0) place) ∙ ap (λ (l : List (List ℕ)). m ∷ l) (cut-pieces (place + length m) ms (e .1))
 
 -- a join of messages is cut into them, to its end
 pub messages-join : (ms : List (List ℕ)) → Pieces ms → messagesOf (join ms) ≡ ms

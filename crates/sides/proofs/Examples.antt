@@ -12,9 +12,11 @@ use Rattle.sides.specs.Replay.{cutEnding, before, choiceOf, playFrom, re
 use Rattle.sides.specs.Worked.{WholeReplayed, Endings}
 
 pub whole-replayed : WholeReplayed
-unfolding computing messagesIn withBit listOk opening cutFrom runFrom turnsFrom together begun owed heardTurn said saidAll cutEnding before choiceOf playFrom replayOf
+unfolding computing messagesIn withBit listOk opening cutFrom runFrom turnsFrom together begun owed heardTurn said saidAll cutEnding before choiceOf
+    playFrom replayOf
 whole-replayed = refl
 
 pub endings : Endings
-unfolding computing messagesIn withBit listOk opening cutFrom runFrom turnsFrom together begun owed heardTurn said saidAll cutEnding before choiceOf playFrom replayOf
+unfolding computing messagesIn withBit listOk opening cutFrom runFrom turnsFrom together begun owed heardTurn said saidAll cutEnding before choiceOf
+    playFrom replayOf
 endings = (refl, (refl, (refl, (refl, (refl, (refl, (refl, (refl, (refl, (refl, (refl, (refl, (refl, tt)))))))))))))

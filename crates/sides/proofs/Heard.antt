@@ -51,14 +51,17 @@ heard-by r d t =
     decide-out (λ out. isAccepted (out .answer) ≡ true → Heard r t (out .answer .next)) rows r d (finish r d t (judged r t))
     (λ n f a. no-true (sym (ne-eqb n 0 (fails-other 0 rows n refl f)) ∙ a))
     (λ g. token g (judged r t) refl) where
-      token : AllTrue (limitRows r ++ tokenRows r (length t)) → (j : Judged) → judged r t ≡ j → isAccepted (finish r d t j .answer) ≡ true → Heard r t (finish r d t j .answer .next)
+      token : AllTrue (limitRows r ++ tokenRows r (length t)) → (j : Judged) → judged r t ≡ j → isAccepted (finish r d t j .answer) ≡ true
+          → Heard r t (finish r d t j .answer .next)
       token g (halted n p) w a = unfold finish in absurd (judged-number r t n p w .0 (eqb-true n 0 (unfold finish in a)))
       token g (whole n c) w a = unfold finish in elim (which (leb (r .used + length t) (room d))) [
         | inr b ↦ no-true (let z : isAccepted (finish r d t (whole n c) .answer) ≡ true = a in unfold finish in (rw b at z))
-        | inl b ↦ rw b (record { n = n; scan = c; rows = g; is = w; short = (let z : r .used + length t ≤ room d = leb-true _ _ b in omega arith); next = refl })
+        | inl b ↦ rw b
+            (record { n = n; scan = c; rows = g; is = w; short = (let z : r .used + length t ≤ room d = leb-true _ _ b in omega arith); next = refl })
       ]
 
-pub heard-again : (r : Record) (t : List ℕ) (then : Record) (h : Heard r t then) (d : List ℕ) → 65535 ≤ length d → heardTurn true r d t ≡ accepted r d t (h .n) (h .scan)
+pub heard-again : (r : Record) (t : List ℕ) (then : Record) (h : Heard r t then) (d : List ℕ) → 65535 ≤ length d
+    → heardTurn true r d t ≡ accepted r d t (h .n) (h .scan)
 unfolding heardTurn
 heard-again r t then h d wide =
     let fit : r .used + length t ≤ room d = (let s = h .short in omega arith) in
@@ -69,15 +72,18 @@ heard-again r t then h d wide =
       fitting n c e = unfold finish in rw e
 
 -- where 28 is owed, no turn is accepted
-pub heard-turn : (ok : Bool) (r : Record) (d t : List ℕ) → isAccepted (heardTurn ok r d t .answer) ≡ true → (ok ≡ true) × Heard r t (heardTurn ok r d t .answer .next)
+pub heard-turn : (ok : Bool) (r : Record) (d t : List ℕ) → isAccepted (heardTurn ok r d t .answer) ≡ true
+    → (ok ≡ true) × Heard r t (heardTurn ok r d t .answer .next)
 unfolding heardTurn readingToken
 heard-turn true r d t = λ a. (refl, heard-by r d t a)
 heard-turn false r d t =
     let rows : List Row = limitRows r ++ tokenRows r (length t) in
-    decide-out (λ out. isAccepted (out .answer) ≡ true → (false ≡ true) × Heard r t (out .answer .next)) rows r d (finish r d t (afterFirst false (judged r t)))
+    decide-out (λ out. isAccepted (out .answer) ≡ true → (false ≡ true) × Heard r t (out .answer .next)) rows r d
+    (finish r d t (afterFirst false (judged r t)))
     (λ n f a. no-true (sym (ne-eqb n 0 (fails-other 0 rows n refl f)) ∙ a))
     (λ g. token (judged r t) refl) where
-      token : (j : Judged) → judged r t ≡ j → isAccepted (finish r d t (afterFirst false j) .answer) ≡ true → (false ≡ true) × Heard r t (finish r d t (afterFirst false j) .answer .next)
+      token : (j : Judged) → judged r t ≡ j → isAccepted (finish r d t (afterFirst false j) .answer) ≡ true
+          → (false ≡ true) × Heard r t (finish r d t (afterFirst false j) .answer .next)
       token (halted n zero) w a = absurd (judged-number r t n 0 w .0 (eqb-true n 0 (unfold finish in a)))
       token (halted n (suc p)) w a = no-true (unfold finish in a)
       token (whole n c) w a = no-true (unfold finish in a)
@@ -121,7 +127,8 @@ unfolding chainOf messagesIn
 chain-pieces [] k place q v = tt
 chain-pieces (x ∷ xs) (suc k) place q v = chain-pieces xs k place q v
 chain-pieces (x ∷ xs) zero place q v = go (which (passes (x ∷ xs) q v)) (chain-pieces xs (size (x ∷ xs) - 1) (place + size (x ∷ xs)) (q + 1) v) where
-  go : (passes (x ∷ xs) q v ≡ true) ⊎ (passes (x ∷ xs) q v ≡ false) → Pieces (messagesIn (chainOf xs (size (x ∷ xs) - 1) (place + size (x ∷ xs)) (q + 1) v)) → Pieces (messagesIn (chainOf (x ∷ xs) 0 place q v))
+  go : (passes (x ∷ xs) q v ≡ true) ⊎ (passes (x ∷ xs) q v ≡ false)
+      → Pieces (messagesIn (chainOf xs (size (x ∷ xs) - 1) (place + size (x ∷ xs)) (q + 1) v)) → Pieces (messagesIn (chainOf (x ∷ xs) 0 place q v))
   go (inl e) ih = rw e (piece-front (x ∷ xs) (passes-parts (x ∷ xs) q v e .common), ih)
   go (inr e) ih = rw e tt
 
@@ -134,7 +141,8 @@ pub record Gone (r : Record) (ms : List (List ℕ)) (n : ℕ) : Type 0 where
 pub gone-through : (r : Record) (ms : List (List ℕ)) (n : ℕ) (c : Scan) → AllExact ms → judged r (join ms) ≡ whole n c → Gone r ms n
 gone-through r ms n c x w =
     let k = token-taken r (join ms) n c w in
-    let same : messagesIn (chainFor r (join ms)) ≡ ms = same-list (messagesIn (chainFor r (join ms))) ms (framed-exact (r .sequence) (messagesIn (chainFor r (join ms))) (k .framed)) x (k .joins) in
+    let same : messagesIn (chainFor r (join ms)) ≡ ms =
+    same-list (messagesIn (chainFor r (join ms))) ms (framed-exact (r .sequence) (messagesIn (chainFor r (join ms))) (k .framed)) x (k .joins) in
     record {
       same = same;
       pieces = subst Pieces same (pieces (join ms) (k .some));
@@ -143,7 +151,8 @@ gone-through r ms n c x w =
     } where
       pieces : (t : List ℕ) → 0 < length t → Pieces (messagesIn (chainFor r t))
       pieces [] h = absurd (omega arith)
-      pieces (y ∷ t) h = let z : length (y ∷ t) ≡ 0 → ⊥ = λ e. omega arith in rw (ne-eqb _ _ z) (chain-pieces (y ∷ t) 0 0 (r .sequence) (conversationOf r (y ∷ t)))
+      pieces (y ∷ t) h =
+          let z : length (y ∷ t) ≡ 0 → ⊥ = λ e. omega arith in rw (ne-eqb _ _ z) (chain-pieces (y ∷ t) 0 0 (r .sequence) (conversationOf r (y ∷ t)))
 
       some : (l : List (List ℕ)) → 0 < length (join l) → 0 < length l
       some [] h = absurd (omega arith)
@@ -173,15 +182,19 @@ chain-numbered : (xs : List ℕ) (k place q : ℕ) (v : List ℕ) → Ends (chai
 unfolding chainOf messagesIn
 chain-numbered [] k place q v h = tt
 chain-numbered (x ∷ xs) (suc k) place q v h = chain-numbered xs k place q v h
-chain-numbered (x ∷ xs) zero place q v h = go (which (passes (x ∷ xs) q v)) (chain-numbered xs (size (x ∷ xs) - 1) (place + size (x ∷ xs)) (q + 1) v) h where
-  go : (passes (x ∷ xs) q v ≡ true) ⊎ (passes (x ∷ xs) q v ≡ false) → (Ends (chainOf xs (size (x ∷ xs) - 1) (place + size (x ∷ xs)) (q + 1) v) → Numbered (q + 1) v (messagesIn (chainOf xs (size (x ∷ xs) - 1) (place + size (x ∷ xs)) (q + 1) v)))
-      → Ends (chainOf (x ∷ xs) 0 place q v) → Numbered q v (messagesIn (chainOf (x ∷ xs) 0 place q v))
-  go (inl e) ih g = rw e (front-message (x ∷ xs) q v e, ih (rw e at g))
-  go (inr e) ih g = absurd (rw e at g)
+chain-numbered (x ∷ xs) zero place q v h =
+    go (which (passes (x ∷ xs) q v)) (chain-numbered xs (size (x ∷ xs) - 1) (place + size (x ∷ xs)) (q + 1) v) h where
+      go : (passes (x ∷ xs) q v ≡ true) ⊎ (passes (x ∷ xs) q v ≡ false)
+          → (Ends (chainOf xs (size (x ∷ xs) - 1) (place + size (x ∷ xs)) (q + 1) v)
+          → Numbered (q + 1) v (messagesIn (chainOf xs (size (x ∷ xs) - 1) (place + size (x ∷ xs)) (q + 1) v)))
+          → Ends (chainOf (x ∷ xs) 0 place q v) → Numbered q v (messagesIn (chainOf (x ∷ xs) 0 place q v))
+      go (inl e) ih g = rw e (front-message (x ∷ xs) q v e, ih (rw e at g))
+      go (inr e) ih g = absurd (rw e at g)
 
 pub heard-accepts : (r : Record) (t : List ℕ) (n : ℕ) (c : Scan) → length t ≤ 65535 → judged r t ≡ whole n c → Accepts t
 heard-accepts r t n c short w = go (messagesIn (chainFor r t)) refl (token-taken r t n c w .joins) where
-  some : (s : List ℕ) → 0 < length s → judge r t 0 (startOf r) (chainFor r s) ≡ whole n c → Numbered (r .sequence) (conversationOf r s) (messagesIn (chainFor r s))
+  some : (s : List ℕ) → 0 < length s → judge r t 0 (startOf r) (chainFor r s) ≡ whole n c
+      → Numbered (r .sequence) (conversationOf r s) (messagesIn (chainFor r s))
   some [] h e = absurd (omega arith)
   some (x ∷ s) h e =
       let z : length (x ∷ s) ≡ 0 → ⊥ = λ y. omega arith in
@@ -196,7 +209,9 @@ heard-accepts r t n c short w = go (messagesIn (chainFor r t)) refl (token-taken
   go [] is j = absurd (let z = token-taken r t n c w .some in omega (arith, ap length (sym (ap join is) ∙ j)))
   go (m ∷ ms) is j =
       let t-is : join (m ∷ ms) ≡ t = sym (ap join is) ∙ j in
-      let a : tokenOf (join (m ∷ ms)) ≡ Accepted (placedFrom 0 (m ∷ ms)) = numbered-accepted (r .sequence) (conversationOf r t) m ms (subst (Numbered (r .sequence) (conversationOf r t)) is numbered) (omega (arith, ap length t-is)) in
+      let a : tokenOf (join (m ∷ ms)) ≡ Accepted (placedFrom 0 (m ∷ ms)) =
+      numbered-accepted (r .sequence) (conversationOf r t) m ms (subst (Numbered (r .sequence) (conversationOf r t)) is numbered)
+      (omega (arith, ap length t-is)) in
       let b : tokenOf t ≡ Accepted (placedFrom 0 (m ∷ ms)) = ap tokenOf (sym t-is) ∙ a in
       b ∙ ap (λ (x : Reading). Accepted (messagesOf x)) (sym b)
 
@@ -211,4 +226,5 @@ refused-same ok r d t =
     (λ g. token (afterFirst ok (judged r t))) where
       token : (j : Judged) → (finish r d t j .answer .refusal ≡ 0 → ⊥) → finish r d t j .transcript ≡ d
       token (halted n p) h = unfold finish in refl
-      token (whole n c) h = unfold finish in elim (which (leb (r .used + length t) (room d))) [ inl b ↦ absurd (h (unfold finish in rw b)) | inr b ↦ rw b ]
+      token (whole n c) h =
+          unfold finish in elim (which (leb (r .used + length t) (room d))) [ inl b ↦ absurd (h (unfold finish in rw b)) | inr b ↦ rw b ]

@@ -54,7 +54,13 @@ module _ (q x : ℕ) (i a : List ℕ) (next : x ≡ q) where
   first-or k (inr m) = inr (inr m)
 
   on : RowFrom q (x ∷ i) a → RowFrom (q + 1) i a
-  on r = record { none-lower = above; none-missing = between; one-rises = r .one-rises .1; other-rises = r .other-rises; once = λ k m n. r .once k (List·Memᴰ·tail m) n } where
+  on r = record {
+    none-lower = above;
+    none-missing = between;
+    one-rises = r .one-rises .1;
+    other-rises = r .other-rises;
+    once = λ k m n. r .once k (List·Memᴰ·tail m) n;
+  } where
     above : (k : ℕ) → Has k i a → q + 1 ≤ k
     above k (inl m) = let z : x < k = r .one-rises .0 k m in omega arith
     above k (inr m) = elim (which (eqb k q)) [
@@ -66,23 +72,24 @@ module _ (q x : ℕ) (i a : List ℕ) (next : x ≡ q) where
     between k p m l h = elim (first-or p (r .none-missing k p (more k m) (omega arith) h)) [ inl e ↦ absurd (omega arith) | inr n ↦ n ]
 
   back : RowFrom (q + 1) i a → RowFrom q (x ∷ i) a
-  back r = record { none-lower = from-here; none-missing = between; one-rises = (behind, r .one-rises); other-rises = r .other-rises; once = apart } where
-    from-here : (k : ℕ) → Has k (x ∷ i) a → q ≤ k
-    from-here k m = elim (first-or k m) [ inl e ↦ omega arith | inr n ↦ let z : q + 1 ≤ k = r .none-lower k n in omega arith ]
+  back r =
+      record { none-lower = from-here; none-missing = between; one-rises = (behind, r .one-rises); other-rises = r .other-rises; once = apart } where
+        from-here : (k : ℕ) → Has k (x ∷ i) a → q ≤ k
+        from-here k m = elim (first-or k m) [ inl e ↦ omega arith | inr n ↦ let z : q + 1 ≤ k = r .none-lower k n in omega arith ]
 
-    between : (k p : ℕ) → Has k (x ∷ i) a → q ≤ p → p ≤ k → Has p (x ∷ i) a
-    between k p m l h = elim (which (eqb p q)) [
-      | inl e ↦ inl (List·Memᴰ·head (eqb-true p q e ∙ sym next))
-      | inr e ↦
-          let d : p ≡ q → ⊥ = eqb-false p q e in
-          elim (first-or k m) [ inl f ↦ absurd (omega arith) | inr n ↦ more p (r .none-missing k p n (omega arith) h) ]
-    ]
+        between : (k p : ℕ) → Has k (x ∷ i) a → q ≤ p → p ≤ k → Has p (x ∷ i) a
+        between k p m l h = elim (which (eqb p q)) [
+          | inl e ↦ inl (List·Memᴰ·head (eqb-true p q e ∙ sym next))
+          | inr e ↦
+              let d : p ≡ q → ⊥ = eqb-false p q e in
+              elim (first-or k m) [ inl f ↦ absurd (omega arith) | inr n ↦ more p (r .none-missing k p n (omega arith) h) ]
+        ]
 
-    behind : (k : ℕ) → List·Memᴰ k i → x < k
-    behind k m = let z : q + 1 ≤ k = r .none-lower k (inl m) in omega arith
+        behind : (k : ℕ) → List·Memᴰ k i → x < k
+        behind k m = let z : q + 1 ≤ k = r .none-lower k (inl m) in omega arith
 
-    apart : (k : ℕ) → List·Memᴰ k (x ∷ i) → List·Memᴰ k a → ⊥
-    apart k m n = elim (List·Memᴰ·cases-cons m) [ inl e ↦ let z : q + 1 ≤ k = r .none-lower k (inr n) in omega arith | inr o ↦ r .once k o n ]
+        apart : (k : ℕ) → List·Memᴰ k (x ∷ i) → List·Memᴰ k a → ⊥
+        apart k m n = elim (List·Memᴰ·cases-cons m) [ inl e ↦ let z : q + 1 ≤ k = r .none-lower k (inr n) in omega arith | inr o ↦ r .once k o n ]
 
   one-on : RowFrom q (x ∷ i) a ↔ RowFrom (q + 1) i a
   one-on = (on, back)
@@ -113,7 +120,8 @@ run-rest q (m ∷ i) = elim (which (eqb (headOf m .sequence) q)) [
 ]
 
 -- a file that rises and has no lower number than q can have q at its front only
-not-there : (q : ℕ) (i : List (List ℕ)) → ran q i ≤ 0 → ((k : ℕ) → List·Memᴰ k (numbersOf i) → q ≤ k) → Rising (numbersOf i) → List·Memᴰ q (numbersOf i) → ⊥
+not-there : (q : ℕ) (i : List (List ℕ)) → ran q i ≤ 0 → ((k : ℕ) → List·Memᴰ k (numbersOf i) → q ≤ k) → Rising (numbersOf i)
+    → List·Memᴰ q (numbersOf i) → ⊥
 unfolding runFrom
 not-there q [] none lower rises m = List·Memᴰ·not-nil m
 not-there q (n ∷ i) none lower rises m = elim (which (eqb (headOf n .sequence) q)) [
@@ -125,10 +133,17 @@ not-there q (n ∷ i) none lower rises m = elim (which (eqb (headOf n .sequence)
 
 -- the turns end where neither file has the next number at its front: nothing is left there
 nothing-left : (q : ℕ) (i a : List (List ℕ)) → 0 ≡ length i + length a → RowFrom q (numbersOf i) (numbersOf a)
-nothing-left q [] [] e = record { none-lower = λ k m. nowhere k m; none-missing = λ k p m l h. nowhere k m; one-rises = tt; other-rises = tt; once = λ k m n. List·Memᴰ·not-nil m } where
-  nowhere : {A : Type 0} (k : ℕ) → Has k [] [] → A
-  nowhere k (inl m) = absurd (List·Memᴰ·not-nil m)
-  nowhere k (inr m) = absurd (List·Memᴰ·not-nil m)
+nothing-left q [] [] e =
+    record {
+      none-lower = λ k m. nowhere k m;
+      none-missing = λ k p m l h. nowhere k m;
+      one-rises = tt;
+      other-rises = tt;
+      once = λ k m n. List·Memᴰ·not-nil m;
+    } where
+      nowhere : {A : Type 0} (k : ℕ) → Has k [] [] → A
+      nowhere k (inl m) = absurd (List·Memᴰ·not-nil m)
+      nowhere k (inr m) = absurd (List·Memᴰ·not-nil m)
 nothing-left q (m ∷ i) a e = absurd (omega arith)
 nothing-left q [] (m ∷ a) e = absurd (omega arith)
 
@@ -144,21 +159,24 @@ ended q i a none neither = (nothing-left q i a, λ r. no-number i a (λ k m. no-
   no-next r (inr m) = not-there q a neither (λ k n. r .none-lower k (inr n)) (r .other-rises) m
 
 -- as many turns as there are messages, or more, are asked for
-all-in-row : (n q : ℕ) (i a : List (List ℕ)) → length i + length a ≤ n → (together (turnsFrom n q i a) ≡ length i + length a) ↔ RowFrom q (numbersOf i) (numbersOf a)
+all-in-row : (n q : ℕ) (i a : List (List ℕ)) → length i + length a ≤ n
+    → (together (turnsFrom n q i a) ≡ length i + length a) ↔ RowFrom q (numbersOf i) (numbersOf a)
 unfolding turnsFrom together
 all-in-row zero q i a h = (λ e. nothing-left q i a e, λ r. omega arith)
 all-in-row (suc n) q i a h = elim (which (ltb 0 (ran q i))) [
   | inl e ↦
       let some : 0 < ran q i = ltb-true _ _ e in
       let whole : ran q i + length (rest q i) ≡ length i = run-rest q i in
-      rw e (Iff·trans (λ t. omega arith, λ t. omega arith) (Iff·trans (all-in-row n (q + ran q i) (rest q i) a (omega arith)) (Iff·symm (run-on q i (numbersOf a)))))
+      rw e (Iff·trans (λ t. omega arith, λ t. omega arith)
+      (Iff·trans (all-in-row n (q + ran q i) (rest q i) a (omega arith)) (Iff·symm (run-on q i (numbersOf a)))))
   | inr e ↦ elim (which (ltb 0 (ran q a))) [
     | inl f ↦
         let some : 0 < ran q a = ltb-true _ _ f in
         let whole : ran q a + length (rest q a) ≡ length a = run-rest q a in
         rw (e, f) (
         Iff·trans (λ t. omega arith, λ t. omega arith) (
-        Iff·trans (all-in-row n (q + ran q a) i (rest q a) (omega arith)) (Iff·trans (swapped _ _ _) (Iff·trans (Iff·symm (run-on q a (numbersOf i))) (swapped _ _ _)))
+        Iff·trans (all-in-row n (q + ran q a) i (rest q a) (omega arith))
+        (Iff·trans (swapped _ _ _) (Iff·trans (Iff·symm (run-on q a (numbersOf i))) (swapped _ _ _)))
         )
         )
     | inr f ↦ rw (e, f) (ended q i a (ltb-false _ _ e) (ltb-false _ _ f))

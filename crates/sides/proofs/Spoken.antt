@@ -19,7 +19,8 @@ unfolding saidAll
 said-snoc w [] m = refl
 said-snoc w (k ∷ ms) m = said-snoc (said w k) ms m
 
-said-counts : (w : Record) (ms : List (List ℕ)) → (saidAll w ms .used ≡ w .used + length (join ms)) × (saidAll w ms .sequence ≡ w .sequence + length ms)
+said-counts : (w : Record) (ms : List (List ℕ))
+    → (saidAll w ms .used ≡ w .used + length (join ms)) × (saidAll w ms .sequence ≡ w .sequence + length ms)
 unfolding saidAll said
 said-counts w [] = (sym (add-zero (w .used)), sym (add-zero (w .sequence)))
 said-counts w (m ∷ ms) = let i = said-counts (said w m) ms in (omega (arith, i .0, length-append m (join ms)), omega (arith, i .1))
@@ -27,12 +28,14 @@ said-counts w (m ∷ ms) = let i = said-counts (said w m) ms in (omega (arith, i
 begun-counts : (m : ℕ) (w : Record) → (begun m w .used ≡ w .used) × (begun m w .sequence ≡ w .sequence)
 unfolding begun
 begun-counts m w = go (mayChoose w) (eqb (writes w) ANSWER) where
-  go : (a b : Bool) → (cond a (chose w m) (cond b (withMarks m w) w) .used ≡ w .used) × (cond a (chose w m) (cond b (withMarks m w) w) .sequence ≡ w .sequence)
+  go : (a b : Bool)
+      → (cond a (chose w m) (cond b (withMarks m w) w) .used ≡ w .used) × (cond a (chose w m) (cond b (withMarks m w) w) .sequence ≡ w .sequence)
   go true b = (refl, refl)
   go false true = (refl, refl)
   go false false = (refl, refl)
 
-pub spoke-counts : (m : ℕ) (w : Record) (ms : List (List ℕ)) → (spoke m w ms .used ≡ w .used + length (join ms)) × (spoke m w ms .sequence ≡ w .sequence + length ms)
+pub spoke-counts : (m : ℕ) (w : Record) (ms : List (List ℕ))
+    → (spoke m w ms .used ≡ w .used + length (join ms)) × (spoke m w ms .sequence ≡ w .sequence + length ms)
 spoke-counts m w ms = let a = said-counts (begun m w) ms in let b = begun-counts m w in (omega (arith, a .0, b .0), omega (arith, a .1, b .1))
 
 said-keeps : (w : Record) (ms : List (List ℕ)) → saidAll w ms .count ≡ w .count

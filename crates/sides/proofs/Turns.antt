@@ -78,7 +78,8 @@ some-turn : (ms : List (List ℕ)) → 0 < length ms → ltb 0 (length ms) ≡ t
 some-turn ms h = lt-ltb 0 (length ms) h
 
 -- as many as there are, or more, are asked for
-turns-again : (n q : ℕ) (x : Bool) (ts : List Turn) → length ts ≤ n → Alternate x ts → InOrder q (allOf ts) → turnsFrom n q (ofSide false ts) (ofSide true ts) ≡ ts
+turns-again : (n q : ℕ) (x : Bool) (ts : List Turn) → length ts ≤ n → Alternate x ts → InOrder q (allOf ts)
+    → turnsFrom n q (ofSide false ts) (ofSide true ts) ≡ ts
 unfolding turnsFrom runFrom
 turns-again zero q x [] h a o = refl
 turns-again (suc n) q x [] h a o = refl
@@ -94,7 +95,8 @@ turns-again (suc n) q x (t ∷ ts) h a o = go x (a .0) (a .1 .1) (order-front q 
   cut more = drop-at ms more (length ms) refl
 
   go : (y : Bool) → t .acceptor ≡ y → Alternate (not y) ts → InOrder q ms × InOrder (q + length ms) (allOf ts)
-      → ((p : ℕ) (z : Bool) (us : List Turn) → length us ≤ n → Alternate z us → InOrder p (allOf us) → turnsFrom n p (ofSide false us) (ofSide true us) ≡ us)
+      → ((p : ℕ) (z : Bool) (us : List Turn) → length us ≤ n → Alternate z us → InOrder p (allOf us)
+      → turnsFrom n p (ofSide false us) (ofSide true us) ≡ us)
       → turnsFrom (suc n) q (ofSide false (t ∷ ts)) (ofSide true (t ∷ ts)) ≡ t ∷ ts
   go false e b p ih =
       let run : runFrom q (ms ++ ofSide false ts) ≡ ms = run-all q ms (ofSide false ts) (p .0) (others-ahead true (q + length ms) ts b (p .1)) in
@@ -108,7 +110,8 @@ turns-again (suc n) q x (t ∷ ts) h a o = go x (a .0) (a .1 .1) (order-front q 
 few : (x : Bool) (ts : List Turn) → Alternate x ts → length ts ≤ length (ofSide false ts) + length (ofSide true ts)
 few x [] a = omega arith
 few x (t ∷ ts) a = go (t .acceptor) refl (few (not x) ts (a .1 .1)) where
-  go : (y : Bool) → t .acceptor ≡ y → length ts ≤ length (ofSide false ts) + length (ofSide true ts) → length (t ∷ ts) ≤ length (ofSide false (t ∷ ts)) + length (ofSide true (t ∷ ts))
+  go : (y : Bool) → t .acceptor ≡ y → length ts ≤ length (ofSide false ts) + length (ofSide true ts)
+      → length (t ∷ ts) ≤ length (ofSide false (t ∷ ts)) + length (ofSide true (t ∷ ts))
   go true e ih = rw e (let z = length-append (t .messages) (ofSide true ts) in let k = a .1 .0 in omega arith)
   go false e ih = rw e (let z = length-append (t .messages) (ofSide false ts) in let k = a .1 .0 in omega arith)
 
@@ -119,7 +122,8 @@ all-together : (ts : List Turn) → together ts ≡ length (ofSide false ts) + l
 unfolding together
 all-together [] = refl
 all-together (t ∷ ts) = go (t .acceptor) refl (all-together ts) where
-  go : (y : Bool) → t .acceptor ≡ y → together ts ≡ length (ofSide false ts) + length (ofSide true ts) → length (t .messages) + together ts ≡ length (ofSide false (t ∷ ts)) + length (ofSide true (t ∷ ts))
+  go : (y : Bool) → t .acceptor ≡ y → together ts ≡ length (ofSide false ts) + length (ofSide true ts)
+      → length (t .messages) + together ts ≡ length (ofSide false (t ∷ ts)) + length (ofSide true (t ∷ ts))
   go true e ih = rw e (let z = length-append (t .messages) (ofSide true ts) in omega arith)
   go false e ih = rw e (let z = length-append (t .messages) (ofSide false ts) in omega arith)
 

@@ -136,7 +136,8 @@ outcomeOf c s t =
 -- the reader has read the turn, and the writer's record goes on as if it had written it
 abbrev pub soPlayed : Case → Sides → Turn → Sides
 soPlayed c s t =
-    withSides (t .acceptor) (spoke (marksOf (t .acceptor) c) (sideOf (t .acceptor) s) (t .messages)) (outcomeOf c s t .answer .next) (outcomeOf c s t .transcript)
+    withSides (t .acceptor) (spoke (marksOf (t .acceptor) c) (sideOf (t .acceptor) s) (t .messages)) (outcomeOf c s t .answer .next)
+    (outcomeOf c s t .transcript)
 
 abbrev pub withTurn : Shown → Played → Played
 withTurn t p = record { turns = t ∷ p .turns; sides = p .sides; ending = p .ending }

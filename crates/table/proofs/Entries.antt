@@ -49,7 +49,8 @@ pub entry-length : (p : ℕ) (m : List ℕ) → length (numbers (entryOf (placed
 entry-length p m = omega (arith, length-numbers (entryOf (placedAt p m)), length-spans p (vectorsIn m))
 
 -- an array that lies behind its header leaves room for the header
-part-few : (header : ℕ) (m : List ℕ) (v : Vector) → header ≤ length m → ((extent v ≡ 0 → ⊥) → header ≤ v .offset .0) → length (part m v) + header ≤ length m
+part-few : (header : ℕ) (m : List ℕ) (v : Vector) → header ≤ length m → ((extent v ≡ 0 → ⊥) → header ≤ v .offset .0)
+    → length (part m v) + header ≤ length m
 part-few header m v h behind = elim (which (eqb (extent v) 0)) [
   | inl e ↦ let none : extent v ≡ 0 = eqb-true _ _ e in omega (arith, length-take (extent v) (drop (v .offset .0) m))
   | inr e ↦ omega (arith, length-take (extent v) (drop (v .offset .0) m), length-drop (v .offset .0) m, behind (eqb-false _ _ e), h)
@@ -67,8 +68,12 @@ module _ (p : ℕ) (m : List ℕ) (held : Held p m) where
   within-nego h =
       let shape = shape-nego kind h in
       let header : headerIn m ≡ 96 = ap headerOf shape in
-      let member : List·Memᴰ (extensionVector m) (vectorsIn m) = subst (λ (l : List Vector). List·Memᴰ (extensionVector m) l) (sym (all-vectors m (held .header) ∙ ap (λ (x : Shape). vectorsOf (contentOf x m)) shape)) (List·Memᴰ·tail (List·Memᴰ·head refl)) in
-      let few = part-few 96 m (extensionVector m) (let a = held .header in omega arith) (λ some. let a = held .lies (extensionVector m) member some .behind in omega arith) in
+      let member : List·Memᴰ (extensionVector m) (vectorsIn m) =
+      subst (λ (l : List Vector). List·Memᴰ (extensionVector m) l)
+      (sym (all-vectors m (held .header) ∙ ap (λ (x : Shape). vectorsOf (contentOf x m)) shape)) (List·Memᴰ·tail (List·Memᴰ·head refl)) in
+      let few =
+      part-few 96 m (extensionVector m) (let a = held .header in omega arith)
+      (λ some. let a = held .lies (extensionVector m) member some .behind in omega arith) in
       omega (arith, ap length (all-vectors m (held .header)), count-nego m kind h (extensionVector m) refl (part m (extensionVector m)) refl, few)
 
   within-one : 1 < kind → kind ≤ 6 → Within
@@ -80,8 +85,12 @@ module _ (p : ℕ) (m : List ℕ) (held : Held p m) where
   within-alert g h =
       let shape = shape-alert kind g (omega arith) (λ e. omega arith) in
       let header : headerIn m ≡ 72 = ap headerOf shape in
-      let member : List·Memᴰ (alertVector m) (vectorsIn m) = subst (λ (l : List Vector). List·Memᴰ (alertVector m) l) (sym (all-vectors m (held .header) ∙ ap (λ (x : Shape). vectorsOf (contentOf x m)) shape)) (List·Memᴰ·head refl) in
-      let few = part-few 72 m (alertVector m) (let a = held .header in omega arith) (λ some. let a = held .lies (alertVector m) member some .behind in omega arith) in
+      let member : List·Memᴰ (alertVector m) (vectorsIn m) =
+      subst (λ (l : List Vector). List·Memᴰ (alertVector m) l)
+      (sym (all-vectors m (held .header) ∙ ap (λ (x : Shape). vectorsOf (contentOf x m)) shape)) (List·Memᴰ·head refl) in
+      let few =
+      part-few 72 m (alertVector m) (let a = held .header in omega arith)
+      (λ some. let a = held .lies (alertVector m) member some .behind in omega arith) in
       omega (arith, ap length (all-vectors m (held .header)), count-alert m kind g h (alertVector m) refl (part m (alertVector m)) refl, few)
 
   pub entry-within : 24 + 8 * length (vectorsIn m) ≤ length m
@@ -104,7 +113,8 @@ table-first : (m : Placed) (ms : List Placed) → tableOf (m ∷ ms) ≡ numbers
 unfolding entriesOf
 table-first m ms = numbers-append (entryOf m) (entriesOf ms)
 
-table-within : (ms : List (List ℕ)) (place q : ℕ) (v : List ℕ) → Numbered q v ms → place + length (join ms) ≤ 65535 → length (tableOf (placedFrom place ms)) ≤ length (join ms)
+table-within : (ms : List (List ℕ)) (place q : ℕ) (v : List ℕ) → Numbered q v ms → place + length (join ms) ≤ 65535
+    → length (tableOf (placedFrom place ms)) ≤ length (join ms)
 table-within [] place q v e h = (unfold entriesOf numbers in omega arith)
 table-within (m ∷ ms) place q v e h =
     let held : Held place m = message-held place q v m (e .0) (omega (arith, length-append m (join ms))) in
@@ -122,7 +132,13 @@ pub table-fits : TableFits
 table-fits s ps e =
     let (ms, (split, places)) = accepted-splits s ps e in
     let same : length (tableOf (placedFrom 0 ms)) ≡ length (tableOf ps) = ap (λ (l : List Placed). length (tableOf l)) places in
-    omega (arith, same, ap length (split .joins), table-within ms 0 (headOf s .sequence) (headOf s .conversation) (split .numbered) (omega (arith, split .short, ap length (split .joins))))
+    omega (
+      arith,
+      same,
+      ap length (split .joins),
+      table-within ms 0 (headOf s .sequence) (headOf s .conversation) (split .numbered)
+          (omega (arith, split .short, ap length (split .joins))),
+    )
 
 -- ---- on the way through a token: `done` is the table of the messages passed
 pub record Walked (T : List ℕ) (rest : List ℕ) (place : ℕ) (done : List ℕ) : Type 0 where
@@ -167,8 +183,10 @@ module _ (T rest : List ℕ) (place : ℕ) (done : List ℕ) (on : Walked T rest
           come =
               on .come
               ∙ ap (λ (ms : List (List ℕ)). done ++ tableOf (placedFrom place ms)) (here .messages)
-              ∙ ap (λ (l : List ℕ). done ++ l) (table-first (placedAt place (firstOf rest)) (placedFrom (place + length (firstOf rest)) (here .left .ms)))
-              ∙ sym (append-assoc done (numbers (entryOf (placedAt place (firstOf rest)))) (tableOf (placedFrom (place + length (firstOf rest)) (here .left .ms))));
+              ∙ ap (λ (l : List ℕ). done ++ l)
+              (table-first (placedAt place (firstOf rest)) (placedFrom (place + length (firstOf rest)) (here .left .ms)))
+              ∙ sym (append-assoc done (numbers (entryOf (placedAt place (firstOf rest))))
+              (tableOf (placedFrom (place + length (firstOf rest)) (here .left .ms))));
         }))
 
     -- what is passed with this message is no longer than the table
@@ -191,7 +209,14 @@ pub record Sized (T rest : List ℕ) (n : ℕ) : Type 0 where
   pub short : length T ≤ 65535
 
 pub sized-begin : (s : List ℕ) → Accepts s → Sized (tableOf (messagesOf (tokenOf s))) s 0
-sized-begin s a = record { place = 0; done = []; walked = walked-begin s a; n-is = refl; short = omega (arith, table-fits s (messagesOf (tokenOf s)) a, accepted-short s a) }
+sized-begin s a =
+    record {
+      place = 0;
+      done = [];
+      walked = walked-begin s a;
+      n-is = refl;
+      short = omega (arith, table-fits s (messagesOf (tokenOf s)) a, accepted-short s a);
+    }
 
 module _ (T rest : List ℕ) (n : ℕ) (on : Sized T rest n) where
   pub sized-end : length rest ≤ 0 → n ≡ length T
@@ -233,16 +258,20 @@ module _ (p : ℕ) (m : List ℕ) (d : List ℕ) (at : ℕ) (room : at + (24 + 8
   pub entry-front : at + 24 ≤ length d
   entry-front = omega (arith, room)
 
-  module _ (n : ℕ) (n-is : n ≡ length (vectorsIn m)) (e : List ℕ) (next : ℕ) (w : Written d at 24 (numbers (fieldsIn (placedAt p m) ++ (n ∷ []))) e next) where
+  module _ (n : ℕ) (n-is : n ≡ length (vectorsIn m)) (e : List ℕ) (next : ℕ)
+      (w : Written d at 24 (numbers (fieldsIn (placedAt p m) ++ (n ∷ []))) e next) where
     pub entry-rest : next + 8 * length (vectorsIn m) ≤ length e
     entry-rest =
-        let l : length e ≡ length d = ap length (w .holds) ∙ length-put d at (numbers (fieldsIn (placedAt p m) ++ (n ∷ []))) (let a = w .size in omega arith) in
+        let l : length e ≡ length d =
+        ap length (w .holds) ∙ length-put d at (numbers (fieldsIn (placedAt p m) ++ (n ∷ []))) (let a = w .size in omega arith) in
         omega (arith, w .after)
 
-    pub entry-written : (e' : List ℕ) (next' : ℕ) → Written e next (8 * length (vectorsIn m)) (numbers (spansIn p (vectorsIn m))) e' next' → Written d at (24 + 8 * length (vectorsIn m)) (numbers (entryOf (placedAt p m))) e' next'
+    pub entry-written : (e' : List ℕ) (next' : ℕ) → Written e next (8 * length (vectorsIn m)) (numbers (spansIn p (vectorsIn m))) e' next'
+        → Written d at (24 + 8 * length (vectorsIn m)) (numbers (entryOf (placedAt p m))) e' next'
     entry-written e' next' x =
         subst (λ (l : List ℕ). Written d at (24 + 8 * length (vectorsIn m)) l e' next')
-        (sym (numbers-append (fieldsIn (placedAt p m) ++ (n ∷ [])) (spansIn p (vectorsIn m))) ∙ ap (λ (k : ℕ). numbers (fieldsIn (placedAt p m) ++ (k ∷ spansIn p (vectorsIn m)))) n-is)
+        (sym (numbers-append (fieldsIn (placedAt p m) ++ (n ∷ [])) (spansIn p (vectorsIn m)))
+        ∙ ap (λ (k : ℕ). numbers (fieldsIn (placedAt p m) ++ (k ∷ spansIn p (vectorsIn m)))) n-is)
         (both-written room w x)
 
 pub record Stored (T d rest : List ℕ) (place : ℕ) (e : List ℕ) (next : ℕ) : Type 0 where
@@ -251,8 +280,10 @@ pub record Stored (T d rest : List ℕ) (place : ℕ) (e : List ℕ) (next : ℕ
   pub written : Written d 0 (length done) done e next
   pub room : length T ≤ length d
 
-pub stored-begin : (s : List ℕ) → Accepts s → (d : List ℕ) → length (tableOf (messagesOf (tokenOf s))) ≤ length d → Stored (tableOf (messagesOf (tokenOf s))) d s 0 d 0
-stored-begin s a d h = record { done = []; walked = walked-begin s a; written = record { size = refl; after = refl; holds = sym (put-none d 0) }; room = h }
+pub stored-begin : (s : List ℕ) → Accepts s → (d : List ℕ) → length (tableOf (messagesOf (tokenOf s))) ≤ length d
+    → Stored (tableOf (messagesOf (tokenOf s))) d s 0 d 0
+stored-begin s a d h =
+    record { done = []; walked = walked-begin s a; written = record { size = refl; after = refl; holds = sym (put-none d 0) }; room = h }
 
 module _ (T d rest : List ℕ) (place : ℕ) (e : List ℕ) (next : ℕ) (on : Stored T d rest place e next) where
   pub stored-end : length rest ≤ 0 → Written d 0 (length T) T e next
@@ -282,14 +313,19 @@ module _ (T d rest : List ℕ) (place : ℕ) (e : List ℕ) (next : ℕ) (on : S
         let l : length e ≡ length d = ap length (on .written .holds) ∙ length-put d 0 (on .done) (omega (arith, here-room)) in
         omega (arith, on .written .after, here-room)
 
-    pub stored-on : (e' : List ℕ) (next' place' : ℕ) → place' ≡ place + length m → Written e next (24 + 8 * length (vectorsIn m)) (numbers (entryOf (placedAt place m))) e' next' → Stored T d (take (length rest - length m) (drop (length m) rest)) place' e' next'
+    pub stored-on : (e' : List ℕ) (next' place' : ℕ) → place' ≡ place + length m
+        → Written e next (24 + 8 * length (vectorsIn m)) (numbers (entryOf (placedAt place m))) e' next'
+        → Stored T d (take (length rest - length m) (drop (length m) rest)) place' e' next'
     stored-on e' next' place' place-is w =
-        let size : length (on .done) + (24 + 8 * length (vectorsIn m)) ≡ length (on .done ++ numbers (entryOf (placedAt place m))) = omega (arith, length-append (on .done) (numbers (entryOf (placedAt place m))), entry-length place m) in
+        let size : length (on .done) + (24 + 8 * length (vectorsIn m)) ≡ length (on .done ++ numbers (entryOf (placedAt place m))) =
+        omega (arith, length-append (on .done) (numbers (entryOf (placedAt place m))), entry-length place m) in
         subst (λ (p : ℕ). Stored T d (take (length rest - length m) (drop (length m) rest)) p e' next') (sym place-is)
         (record {
           done = on .done ++ numbers (entryOf (placedAt place m));
           walked = walked-on T rest place (on .done) (on .walked) more m m-is;
-          written = subst (λ (n : ℕ). Written d 0 n (on .done ++ numbers (entryOf (placedAt place m))) e' next') size (both-written (omega (arith, here-room)) (on .written) w);
+          written =
+              subst (λ (n : ℕ). Written d 0 n (on .done ++ numbers (entryOf (placedAt place m))) e' next') size
+              (both-written (omega (arith, here-room)) (on .written) w);
           room = on .room;
         })
 

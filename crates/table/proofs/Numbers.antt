@@ -21,7 +21,8 @@ use Rattle.table.specs.Table.{vectorPlace, spansIn, numbers, Held}
 pub numbers-append : (xs ys : List ℕ) → numbers (xs ++ ys) ≡ numbers xs ++ numbers ys
 unfolding numbers
 numbers-append [] ys = refl
-numbers-append (x ∷ xs) ys = ap (λ (l : List ℕ). octetsOf 4 x ++ l) (numbers-append xs ys) ∙ sym (append-assoc (octetsOf 4 x) (numbers xs) (numbers ys))
+numbers-append (x ∷ xs) ys =
+    ap (λ (l : List ℕ). octetsOf 4 x ++ l) (numbers-append xs ys) ∙ sym (append-assoc (octetsOf 4 x) (numbers xs) (numbers ys))
 
 pub length-numbers : (ns : List ℕ) → length (numbers ns) ≡ 4 * length ns
 unfolding numbers
@@ -39,7 +40,8 @@ length-spans p [] = refl
 length-spans p (v ∷ vs) = omega (arith, length-spans p vs)
 
 -- what two writers put, one behind the other
-pub both-written : {d d1 d2 v w : List ℕ} {at n k a1 a2 : ℕ} → at + (n + k) ≤ length d → Written d at n v d1 a1 → Written d1 a1 k w d2 a2 → Written d at (n + k) (v ++ w) d2 a2
+pub both-written : {d d1 d2 v w : List ℕ} {at n k a1 a2 : ℕ} → at + (n + k) ≤ length d → Written d at n v d1 a1 → Written d1 a1 k w d2 a2
+    → Written d at (n + k) (v ++ w) d2 a2
 both-written {d} {d1} {d2} {v} {w} {at} {n} {k} {a1} {a2} room x y =
     let e : v ++ (w ++ []) ≡ v ++ w = ap (λ (l : List ℕ). v ++ l) (append-nil w) in
     let size : length (v ++ (w ++ [])) ≡ n + k = ap length e ∙ (let a = x .size in let b = y .size in omega (arith, length-append v w)) in
@@ -55,7 +57,8 @@ module _ (p : ℕ) (m : List ℕ) (held : Held p m) (d : List ℕ) (at : ℕ) (r
   spans-none = let z : at ≡ at + 0 = omega arith in record { size = refl; after = z; holds = sym (put-none d at) }
 
   module _ (k : ℕ) (e : List ℕ) (next : ℕ) (on : Spans k e next) where
-    pub spans-all : (n : ℕ) → n ≡ length (vectorsIn m) → n ≤ k → k ≤ n → Written d at (8 * length (vectorsIn m)) (numbers (spansIn p (vectorsIn m))) e next
+    pub spans-all : (n : ℕ) → n ≡ length (vectorsIn m) → n ≤ k → k ≤ n
+        → Written d at (8 * length (vectorsIn m)) (numbers (spansIn p (vectorsIn m))) e next
     spans-all n n-is h g =
         let same : k ≡ length (vectorsIn m) = omega arith in
         let whole : take k (vectorsIn m) ≡ vectorsIn m = take-all k (vectorsIn m) (omega arith) in
@@ -68,7 +71,8 @@ module _ (p : ℕ) (m : List ℕ) (held : Held p m) (d : List ℕ) (at : ℕ) (r
 
       pub span-room : next + 8 ≤ length e
       span-room =
-          let l : length e ≡ length d = ap length (on .holds) ∙ length-put d at (numbers (spansIn p (take k (vectorsIn m)))) (omega (arith, on .size, held-here)) in
+          let l : length e ≡ length d =
+          ap length (on .holds) ∙ length-put d at (numbers (spansIn p (take k (vectorsIn m)))) (omega (arith, on .size, held-here)) in
           omega (arith, on .after, held-here)
 
       module _ (v : Vector) (v-is : v ≡ vectorIn m k) where
@@ -76,9 +80,12 @@ module _ (p : ℕ) (m : List ℕ) (held : Held p m) (d : List ℕ) (at : ℕ) (r
         unfolding spansIn
         span-next e' next' w =
             let size : 8 * k + 8 ≡ 8 * (k + 1) = omega arith in
-            let one : take (k + 1) (vectorsIn m) ≡ take k (vectorsIn m) ++ (v ∷ []) = (rw add-one (take-suc (vectorsIn m) k noVector held-here)) ∙ ap (λ (x : Vector). take k (vectorsIn m) ++ (x ∷ [])) (sym v-is) in
-            let is : numbers (spansIn p (take k (vectorsIn m))) ++ numbers (vectorPlace p v ∷ extent v ∷ []) ≡ numbers (spansIn p (take (k + 1) (vectorsIn m))) =
-            sym (ap (λ (l : List Vector). numbers (spansIn p l)) one ∙ ap numbers (spans-append p (take k (vectorsIn m)) (v ∷ [])) ∙ numbers-append (spansIn p (take k (vectorsIn m))) (vectorPlace p v ∷ extent v ∷ [])) in
+            let one : take (k + 1) (vectorsIn m) ≡ take k (vectorsIn m) ++ (v ∷ []) =
+            (rw add-one (take-suc (vectorsIn m) k noVector held-here)) ∙ ap (λ (x : Vector). take k (vectorsIn m) ++ (x ∷ [])) (sym v-is) in
+            let is : numbers (spansIn p (take k (vectorsIn m))) ++ numbers (vectorPlace p v ∷ extent v
+            ∷ []) ≡ numbers (spansIn p (take (k + 1) (vectorsIn m))) =
+            sym (ap (λ (l : List Vector). numbers (spansIn p l)) one ∙ ap numbers (spans-append p (take k (vectorsIn m)) (v ∷ []))
+            ∙ numbers-append (spansIn p (take k (vectorsIn m))) (vectorPlace p v ∷ extent v ∷ [])) in
             subst (λ (l : List ℕ). Written d at (8 * (k + 1)) l e' next') is
             (subst (λ (j : ℕ). Written d at j (numbers (spansIn p (take k (vectorsIn m))) ++ numbers (vectorPlace p v ∷ extent v ∷ [])) e' next') size
             (both-written (omega (arith, held-here)) on w))

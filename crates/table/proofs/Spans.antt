@@ -10,7 +10,8 @@ use Rattle.vector.specs.Vector.{extent}
 use Rattle.message.specs.Layout.{headOf}
 use Rattle.table.specs.Table.{placedAt, fieldsIn, vectorPlace}
 
-pub fields-are : (p : ℕ) (m : List ℕ) (a b c d : ℕ) → a ≡ le 4 m 8 → b ≡ le 4 m 12 → c ≡ le 4 m 16 → d ≡ le 4 m 20 → p ∷ a ∷ b ∷ c ∷ d ∷ [] ≡ fieldsIn (placedAt p m)
+pub fields-are : (p : ℕ) (m : List ℕ) (a b c d : ℕ) → a ≡ le 4 m 8 → b ≡ le 4 m 12 → c ≡ le 4 m 16 → d ≡ le 4 m 20
+    → p ∷ a ∷ b ∷ c ∷ d ∷ [] ≡ fieldsIn (placedAt p m)
 unfolding headOf
 fields-are p m a b c d ea eb ec ed = rw (ea, eb, ec, ed)
 

@@ -66,7 +66,8 @@ fn put_span(d: &mut [u8], at: usize, place: TokenPlace, v: Vector) -> usize
 fn put_spans(d: &mut [u8], at: usize, place: TokenPlace, m: &[u8]) -> usize
     requires { ⌜ Held (place .0) (now m) ⌝ }
     requires { ⌜ at + 8 * length (vectorsIn (now m)) ≤ length (now d) ⌝ }
-    ensures { λ r. ⌜ Written (now (d .entry)) at (8 * length (vectorsIn (now (m .entry)))) (numbers (spansIn (place .0) (vectorsIn (now (m .entry))))) (now (d .exit)) r ⌝ }
+    ensures { λ r. ⌜ Written (now (d .entry)) at (8 * length (vectorsIn (now (m .entry)))) (numbers (spansIn (place .0) (vectorsIn (now (m .entry)))))
+        (now (d .exit)) r ⌝ }
 {
     let n = vector_count(m);
     let mut next = at;
@@ -95,7 +96,8 @@ fn put_fields(d: &mut [u8], at: usize, place: TokenPlace, m: &[u8], n: u32) -> u
 fn put_entry(d: &mut [u8], at: usize, place: TokenPlace, m: &[u8]) -> usize
     requires { ⌜ Held (place .0) (now m) ⌝ }
     requires { ⌜ at + (24 + 8 * length (vectorsIn (now m))) ≤ length (now d) ⌝ }
-    ensures { λ r. ⌜ Written (now (d .entry)) at (24 + 8 * length (vectorsIn (now (m .entry)))) (numbers (entryOf (placedAt (place .0) (now (m .entry))))) (now (d .exit)) r ⌝ }
+    ensures { λ r. ⌜ Written (now (d .entry)) at (24 + 8 * length (vectorsIn (now (m .entry))))
+        (numbers (entryOf (placedAt (place .0) (now (m .entry))))) (now (d .exit)) r ⌝ }
 {
     let spans_at = put_fields(d, at, place, m, vector_count(m) as u32);
     put_spans(d, spans_at, place, m)
@@ -121,7 +123,8 @@ pub fn table_size(token: &[u8]) -> usize
 pub fn put_table(d: &mut [u8], token: &[u8]) -> usize
     requires { ⌜ Accepts (now token) ⌝ }
     requires { ⌜ length (tableOf (messagesOf (tokenOf (now token)))) ≤ length (now d) ⌝ }
-    ensures { λ r. ⌜ Written (now (d .entry)) 0 (length (tableOf (messagesOf (tokenOf (now (token .entry)))))) (tableOf (messagesOf (tokenOf (now (token .entry))))) (now (d .exit)) r ⌝ }
+    ensures { λ r. ⌜ Written (now (d .entry)) 0 (length (tableOf (messagesOf (tokenOf (now (token .entry))))))
+        (tableOf (messagesOf (tokenOf (now (token .entry))))) (now (d .exit)) r ⌝ }
 {
     let mut rest = token;
     let mut place = TokenPlace(0);

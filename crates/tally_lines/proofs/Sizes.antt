@@ -56,7 +56,13 @@ scheme-size : (s : Id) (n : ℕ) → octetsOf (schemeLine s n) ≤ 75
 unfolding schemeLine
 scheme-size s n =
     let rest : octetsOf (quoted " count=" ∷ decimal64 n ∷ quoted "\n" ∷ []) ≤ 28 = simp length-append (omega (arith, length-decimal 20 n)) in
-    omega (arith, length-joined (quoted "scheme " ∷ []) (idText s ++ (quoted " count=" ∷ decimal64 n ∷ quoted "\n" ∷ [])), length-joined (idText s) (quoted " count=" ∷ decimal64 n ∷ quoted "\n" ∷ []), length-glyphs s idOrder)
+    omega (
+      arith,
+      length-joined (quoted "scheme " ∷ []) (idText s ++ (quoted " count=" ∷ decimal64 n ∷ quoted "\n" ∷ [])),
+      length-joined (idText s)
+          (quoted " count=" ∷ decimal64 n ∷ quoted "\n" ∷ []),
+      length-glyphs s idOrder,
+    )
 
 schemes-size : (l : List Id) (ns : List ℕ) → octetsOf (schemeLines l ns) ≤ 75 * length l
 unfolding schemeLines
@@ -67,12 +73,28 @@ schemes-size (s ∷ l) (n ∷ ns) = omega (arith, length-joined (schemeLine s n)
 octets-size : (t : Totals) → octetsOf (octetLines t) ≤ 84
 unfolding octetLines
 octets-size t =
-    omega (arith, length-joined (totalLine (quoted "headers=") (t .headers)) (totalLine (quoted "vectors=") (t .vectors) ++ totalLine (quoted "bare=") (t .bare)), length-joined (totalLine (quoted "vectors=") (t .vectors)) (totalLine (quoted "bare=") (t .bare)), total-size (quoted "headers=") (t .headers), total-size (quoted "vectors=") (t .vectors), total-size (quoted "bare=") (t .bare))
+    omega (
+      arith,
+      length-joined (totalLine (quoted "headers=") (t .headers))
+          (totalLine (quoted "vectors=") (t .vectors) ++ totalLine (quoted "bare=") (t .bare)),
+      length-joined
+          (totalLine (quoted "vectors=") (t .vectors)) (totalLine (quoted "bare=") (t .bare)),
+      total-size (quoted "headers=") (t .headers),
+      total-size
+          (quoted "vectors=") (t .vectors),
+      total-size (quoted "bare=") (t .bare),
+    )
 
 last-size : (t : Totals) (u : ℕ) → octetsOf (lastLines t u) ≤ 70
 unfolding lastLines
 last-size t u =
-    omega (arith, length-joined (totalLine (quoted "others count=") (t .offers .others)) (totalLine (quoted "unopened count=") u), total-size (quoted "others count=") (t .offers .others), total-size (quoted "unopened count=") u)
+    omega (
+      arith,
+      length-joined (totalLine (quoted "others count=") (t .offers .others)) (totalLine (quoted "unopened count=") u),
+      total-size
+          (quoted "others count=") (t .offers .others),
+      total-size (quoted "unopened count=") u,
+    )
 
 module _ (t : Tally) (u : ℕ) (types : length (t .types) ≡ 8) (answers : length (t .answers) ≡ 32) where
   all-size : t .table .count ≤ 64 → octetsOf (tallyText (totalsIn t) u) ≤ 8192

@@ -82,7 +82,8 @@ fn scheme_line(d: &mut [u8], at: usize, scheme: &[u8], n: u64) -> usize
 // The counts of the first n schemes.
 fn scheme_lines(d: &mut [u8], at: usize, ids: &[u8], counts: &[u64], n: usize) -> usize
     requires { ⌜ (n * 16 ≤ length (now ids)) × (n ≤ length (now counts)) ⌝ }
-    ensures { λ r. ⌜ text (now (d .exit)) r ≡ written (schemeLines (idsAt n (now (ids .entry))) (take n (now (counts .entry)))) (text (now (d .entry)) at) ⌝ }
+    ensures { λ r. ⌜ text (now (d .exit)) r ≡ written (schemeLines (idsAt n (now (ids .entry))) (take n (now (counts .entry))))
+        (text (now (d .entry)) at) ⌝ }
 {
     let mut next = at;
     let mut k: usize = 0;
@@ -100,7 +101,8 @@ fn scheme_lines(d: &mut [u8], at: usize, ids: &[u8], counts: &[u64], n: usize) -
 // The counts of the schemes of a table.
 fn table_lines(d: &mut [u8], at: usize, table: Table) -> usize
     requires { ⌜ table .count ≤ 64 ⌝ }
-    ensures { λ r. ⌜ text (now (d .exit)) r ≡ written (schemeLines (idsAt (table .count) (table .ids)) (take (table .count) (table .counts))) (text (now (d .entry)) at) ⌝ }
+    ensures { λ r. ⌜ text (now (d .exit)) r ≡ written (schemeLines (idsAt (table .count) (table .ids)) (take (table .count) (table .counts)))
+        (text (now (d .entry)) at) ⌝ }
 {
     let ids = table.ids;
     let counts = table.counts;

@@ -129,4 +129,14 @@ limits-bounded t e =
 pub bounded-limits : (t : Tally) → Bounded LIMIT t → inLimits t ≡ true
 unfolding inLimits totalsWithin
 bounded-limits t b =
-    rw (le-leb _ _ (b .few), at-within (t .types) (b .types), at-within (t .answers) (b .answers), at-within (t .table .counts) (b .counts), le-leb _ _ (b .others), le-leb _ _ (b .headers), le-leb _ _ (b .vectors), le-leb _ _ (b .bare))
+    rw (
+      le-leb _ _ (b .few),
+      at-within (t .types) (b .types),
+      at-within (t .answers) (b .answers),
+      at-within (t .table .counts)
+          (b .counts),
+      le-leb _ _ (b .others),
+      le-leb _ _ (b .headers),
+      le-leb _ _ (b .vectors),
+      le-leb _ _ (b .bare),
+    )

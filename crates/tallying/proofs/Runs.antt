@@ -111,7 +111,8 @@ module _ (t : Tally) (ms : List (List ℕ)) (fs : List File) (a : Agrees t ms fs
   table-kept m true = kept-offered (t .table) (schemesIn m) (a .kept) (listed-ids m)
   table-kept m false = a .kept
 
-  table-says : (m : List ℕ) (b : Bool) → offersIn (pickTable b (offeredIn (t .table) (schemesIn m)) (t .table)) ≡ offersOf (cond b (listsIn ms ++ (schemesIn m ∷ [])) (listsIn ms))
+  table-says : (m : List ℕ) (b : Bool)
+      → offersIn (pickTable b (offeredIn (t .table) (schemesIn m)) (t .table)) ≡ offersOf (cond b (listsIn ms ++ (schemesIn m ∷ [])) (listsIn ms))
   table-says m true =
       table-offers (t .table) (schemesIn m) (a .kept) (listed-ids m)
       ∙ ap (λ (o : Offers). withOffer o (schemesIn m)) (a .offers) ∙ offer-counted (listsIn ms) (schemesIn m)
@@ -156,14 +157,17 @@ agrees-messages t ms (k ∷ ks) fs a =
 messages-snoc : (fs : List File) (f : File) → allMessages (fs ++ (f ∷ [])) ≡ allMessages fs ++ messagesIn f
 unfolding allMessages
 messages-snoc [] f = append-nil (messagesIn f)
-messages-snoc (g ∷ fs) f = ap (λ (l : List (List ℕ)). messagesIn g ++ l) (messages-snoc fs f) ∙ sym (append-assoc (messagesIn g) (allMessages fs) (messagesIn f))
+messages-snoc (g ∷ fs) f =
+    ap (λ (l : List (List ℕ)). messagesIn g ++ l) (messages-snoc fs f) ∙ sym (append-assoc (messagesIn g) (allMessages fs) (messagesIn f))
 
-agrees-file : (t : Tally) (fs : List File) (f : File) → Agrees t (allMessages fs) fs → Agrees (tallied t f) (allMessages (fs ++ (f ∷ []))) (fs ++ (f ∷ []))
+agrees-file : (t : Tally) (fs : List File) (f : File) → Agrees t (allMessages fs) fs
+    → Agrees (tallied t f) (allMessages (fs ++ (f ∷ []))) (fs ++ (f ∷ []))
 agrees-file t fs f a =
     subst (λ (l : List (List ℕ)). Agrees (tallied t f) l (fs ++ (f ∷ []))) (sym (messages-snoc fs f))
     (agrees-answer (withMessages t (messagesIn f)) (allMessages fs ++ messagesIn f) fs (agrees-messages t (allMessages fs) (messagesIn f) fs a) f)
 
-bounded-messages : (n q : ℕ) (v : List ℕ) (ms : List (List ℕ)) (t : Tally) → Numbered q v ms → Bounded n t → Bounded (n + length (join ms)) (withMessages t ms)
+bounded-messages : (n q : ℕ) (v : List ℕ) (ms : List (List ℕ)) (t : Tally) → Numbered q v ms → Bounded n t
+    → Bounded (n + length (join ms)) (withMessages t ms)
 unfolding withMessages
 bounded-messages n q v [] t e b = bounded-more n (n + 0) t b (omega arith)
 bounded-messages n q v (m ∷ ms) t e b =
@@ -178,12 +182,14 @@ bounded-file n t (Opened s) b =
     bounded-more (n + 65535 + 1) (n + 65536) _ (bounded-answer (n + 65535) _ (answerOf (Opened s)) (go (tokenOf s) refl)) (omega arith) where
       go : (r : Reading) → tokenOf s ≡ r → Bounded (n + 65535) (withMessages t (allOctets (messagesOf (tokenOf s))))
       go (Refused c p) e =
-          subst (λ (r : Reading). Bounded (n + 65535) (withMessages t (allOctets (messagesOf r)))) (sym e) (unfold withMessages in (bounded-more n (n + 65535) t b (omega arith)))
+          subst (λ (r : Reading). Bounded (n + 65535) (withMessages t (allOctets (messagesOf r)))) (sym e)
+          (unfold withMessages in (bounded-more n (n + 65535) t b (omega arith)))
       go (Accepted ps) e =
           let ok : Accepts s = rw e refl in
           let (w, places) = whole s ok in
           subst (λ (ms : List (List ℕ)). Bounded (n + 65535) (withMessages t ms)) (sym (left-octets s w places))
-          (bounded-more (n + length (join (w .ms))) (n + 65535) _ (bounded-messages n (w .q) (w .v) (w .ms) t (w .numbered) b) (omega (arith, ap length (w .joins), accepted-short s ok)))
+          (bounded-more (n + length (join (w .ms))) (n + 65535) _ (bounded-messages n (w .q) (w .v) (w .ms) t (w .numbered) b)
+          (omega (arith, ap length (w .joins), accepted-short s ok)))
 
 -- ---- a run
 record Run (t : Tally) (fs : List File) : Type 0 where
@@ -202,7 +208,8 @@ run-file t fs f r h =
     subst (λ (x : Tally). Run x (fs ++ (f ∷ []))) (sym (ap (λ (c : Counted). c .tally) (counted-inside t f (run-limits t fs r h))))
     (record {
       agrees = agrees-file t fs f (r .agrees);
-      bounded = bounded-more (65536 * length fs + 65536) _ _ (bounded-file (65536 * length fs) t f (r .bounded)) (omega (arith, length-append fs (f ∷ [])));
+      bounded =
+          bounded-more (65536 * length fs + 65536) _ _ (bounded-file (65536 * length fs) t f (r .bounded)) (omega (arith, length-append fs (f ∷ [])));
     })
 
 run-files : (t : Tally) (ks fs : List File) → Run t ks → length ks + length fs ≤ 65536 → Run (runOf t fs) (ks ++ fs)
@@ -220,8 +227,27 @@ zeros-at (suc n) (suc j) = zeros-at n j
 run-empty : Run emptyTally []
 unfolding ofEach allMessages typed answered sumOf listsIn
 run-empty = record {
-  agrees = record { types = refl; answers = refl; headers = refl; vectors = refl; bare = refl; offers = none; kept = record { octets = length-replicate {A = ℕ} 1024 0; places = length-replicate {A = ℕ} 64 0; few = omega arith } };
-  bounded = record { few = omega arith; types = λ j. zeros-at 8 j; answers = λ j. zeros-at 32 j; counts = λ j. zeros-at 64 j; others = omega arith; headers = omega arith; vectors = omega arith; bare = omega arith };
+  agrees =
+      record {
+        types = refl;
+        answers = refl;
+        headers = refl;
+        vectors = refl;
+        bare = refl;
+        offers = none;
+        kept = record { octets = length-replicate {A = ℕ} 1024 0; places = length-replicate {A = ℕ} 64 0; few = omega arith };
+      };
+  bounded =
+      record {
+        few = omega arith;
+        types = λ j. zeros-at 8 j;
+        answers = λ j. zeros-at 32 j;
+        counts = λ j. zeros-at 64 j;
+        others = omega arith;
+        headers = omega arith;
+        vectors = omega arith;
+        bare = omega arith;
+      };
 } where
   none : offersIn (emptyTally .table) ≡ offersOf []
   none = unfold idsAt offersOf firstSchemes enteredAll mentioned listings beyond in refl

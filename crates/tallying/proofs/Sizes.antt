@@ -48,13 +48,22 @@ file-size (Opened s) = go (tokenOf s) refl where
   go (Accepted ps) e =
       let ok : Accepts s = rw e refl in
       let (w, places) = whole s ok in
-      ap allThree (left-octets s w places) ∙ messages-size (w .q) (w .v) (w .ms) (w .numbered) ∙ ap length (w .joins) ∙ sym (ap (λ (r : Reading). sizeBy r (length s)) e)
+      ap allThree (left-octets s w places) ∙ messages-size (w .q) (w .v) (w .ms) (w .numbered) ∙ ap length (w .joins)
+      ∙ sym (ap (λ (r : Reading). sizeBy r (length s)) e)
 
 files-size : (fs : List File) → allThree (allMessages fs) ≡ allSizes fs
 unfolding allMessages allSizes
 files-size [] = unfold sumOf in refl
 files-size (f ∷ fs) =
-    omega (arith, file-size f, files-size fs, sum-append headerOctets (messagesIn f) (allMessages fs), sum-append vectorOctets (messagesIn f) (allMessages fs), sum-append bareOctets (messagesIn f) (allMessages fs))
+    omega (
+      arith,
+      file-size f,
+      files-size fs,
+      sum-append headerOctets (messagesIn f) (allMessages fs),
+      sum-append vectorOctets (messagesIn f)
+          (allMessages fs),
+      sum-append bareOctets (messagesIn f) (allMessages fs),
+    )
 
 pub octets-of-files : OctetsOfFiles
 unfolding totalsOf

@@ -105,7 +105,15 @@ module _ (t : Tally) (m : List ℕ) (room : ℕ) (r : Ready t m room) where
 module _ (t : Tally) (m : List ℕ) (kind : ℕ) (kind-is : kind ≡ le 4 m 8) where
   pub message-is : (o : Octets) → o ≡ octetsIn m → (types : List ℕ) → types ≡ oneMore (t .types) kind
       → (table : Table) → table ≡ pickTable (leb kind 1) (offeredIn (t .table) (schemesIn m)) (t .table)
-      → _≡_ {A = Tally} (record { types = types; answers = t .answers; table = table; headers = t .headers + o .headers; vectors = t .vectors + o .vectors; bare = t .bare + o .bare }) (withMessage t m)
+      → _≡_ {A = Tally}
+      (record {
+        types = types;
+        answers = t .answers;
+        table = table;
+        headers = t .headers + o .headers;
+        vectors = t .vectors + o .vectors;
+        bare = t .bare + o .bare;
+      }) (withMessage t m)
   unfolding withMessage headOf
   message-is o o-is types types-is table table-is = rw (types-is, table-is, o-is, kind-is)
 
@@ -177,7 +185,8 @@ module _ (x : Tally) (s rest : List ℕ) (t : Tally) (on : Going-on x s rest t) 
         subst (λ (l : List ℕ). Going-on x s l u) (sym (tail-all rest (length m) ∙ ap (λ (l : List ℕ). drop (length l) rest) m-is))
         (record {
           left = here .left;
-          come = on .come ∙ ap (withMessages t) (here .messages) ∙ ap (λ (v : Tally). withMessages v (here .left .ms)) (ap (withMessage t) (sym m-is) ∙ sym u-is);
+          come = on .come ∙ ap (withMessages t) (here .messages)
+              ∙ ap (λ (v : Tally). withMessages v (here .left .ms)) (ap (withMessage t) (sym m-is) ∙ sym u-is);
           short = on .short;
           within = omega (arith, length-drop (length (firstOf rest)) rest, on .within);
           bounded = subst (λ (v : Tally). Bounded (LIMIT + (length s - length (drop (length (firstOf rest)) rest))) v) (sym u-is)
@@ -198,7 +207,8 @@ pub ruleset walks = (begin, at-end, walk-fits, walk-less, walk-ready, walk-on)
 
 -- ---- `with_answer`
 pub answer-is : (t : Tally) (n : ℕ) (answers : List ℕ) → answers ≡ oneMore (t .answers) n
-    → _≡_ {A = Tally} (record { types = t .types; answers = answers; table = t .table; headers = t .headers; vectors = t .vectors; bare = t .bare }) (withAnswer t n)
+    → _≡_ {A = Tally} (record { types = t .types; answers = answers; table = t .table; headers = t .headers; vectors = t .vectors; bare = t .bare })
+    (withAnswer t n)
 unfolding withAnswer
 answer-is t n answers e = rw e
 
@@ -237,20 +247,30 @@ module _ (t : Tally) (b : Bool) (b-is : b ≡ inLimits t) where
 
         module _ (c : Tally) (c-is : c ≡ withMessages t (allOctets (messagesOf (tokenOf s)))) where
           pub small-counted : Small (c .answers)
-          small-counted j = omega (arith, inside .answers j, ap (λ (l : List ℕ). getD l j 0) (ap (λ (y : Tally). y .answers) c-is ∙ answers-stay t (allOctets (messagesOf (tokenOf s)))))
+          small-counted j =
+              omega (
+                arith,
+                inside .answers j,
+                ap (λ (l : List ℕ). getD l j 0)
+                    (ap (λ (y : Tally). y .answers) c-is ∙ answers-stay t (allOctets (messagesOf (tokenOf s)))),
+              )
 
           pub file-counted : (x : Tally) → x ≡ withAnswer c 0 → _≡_ {A = Counted} (record { refusal = 0; tally = x }) (countedOf t (Opened s))
           file-counted x x-is =
               let z : 0 ≡ answerOf (Opened s) = sym (ap numberOf accepted) in
               ap (λ (k : ℕ). record { refusal = k; tally = x }) z
-              ∙ counted-as (Opened s) x (x-is ∙ ap (λ (y : Tally). withAnswer y 0) c-is ∙ ap (withAnswer (withMessages t (allOctets (messagesOf (tokenOf s))))) z)
+              ∙ counted-as (Opened s) x
+              (x-is ∙ ap (λ (y : Tally). withAnswer y 0) c-is ∙ ap (withAnswer (withMessages t (allOctets (messagesOf (tokenOf s))))) z)
 
-      pub file-refused : (n : ℕ) (place : TokenPlace) → r ≡ answer.Refused n place → (x : Tally) → x ≡ withAnswer t n → _≡_ {A = Counted} (record { refusal = n; tally = x }) (countedOf t (Opened s))
+      pub file-refused : (n : ℕ) (place : TokenPlace) → r ≡ answer.Refused n place → (x : Tally) → x ≡ withAnswer t n
+          → _≡_ {A = Counted} (record { refusal = n; tally = x }) (countedOf t (Opened s))
       file-refused n place here x x-is =
           let no = answer-refuses s r r-is n place here in
           let z : n ≡ answerOf (Opened s) = sym (ap numberOf no) in
-          let m : withMessages t (allOctets (messagesOf (tokenOf s))) ≡ t = ap (λ (q : Reading). withMessages t (allOctets (messagesOf q))) no ∙ (unfold withMessages in refl) in
+          let m : withMessages t (allOctets (messagesOf (tokenOf s))) ≡ t =
+          ap (λ (q : Reading). withMessages t (allOctets (messagesOf q))) no ∙ (unfold withMessages in refl) in
           ap (λ (k : ℕ). record { refusal = k; tally = x }) z
-          ∙ counted-as (Opened s) x (x-is ∙ ap (λ (y : Tally). withAnswer y n) (sym m) ∙ ap (withAnswer (withMessages t (allOctets (messagesOf (tokenOf s))))) z)
+          ∙ counted-as (Opened s) x
+          (x-is ∙ ap (λ (y : Tally). withAnswer y n) (sym m) ∙ ap (withAnswer (withMessages t (allOctets (messagesOf (tokenOf s))))) z)
 
 pub ruleset counteds = (outside, small-answers, missing-counted, start-here, small-counted, file-counted, file-refused)

@@ -51,7 +51,8 @@ digits-decimal w n k o h f = go k (f .0) (f .1) (f .2) (few w n k o h f) where
   go (suc k) a b c m = decimal-digits w k n (omega arith) b (λ z. rw (pred-suc k) at (c (omega arith)))
 
 -- the digits of a number that were appended
-module _ (out : List ℕ) (k n : ℕ) (fewest : Fewest 10 1 n k) (is : take k out ≡ digits 10 k n) (t x : Text) (e : x ≡ written (take k out ∷ []) t) where
+module _ (out : List ℕ) (k n : ℕ) (fewest : Fewest 10 1 n k) (is : take k out ≡ digits 10 k n) (t x : Text)
+    (e : x ≡ written (take k out ∷ []) t) where
   pub number-written : n < 4294967296 → x ≡ written (decimal n ∷ []) t
   number-written h = e ∙ ap (λ (v : List ℕ). written (v ∷ []) t) (is ∙ digits-decimal 10 n k (omega arith) (omega arith) fewest)
 
@@ -75,9 +76,13 @@ module _ (z : ℤ) (f : SFits w32 z) (m : ℕ) (m-is : m ≡ natAbs (toZ w32 (of
   abs = m-is ∙ ap natAbs (toZ-ofZ f)
 
   pub signed-plain : ltZ (toZ w32 (ofZ w32 z)) (pos 0) ≡ false → u ≡ written (decimal m ∷ []) t → u ≡ written (signed z) t
-  signed-plain h e = let a = is-above z f h in e ∙ ap (λ (n : ℕ). written (decimal n ∷ []) t) (abs ∙ a .abs-is) ∙ ap (λ (y : ℤ). written (signed y) t) (sym (a .is))
+  signed-plain h e =
+      let a = is-above z f h in e ∙ ap (λ (n : ℕ). written (decimal n ∷ []) t) (abs ∙ a .abs-is) ∙ ap (λ (y : ℤ). written (signed y) t) (sym (a .is))
 
   pub signed-minus : ltZ (toZ w32 (ofZ w32 z)) (pos 0) ≡ true → u ≡ written (quoted "-" ∷ decimal m ∷ []) t → u ≡ written (signed z) t
-  signed-minus h e = let b = is-below z f h in e ∙ ap (λ (n : ℕ). written (quoted "-" ∷ decimal n ∷ []) t) (abs ∙ b .abs-is) ∙ ap (λ (y : ℤ). written (signed y) t) (sym (b .is))
+  signed-minus h e =
+      let b =
+      is-below z f h in
+      e ∙ ap (λ (n : ℕ). written (quoted "-" ∷ decimal n ∷ []) t) (abs ∙ b .abs-is) ∙ ap (λ (y : ℤ). written (signed y) t) (sym (b .is))
 
 pub ruleset numbers = (number-written, wide-written)

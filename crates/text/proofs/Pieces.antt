@@ -27,7 +27,9 @@ take-put d at v h =
 -- the slice keeps its length
 length-appended : (t : Text) (v : List ℕ) → length (appended t v .octets) ≡ length (t .octets)
 unfolding appended
-length-appended t v = elim (which (leb (t .next + length v) (length (t .octets)))) [ inl e ↦ rw e (length-put (t .octets) (t .next) v (leb-true _ _ e)) | inr e ↦ rw e refl ]
+length-appended t v =
+    elim (which (leb (t .next + length v) (length (t .octets))))
+    [ inl e ↦ rw e (length-put (t .octets) (t .next) v (leb-true _ _ e)) | inr e ↦ rw e refl ]
 
 pub length-written : (ps : List (List ℕ)) (t : Text) → length (written ps t .octets) ≡ length (t .octets)
 unfolding written
@@ -88,10 +90,12 @@ written-joined (p ∷ ps) t h =
     ∙ ap (text (put (t .octets) (t .next) (p ++ joined ps))) s
 
 -- the pieces at the front of a slice that has room for them
-pub front-put : (ps : List (List ℕ)) (d d' : List ℕ) (r : ℕ) → length (joined ps) ≤ length d → text d' r ≡ written ps (text d 0) → d' ≡ put d 0 (joined ps)
+pub front-put : (ps : List (List ℕ)) (d d' : List ℕ) (r : ℕ) → length (joined ps) ≤ length d → text d' r ≡ written ps (text d 0)
+    → d' ≡ put d 0 (joined ps)
 front-put ps d d' r h e = ap (λ (t : Text). t .octets) (e ∙ written-joined ps (text d 0) (omega arith))
 
-pub front-is : (ps : List (List ℕ)) (d d' : List ℕ) (r : ℕ) → length (joined ps) ≤ length d → text d' r ≡ written ps (text d 0) → (r ≡ length (joined ps)) × (take r d' ≡ joined ps)
+pub front-is : (ps : List (List ℕ)) (d d' : List ℕ) (r : ℕ) → length (joined ps) ≤ length d → text d' r ≡ written ps (text d 0)
+    → (r ≡ length (joined ps)) × (take r d' ≡ joined ps)
 front-is ps d d' r h e =
     let w = e ∙ written-joined ps (text d 0) (omega arith) in
     let n : r ≡ 0 + length (joined ps) = ap (λ (t : Text). t .next) w in
@@ -110,7 +114,8 @@ module _ (d v : List ℕ) (at : ℕ) where
     pub append-late : length d - length v < at → text d at ≡ written (v ∷ []) (text d at)
     append-late h = left-out (λ z. omega arith)
 
-    pub append-put : at ≤ length d - length v → (d' : List ℕ) (next : ℕ) → Written d at (length v) v d' next → text d' next ≡ written (v ∷ []) (text d at)
+    pub append-put : at ≤ length d - length v → (d' : List ℕ) (next : ℕ) → Written d at (length v) v d' next
+        → text d' next ≡ written (v ∷ []) (text d at)
     unfolding written
     append-put h d' next w = rw (w .holds, w .after) (sym (fits (text d at) v (omega arith)))
 
@@ -150,7 +155,8 @@ module _ (t : Text) (i order : List ℕ) where
   unfolding glyphs written
   glyphs-start = refl
 
-  pub glyphs-more : (u x : Text) (k : ℕ) → k < length order → u ≡ written (glyphs i (take k order)) t → x ≡ written (glyphOf i (getD order k 0) ∷ []) u → x ≡ written (glyphs i (take (k + 1) order)) t
+  pub glyphs-more : (u x : Text) (k : ℕ) → k < length order → u ≡ written (glyphs i (take k order)) t
+      → x ≡ written (glyphOf i (getD order k 0) ∷ []) u → x ≡ written (glyphs i (take (k + 1) order)) t
   unfolding glyphs
   glyphs-more u x k h e f =
       let g : take (k + 1) order ≡ take k order ++ (getD order k 0 ∷ []) = rw add-one (take-suc order k 0 h) in

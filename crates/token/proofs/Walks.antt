@@ -54,7 +54,8 @@ turn rest w more = go (w .ms) (w .joins) (w .numbered) refl where
   go (m ∷ ms) j e is =
       let own : firstOf rest ≡ m = ap firstOf (sym j) ∙ first-message (w .q) (w .v) m (join ms) (e .0) in
       let n : length (firstOf rest) ≡ length m = ap length own in
-      let rest-is : join ms ≡ drop (length (firstOf rest)) rest = sym (ap (drop (length (firstOf rest))) (sym j) ∙ drop-at m (join ms) (length (firstOf rest)) (sym n)) in
+      let rest-is : join ms ≡ drop (length (firstOf rest)) rest =
+      sym (ap (drop (length (firstOf rest))) (sym j) ∙ drop-at m (join ms) (length (firstOf rest)) (sym n)) in
       record {
         left = record { q = w .q + 1; v = w .v; ms = ms; joins = rest-is; numbered = e .1 };
         some = omega (arith, message-length (w .q) (w .v) m (e .0));
@@ -104,7 +105,10 @@ module _ (s : List ℕ) (k : ℕ) (rest : List ℕ) (place left : ℕ) (on : OnW
   at-is = on .at ∙ ap (λ (ms : List (List ℕ)). getD (placedFrom place ms) left beyond) (here-turn .messages)
 
   pub way-end : left ≤ 0 → place ≡ messageAt s k .place
-  way-end h = let z : left ≡ 0 = omega arith in sym (ap (λ (m : Placed). m .place) (at-is ∙ ap (λ (n : ℕ). getD (placedFrom place (firstOf rest ∷ here-turn .left .ms)) n beyond) z))
+  way-end h =
+      let z : left ≡ 0 =
+      omega arith in
+      sym (ap (λ (m : Placed). m .place) (at-is ∙ ap (λ (n : ℕ). getD (placedFrom place (firstOf rest ∷ here-turn .left .ms)) n beyond) z))
 
   module _ (m : List ℕ) (m-is : m ≡ firstOf rest) where
     pub way-fits : length m ≤ length rest
@@ -125,11 +129,15 @@ module _ (s : List ℕ) (k : ℕ) (rest : List ℕ) (place left : ℕ) (on : OnW
           short = on .short;
           more = omega (arith, on .more, ap length (here-turn .messages));
           ends = omega (arith, on .ends, here-turn .fits, length-drop (length (firstOf rest)) rest, ap length m-is);
-          at = at-is ∙ passed left some ∙ ap (λ (n : ℕ). getD (placedFrom n (here-turn .left .ms)) (left - 1) beyond) (ap (λ (l : List ℕ). place + length l) (sym m-is) ∙ sym next-is);
+          at = at-is ∙ passed left some ∙ ap (λ (n : ℕ). getD (placedFrom n (here-turn .left .ms)) (left - 1) beyond)
+              (ap (λ (l : List ℕ). place + length l) (sym m-is) ∙ sym next-is);
         })) where
-          passed : (n : ℕ) → 0 < n → getD (placedFrom place (firstOf rest ∷ here-turn .left .ms)) n beyond ≡ getD (placedFrom (place + length (firstOf rest)) (here-turn .left .ms)) (n - 1) beyond
+          passed : (n : ℕ) → 0 < n → getD (placedFrom place (firstOf rest ∷ here-turn .left .ms)) n beyond
+              ≡ getD (placedFrom (place + length (firstOf rest)) (here-turn .left .ms)) (n - 1) beyond
           passed zero h = absurd (omega arith)
-          passed (suc n) h = let e : n ≡ suc n - 1 = omega arith in ap (λ (j : ℕ). getD (placedFrom (place + length (firstOf rest)) (here-turn .left .ms)) j beyond) e
+          passed (suc n) h =
+              let e : n ≡ suc n - 1 =
+              omega arith in ap (λ (j : ℕ). getD (placedFrom (place + length (firstOf rest)) (here-turn .left .ms)) j beyond) e
 
 -- the two answers of the structural reading
 module _ (s : List ℕ) where
@@ -165,11 +173,16 @@ record Stands (r : List ℕ) (place : ℕ) (m : Placed) : Type 0 where
   within : m .place - place ≤ length r
   found : firstOf (drop (m .place - place) r) ≡ m .octets
 
-stands : (ms : List (List ℕ)) (place q : ℕ) (v : List ℕ) → Numbered q v ms → (k : ℕ) → k < length ms → Stands (join ms) place (getD (placedFrom place ms) k beyond)
+stands : (ms : List (List ℕ)) (place q : ℕ) (v : List ℕ) → Numbered q v ms → (k : ℕ) → k < length ms
+    → Stands (join ms) place (getD (placedFrom place ms) k beyond)
 stands [] place q v e k h = absurd (omega arith)
 stands (m ∷ ms) place q v e zero h =
     let z : place - place ≡ 0 = omega arith in
-    record { after = omega arith; within = omega arith; found = ap (λ (n : ℕ). firstOf (drop n (m ++ join ms))) z ∙ first-message q v m (join ms) (e .0) }
+    record {
+      after = omega arith;
+      within = omega arith;
+      found = ap (λ (n : ℕ). firstOf (drop n (m ++ join ms))) z ∙ first-message q v m (join ms) (e .0);
+    }
 stands (m ∷ ms) place q v e (suc k) h =
     let w = stands ms (place + length m) (q + 1) v (e .1) k (omega arith) in
     let there = getD (placedFrom (place + length m) ms) k beyond .place in

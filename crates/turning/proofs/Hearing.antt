@@ -37,7 +37,8 @@ unfolding chainOf
 chain-16 [] k place q v = tt
 chain-16 (x ∷ xs) (suc k) place q v = chain-16 xs k place q v
 chain-16 (x ∷ xs) zero place q v = go (which (passes (x ∷ xs) q v)) (chain-16 xs (size (x ∷ xs) - 1) (place + size (x ∷ xs)) (q + 1) v) where
-  go : (passes (x ∷ xs) q v ≡ true) ⊎ (passes (x ∷ xs) q v ≡ false) → Numbers Not16 (chainOf xs (size (x ∷ xs) - 1) (place + size (x ∷ xs)) (q + 1) v) → Numbers Not16 (chainOf (x ∷ xs) 0 place q v)
+  go : (passes (x ∷ xs) q v ≡ true) ⊎ (passes (x ∷ xs) q v ≡ false) → Numbers Not16 (chainOf xs (size (x ∷ xs) - 1) (place + size (x ∷ xs)) (q + 1) v)
+      → Numbers Not16 (chainOf (x ∷ xs) 0 place q v)
   go (inl p) ih = rw p ih
   go (inr p) ih = rw p (fails-other 16 (nextRows (x ∷ xs) q v) _ (rows-16 (x ∷ xs) q v) (refuses-first (nextRows (x ∷ xs) q v) p))
 
@@ -71,7 +72,8 @@ pub ruleset answers = (owed-room, owed-later, owed-here)
 
 pub hear-good : (good : Bool) (r : Record) (d t : List ℕ) → good ≡ true → (o : Outcome) → o ≡ readingToken r d t → o ≡ heardTurn good r d t
 unfolding readingToken heardTurn
-hear-good good r d t e o o-is = o-is ∙ ap (λ (b : Bool). decide (limitRows r ++ tokenRows r (length t)) r d (finish r d t (afterFirst b (judged r t)))) (sym e)
+hear-good good r d t e o o-is =
+    o-is ∙ ap (λ (b : Bool). decide (limitRows r ++ tokenRows r (length t)) r d (finish r d t (afterFirst b (judged r t)))) (sym e)
 
 module _ (r : Record) (d t little : List ℕ) (long : 64 ≤ length t) (small : length little ≡ 16) where
   abbrev rows : List Row
@@ -93,7 +95,8 @@ module _ (r : Record) (d t little : List ℕ) (long : 64 ≤ length t) (small : 
     other : eqb (q .number) 16 ≡ false
     other = not-true (eqb (q .number) 16) (and-l (not (eqb (q .number) 16)) (without 16 xs) w)
 
-    go : (b : Bool) → q .test ≡ b → ((AllTrue xs → Same x y) → Same (decide xs r little x) (decide xs r d y)) → Same (cond (q .test) (decide xs r little x) (refused r little (q .number) 0)) (cond (q .test) (decide xs r d y) (refused r d (q .number) 0))
+    go : (b : Bool) → q .test ≡ b → ((AllTrue xs → Same x y) → Same (decide xs r little x) (decide xs r d y))
+        → Same (cond (q .test) (decide xs r little x) (refused r little (q .number) 0)) (cond (q .test) (decide xs r d y) (refused r d (q .number) 0))
     go true e ih = rw e (ih (λ g. h (e, g)))
     go false e ih = rw (e, other)
 
@@ -101,8 +104,10 @@ module _ (r : Record) (d t little : List ℕ) (long : 64 ≤ length t) (small : 
   unfolding readingToken heardTurn
   both = two rows (finish r little t (judged r t)) (finish r d t (afterFirst false (judged r t))) refl (λ g. behind (judged r t) refl)
 
-  pub hear-owed : (good : Bool) → good ≡ false → (o : Outcome) → o ≡ readingToken r little t → (b : Answer) → b ≡ owedBefore r (o .answer) → record { answer = b; transcript = d } ≡ heardTurn good r d t
+  pub hear-owed : (good : Bool) → good ≡ false → (o : Outcome) → o ≡ readingToken r little t → (b : Answer) → b ≡ owedBefore r (o .answer)
+      → record { answer = b; transcript = d } ≡ heardTurn good r d t
   hear-owed good e o o-is b b-is =
-      ap (λ (x : Answer). record { answer = x; transcript = d }) (b-is ∙ ap (λ (x : Outcome). owedBefore r (x .answer)) o-is) ∙ both ∙ ap (λ (x : Bool). heardTurn x r d t) (sym e)
+      ap (λ (x : Answer). record { answer = x; transcript = d }) (b-is ∙ ap (λ (x : Outcome). owedBefore r (x .answer)) o-is) ∙ both
+      ∙ ap (λ (x : Bool). heardTurn x r d t) (sym e)
 
 pub ruleset hearings = (hear-good, hear-owed)

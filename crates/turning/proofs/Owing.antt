@@ -54,7 +54,9 @@ module _ (a b : List ℕ) where
 
   module _ (i : ℕ) (even : length a ≡ length b) (inv : sameOctets a b ≡ sameOctets (drop i a) (drop i b)) where
     pub all-end : length a ≤ i → true ≡ sameOctets a b
-    all-end h = sym (inv ∙ ap (λ (l : List ℕ). sameOctets l (drop i b)) (drop-of-length-le a {i = i} h) ∙ ap (sameOctets []) (drop-of-length-le b {i = i} (omega arith)) ∙ (unfold sameOctets in refl))
+    all-end h =
+        sym (inv ∙ ap (λ (l : List ℕ). sameOctets l (drop i b)) (drop-of-length-le a {i = i} h)
+        ∙ ap (sameOctets []) (drop-of-length-le b {i = i} (omega arith)) ∙ (unfold sameOctets in refl))
 
     pub all-differ : i < length a → (getD a i 0 ≡ getD b i 0 → ⊥) → false ≡ sameOctets a b
     all-differ h n = sym (inv ∙ same-step a b i h (omega arith) ∙ (unfold sameOctets in rw (ne-eqb _ _ n)))
@@ -62,7 +64,8 @@ module _ (a b : List ℕ) where
     pub all-on : i < length a → getD a i 0 ≡ getD b i 0 → sameOctets a b ≡ sameOctets (drop (i + 1) a) (drop (i + 1) b)
     all-on h n =
         let k : suc i ≡ i + 1 = omega arith in
-        inv ∙ same-step a b i h (omega arith) ∙ same-front (getD a i 0) (getD b i 0) (drop (suc i) a) (drop (suc i) b) n ∙ ap (λ (j : ℕ). sameOctets (drop j a) (drop j b)) k
+        inv ∙ same-step a b i h (omega arith) ∙ same-front (getD a i 0) (getD b i 0) (drop (suc i) a) (drop (suc i) b) n
+        ∙ ap (λ (j : ℕ). sameOctets (drop j a) (drop j b)) k
 
 pub ruleset alls = (all-sizes, all-start, all-end, all-differ, all-on)
 
@@ -80,10 +83,13 @@ unfolding shown
 shown-whole m = elim (which (keepsRule 96 (length m) (schemeVector m))) [
   | inr e ↦ rw e
   | inl e ↦ rw e (elim (which (eqb (extent (schemeVector m)) 0)) [
-    | inl z ↦ let n = length-take (extent (schemeVector m)) (drop (schemeVector m .offset .0) m) in omega (arith, eqb-true (extent (schemeVector m)) 0 z)
+    | inl z ↦ let n =
+        length-take (extent (schemeVector m)) (drop (schemeVector m .offset .0) m) in omega (arith, eqb-true (extent (schemeVector m)) 0 z)
     | inr z ↦
         let i = rule-inside 96 (length m) (schemeVector m) e (eqb-false _ _ z) in
-        let n : length (part m (schemeVector m)) ≡ extent (schemeVector m) = length-take-le (extent (schemeVector m)) (drop (schemeVector m .offset .0) m) (omega (arith, i .before, length-drop (schemeVector m .offset .0) m)) in
+        let n : length (part m (schemeVector m)) ≡ extent (schemeVector m) =
+        length-take-le (extent (schemeVector m)) (drop (schemeVector m .offset .0) m)
+        (omega (arith, i .before, length-drop (schemeVector m .offset .0) m)) in
         omega arith
   ])
 ]
@@ -102,7 +108,8 @@ module _ (w : Record) (t l : List ℕ) (l-is : l ≡ listedIn t) where
       ∙ ap (sameOctets (joinIds (listedBy t))) (sym (ids-joined (w .count) (w .list)))
 
 -- 3. the reply
-module _ (w : Record) (few : w .count ≤ 16) (list : length (w .list) ≡ 256) (marks : ℕ) (small : marks < 65536) (s : Schemes) (s-is : s ≡ schemesOf (left (ownOf w) (bitAnd (w .common) (65535 - marks)) 0)) where
+module _ (w : Record) (few : w .count ≤ 16) (list : length (w .list) ≡ 256) (marks : ℕ) (small : marks < 65536) (s : Schemes)
+    (s-is : s ≡ schemesOf (left (ownOf w) (bitAnd (w .common) (65535 - marks)) 0)) where
   abbrev own : List Id
   own = left (ownOf w) (w .common) marks
 
@@ -131,7 +138,8 @@ module _ (w : Record) (few : w .count ≤ 16) (list : length (w .list) ≡ 256) 
   pub reply-part : 16 * s .count ≡ length (take (16 * s .count) (s .octets))
   reply-part = sym (length-take-le (16 * s .count) (s .octets) reply-end)
 
-  pub reply-is : (s .count ≡ 0 → ⊥) → (t l : List ℕ) → l ≡ listedIn t → (b : Bool) → b ≡ sameOctets l (take (16 * s .count) (s .octets)) → b ≡ someLeft (replied (withMarks marks w)) && sameList (listedBy t) (replied (withMarks marks w))
+  pub reply-is : (s .count ≡ 0 → ⊥) → (t l : List ℕ) → l ≡ listedIn t → (b : Bool) → b ≡ sameOctets l (take (16 * s .count) (s .octets))
+      → b ≡ someLeft (replied (withMarks marks w)) && sameList (listedBy t) (replied (withMarks marks w))
   reply-is n t l l-is b b-is =
       b-is ∙ ap (λ (x : List ℕ). sameOctets x (take (16 * s .count) (s .octets))) (l-is ∙ sym (listed-joined t))
       ∙ ap (sameOctets (joinIds (listedBy t))) octets-are ∙ go own (λ e. n (gathered-count ∙ e)) where
@@ -145,7 +153,8 @@ front-part n l h = sym (length-take-le n l h)
 pub ruleset lists = (lists-own-is, reply-none, reply-end, reply-part, reply-is)
 
 -- 4. the choice
-module _ (w : Record) (few : w .count ≤ 16) (t : List ℕ) (long : 64 ≤ length t) (z : Left) (marks : ℕ) (is : z ≡ leftOf (openPlaces (w .kept) (w .common) marks)) where
+module _ (w : Record) (few : w .count ≤ 16) (t : List ℕ) (long : 64 ≤ length t) (z : Left) (marks : ℕ)
+    (is : z ≡ leftOf (openPlaces (w .kept) (w .common) marks)) where
   abbrev ks : List ℕ
   ks = openTo w marks
 
@@ -159,7 +168,8 @@ module _ (w : Record) (few : w .count ≤ 16) (t : List ℕ) (long : 64 ≤ leng
     first-is : (someLeft (named (ownOf w) ks) ≡ true) × (firstOr (named (ownOf w) ks) ≡ getD (ownOf w) (z .place) [])
     unfolding leftOf
     first-is = go ks (λ e. n (ap (λ (x : Left). x .left) is ∙ e)) (ap (λ (x : Left). x .place) is) where
-      go : (l : List ℕ) → (length l ≡ 0 → ⊥) → z .place ≡ getD l 0 0 → (someLeft (named (ownOf w) l) ≡ true) × (firstOr (named (ownOf w) l) ≡ getD (ownOf w) (z .place) [])
+      go : (l : List ℕ) → (length l ≡ 0 → ⊥) → z .place ≡ getD l 0 0
+          → (someLeft (named (ownOf w) l) ≡ true) × (firstOr (named (ownOf w) l) ≡ getD (ownOf w) (z .place) [])
       go [] h p = absurd (h refl)
       go (k ∷ l) h p = (refl, ap (λ (j : ℕ). getD (ownOf w) j []) (sym p))
 
@@ -167,14 +177,17 @@ module _ (w : Record) (few : w .count ≤ 16) (t : List ℕ) (long : 64 ≤ leng
     sixteen = length-take-le 16 (drop 40 t) (omega (arith, length-drop 40 t))
 
     answer-is : answer ≡ sameOctets (schemeIn t) (getD (ownOf w) (z .place) [])
-    answer-is = ap (λ (b : Bool). b && sameOctets (schemeIn t) (firstOr (named (ownOf w) ks))) (first-is .0) ∙ ap (sameOctets (schemeIn t)) (first-is .1)
+    answer-is =
+        ap (λ (b : Bool). b && sameOctets (schemeIn t) (firstOr (named (ownOf w) ks))) (first-is .0) ∙ ap (sameOctets (schemeIn t)) (first-is .1)
 
     pub choice-foreign : w .count ≤ z .place → false ≡ answer
-    choice-foreign h = sym (answer-is ∙ ap (sameOctets (schemeIn t)) (beyond (ownOf w) (z .place) (omega (arith, length-ids (w .count) (w .list)))) ∙ sym (same-sizes (schemeIn t) [] (λ e. omega (arith, sixteen)))) where
-      beyond : (l : List Id) (k : ℕ) → length l ≤ k → getD l k [] ≡ []
-      beyond [] k g = refl
-      beyond (x ∷ l) zero g = absurd (omega arith)
-      beyond (x ∷ l) (suc k) g = beyond l k (omega arith)
+    choice-foreign h =
+        sym (answer-is ∙ ap (sameOctets (schemeIn t)) (beyond (ownOf w) (z .place) (omega (arith, length-ids (w .count) (w .list))))
+        ∙ sym (same-sizes (schemeIn t) [] (λ e. omega (arith, sixteen)))) where
+          beyond : (l : List Id) (k : ℕ) → length l ≤ k → getD l k [] ≡ []
+          beyond [] k g = refl
+          beyond (x ∷ l) zero g = absurd (omega arith)
+          beyond (x ∷ l) (suc k) g = beyond l k (omega arith)
 
     module _ (low : z .place < w .count) where
       pub choice-part : length (w .list) ≡ 256 → 16 * z .place + 16 ≤ length (w .list)
@@ -194,12 +207,14 @@ module _ (w : Record) (marks : ℕ) (t : List ℕ) (token : ℕ) (token-is : tok
   owes-first e b b-is = rw (eq-eqb (writes w) 0 (sym token-is ∙ e)) b-is
 
   module _ (n : token ≡ 0 → ⊥) where
-    pub owes-reply : token ≡ 1 → (b : Bool) → b ≡ (someLeft (replied (withMarks marks w)) && sameList (listedBy t) (replied (withMarks marks w))) → b ≡ owed marks w t
+    pub owes-reply : token ≡ 1 → (b : Bool) → b ≡ (someLeft (replied (withMarks marks w)) && sameList (listedBy t) (replied (withMarks marks w)))
+        → b ≡ owed marks w t
     unfolding owed
     owes-reply e b b-is = rw (ne-eqb (writes w) 0 (λ q. n (token-is ∙ q)), eq-eqb (writes w) 1 (sym token-is ∙ e)) b-is
 
     module _ (k : token ≡ 1 → ⊥) (c : Bool) (c-is : c ≡ mayChoose w) where
-      pub owes-choice : c ≡ true → (b : Bool) → b ≡ (someLeft (named (ownOf w) (openTo w marks)) && sameOctets (schemeIn t) (firstOr (named (ownOf w) (openTo w marks)))) → b ≡ owed marks w t
+      pub owes-choice : c ≡ true → (b : Bool) → b
+          ≡ (someLeft (named (ownOf w) (openTo w marks)) && sameOctets (schemeIn t) (firstOr (named (ownOf w) (openTo w marks)))) → b ≡ owed marks w t
       unfolding owed
       owes-choice e b b-is = rw (ne-eqb (writes w) 0 (λ q. n (token-is ∙ q)), ne-eqb (writes w) 1 (λ q. k (token-is ∙ q)), sym c-is ∙ e) b-is
 

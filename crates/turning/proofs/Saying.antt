@@ -50,17 +50,21 @@ saidBy r told requested attested = record {
   used = r .used;
 }
 
-module _ (w : Record) (m : List ℕ) (type : ℕ) (type-is : type ≡ le 4 m 8) (kind : ℕ) (kind-is : kind ≡ classOf (w .acceptor) type) (token : ℕ) (token-is : token ≡ writing (w .acceptor) (w .stage)) where
-  pub say-is : (told : ℕ) → told ≡ cond (eqb kind 2 && ltb (place (ownOf w) (take 16 (drop 40 m))) (w .count)) (withBit (w .metadata) (place (ownOf w) (take 16 (drop 40 m)))) (w .metadata)
+module _ (w : Record) (m : List ℕ) (type : ℕ) (type-is : type ≡ le 4 m 8) (kind : ℕ) (kind-is : kind ≡ classOf (w .acceptor) type) (token : ℕ)
+    (token-is : token ≡ writing (w .acceptor) (w .stage)) where
+  pub say-is : (told : ℕ) → told ≡ cond (eqb kind 2 && ltb (place (ownOf w) (take 16 (drop 40 m))) (w .count))
+      (withBit (w .metadata) (place (ownOf w) (take 16 (drop 40 m)))) (w .metadata)
       → (requested : ℕ) → requested ≡ cond (eqb kind 3 && eqb token 0) 0 (w .requested) → (attested : Bool) → attested ≡ (eqb kind 4 || w .attested)
       → (next : Record) → next ≡ wrote w (placeAfter w kind) (length m) (unchanged w) → saidBy next told requested attested ≡ said w m
   unfolding said headOf
   say-is told told-is requested requested-is attested attested-is next next-is =
-      let a : requested ≡ cond (eqb kind 3 && eqb (writes w) 0) 0 (w .requested) = requested-is ∙ ap (λ (k : ℕ). cond (eqb kind 3 && eqb k 0) 0 (w .requested)) token-is in
+      let a : requested ≡ cond (eqb kind 3 && eqb (writes w) 0) 0 (w .requested) =
+      requested-is ∙ ap (λ (k : ℕ). cond (eqb kind 3 && eqb k 0) 0 (w .requested)) token-is in
       ap (λ (r : Record). saidBy r told requested attested) next-is
       ∙ ap (λ (k : ℕ). saidBy (wrote w (placeAfter w kind) (length m) (unchanged w)) k requested attested) told-is
       ∙ ap (λ (k : ℕ). saidBy (wrote w (placeAfter w kind) (length m) (unchanged w)) (saidAs w kind (schemeIn m) .metadata) k attested) a
-      ∙ ap (λ (b : Bool). saidBy (wrote w (placeAfter w kind) (length m) (unchanged w)) (saidAs w kind (schemeIn m) .metadata) (saidAs w kind (schemeIn m) .requested) b) attested-is
+      ∙ ap (λ (b : Bool). saidBy (wrote w (placeAfter w kind) (length m) (unchanged w)) (saidAs w kind (schemeIn m) .metadata)
+      (saidAs w kind (schemeIn m) .requested) b) attested-is
       ∙ ap (λ (k : ℕ). wrote w (placeAfter w k) (length m) (saidAs w k (schemeIn m))) (kind-is ∙ ap (classOf (w .acceptor)) type-is)
 
 -- 2. a turn
@@ -68,7 +72,8 @@ module _ (w : Record) (m : List ℕ) (type : ℕ) (type-is : type ≡ le 4 m 8) 
 begun-keeps : (m : ℕ) (w : Record) → (begun m w .count ≡ w .count) × ((begun m w .sequence ≡ w .sequence) × (begun m w .used ≡ w .used))
 unfolding begun
 begun-keeps m w = go (mayChoose w) (eqb (writes w) ANSWER) where
-  go : (a b : Bool) → (cond a (chose w m) (cond b (withMarks m w) w) .count ≡ w .count) × ((cond a (chose w m) (cond b (withMarks m w) w) .sequence ≡ w .sequence) × (cond a (chose w m) (cond b (withMarks m w) w) .used ≡ w .used))
+  go : (a b : Bool) → (cond a (chose w m) (cond b (withMarks m w) w) .count ≡ w .count)
+      × ((cond a (chose w m) (cond b (withMarks m w) w) .sequence ≡ w .sequence) × (cond a (chose w m) (cond b (withMarks m w) w) .used ≡ w .used))
   go true b = (refl, (refl, refl))
   go false true = (refl, (refl, refl))
   go false false = (refl, (refl, refl))
@@ -79,7 +84,8 @@ pub record SpeakOn (t : List ℕ) (s₀ s : Record) (rest : List ℕ) : Type 0 w
   pub room : s .used + length rest ≤ 65535
   pub come : saidAll s₀ (messagesOf t) ≡ saidAll s (messagesOf rest)
 
-pub speak-begins : (w : Record) (m : ℕ) (t : List ℕ) → (w .count ≤ 16) × (64 * w .sequence ≤ w .used) × (w .used + length t ≤ 65535) → (s : Record) → s ≡ begun m w → SpeakOn t s s t
+pub speak-begins : (w : Record) (m : ℕ) (t : List ℕ) → (w .count ≤ 16) × (64 * w .sequence ≤ w .used) × (w .used + length t ≤ 65535) → (s : Record)
+    → s ≡ begun m w → SpeakOn t s s t
 speak-begins w m t h s s-is =
     let k = begun-keeps m w in
     let a : s .count ≡ w .count = ap (λ (r : Record). r .count) s-is ∙ k .0 in
@@ -92,7 +98,8 @@ unfolding saidAll
 one-said s m ms = refl
 
 -- what the last record is
-spoken : (w : Record) (m : ℕ) (t : List ℕ) (s₀ : Record) → s₀ ≡ begun m w → (s : Record) → saidAll s₀ (messagesOf t) ≡ s → s ≡ spoke m w (messagesOf t)
+spoken : (w : Record) (m : ℕ) (t : List ℕ) (s₀ : Record) → s₀ ≡ begun m w → (s : Record) → saidAll s₀ (messagesOf t) ≡ s
+    → s ≡ spoke m w (messagesOf t)
 spoken w m t s₀ is s e = sym e ∙ ap (λ (r : Record). saidAll r (messagesOf t)) is
 
 module _ (t : List ℕ) (s₀ s : Record) (rest : List ℕ) (on : SpeakOn t s₀ s rest) where

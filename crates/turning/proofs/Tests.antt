@@ -48,7 +48,8 @@ module _ (kind : ℕ) (attested : Bool) where
   pub attested-before : (kind ≡ 4 → ⊥) → attested ≡ eqb kind 4 || attested
   attested-before h = rw (ne-eqb _ _ h)
 
-pub ruleset flags = (may-choose, may-not-choose, counts-early, counts-none, requested-other, requested-later, requested-first, attested-now, attested-before)
+pub ruleset flags =
+    (may-choose, may-not-choose, counts-early, counts-none, requested-other, requested-later, requested-first, attested-now, attested-before)
 
 -- the first open place
 module _ (ks : List ℕ) (z : Left) (is : z ≡ leftOf ks) where
@@ -89,7 +90,8 @@ chosenAs w marks place attested confirmed = record {
   used = w .used;
 }
 
-pub chosen-is : (w : Record) (marks place : ℕ) (v h : Bool) → place ≡ firstPlace (openTo w marks) → v ≡ (w .attested && eqb place (w .requested)) → h ≡ (w .confirmed && eqb place (w .requested)) → chosenAs w marks place v h ≡ chose w marks
+pub chosen-is : (w : Record) (marks place : ℕ) (v h : Bool) → place ≡ firstPlace (openTo w marks) → v ≡ (w .attested && eqb place (w .requested))
+    → h ≡ (w .confirmed && eqb place (w .requested)) → chosenAs w marks place v h ≡ chose w marks
 chosen-is w marks place v h p-is v-is h-is =
     ap (λ (x : Bool). chosenAs w marks place x h) v-is
     ∙ ap (λ (x : Bool). chosenAs w marks place (w .attested && eqb place (w .requested)) x) h-is
@@ -125,7 +127,8 @@ module _ (w : Record) (kind : ℕ) (id : List ℕ) where
 
     pub told-own : k < w .count → (x : ℕ) → x ≡ withBit (w .metadata) k → x ≡ toldThen
     told-own h x x-is =
-        rw (eq-eqb _ _ m, lt-ltb (place (ownOf w) id) (w .count) (let z : place (ownOf w) id < w .count = omega arith in z)) (x-is ∙ ap (withBit (w .metadata)) k-is)
+        rw (eq-eqb _ _ m, lt-ltb (place (ownOf w) id) (w .count) (let z : place (ownOf w) id < w .count = omega arith in z))
+        (x-is ∙ ap (withBit (w .metadata)) k-is)
 
 pub list-room : (w : Record) → w .count ≤ 16 → (l : List ℕ) → l ≡ w .list → length l ≡ 256 → w .count * 16 ≤ length l
 list-room w h l e n = omega arith

@@ -74,7 +74,8 @@ fn lists_reply(w: Record, marks: u16, t: &[u8]) -> bool
 // Whether a message names the first scheme of the reply that its writer has left, and there is one.
 fn names_choice(w: Record, marks: u16, t: &[u8]) -> bool
     requires { ⌜ (w .count ≤ 16) × (64 ≤ length (now t)) ⌝ }
-    ensures { λ r. ⌜ r ≡ (someLeft (named (ownOf w) (openTo w marks)) && sameOctets (schemeIn (now (t .entry))) (firstOr (named (ownOf w) (openTo w marks)))) ⌝ }
+    ensures { λ r. ⌜ r ≡ (someLeft (named (ownOf w) (openTo w marks)) && sameOctets (schemeIn (now (t .entry)))
+        (firstOr (named (ownOf w) (openTo w marks)))) ⌝ }
 {
     let kept = w.kept;
     let left = choose_kept(kept, w.common, marks);

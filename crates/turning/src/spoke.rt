@@ -83,7 +83,8 @@ fn begin(w: Record, marks: u16) -> Record
 // The schemes that have metadata, with that of a message, where it is metadata for an own scheme.
 fn metadata_after(w: Record, class: u8, id: &[u8]) -> u16
     requires { ⌜ w .count ≤ 16 ⌝ }
-    ensures { λ r. ⌜ r ≡ cond (eqb class 2 && ltb (place (ownOf w) (now (id .entry))) (w .count)) (withBit (w .metadata) (place (ownOf w) (now (id .entry)))) (w .metadata) ⌝ }
+    ensures { λ r. ⌜ r ≡ cond (eqb class 2 && ltb (place (ownOf w) (now (id .entry))) (w .count))
+        (withBit (w .metadata) (place (ownOf w) (now (id .entry)))) (w .metadata) ⌝ }
 {
     if class != Class::METADATA {
         return w.metadata;

@@ -53,18 +53,36 @@ mechanism-size : (k : ℕ) (v : List ℕ) → size (mechanismLine k v) ≤ 2 * l
 unfolding mechanismLine
 mechanism-size k v =
     let r = octetsText v ++ (mark (isNegoex v) ∷ []) in
-    omega (arith, one-more (quoted "mechanism ") (decimal64 k ∷ quoted " " ∷ r), one-more (decimal64 k) (quoted " " ∷ r), one-more (quoted " ") r, length-decimal 20 k, around v (mark (isNegoex v)), mark-size (isNegoex v))
+    omega (
+      arith,
+      one-more (quoted "mechanism ") (decimal64 k ∷ quoted " " ∷ r),
+      one-more (decimal64 k) (quoted " " ∷ r),
+      one-more
+          (quoted " ") r,
+      length-decimal 20 k,
+      around v (mark (isNegoex v)),
+      mark-size (isNegoex v),
+    )
 
 mechanisms-size : (k : ℕ) (ms : List (List ℕ)) → size (mechanismLines k ms) ≤ 2 * length (identifiers ms) + 48 * length ms
 unfolding mechanismLines identifiers
 mechanisms-size k [] = omega arith
 mechanisms-size k (m ∷ ms) =
-    omega (arith, length-joined (mechanismLine k m) (mechanismLines (k + 1) ms), mechanism-size k m, mechanisms-size (k + 1) ms, longer 0x06 m, length-append (element 0x06 m) (identifiers ms))
+    omega (
+      arith,
+      length-joined (mechanismLine k m) (mechanismLines (k + 1) ms),
+      mechanism-size k m,
+      mechanisms-size
+          (k + 1) ms,
+      longer 0x06 m,
+      length-append (element 0x06 m) (identifiers ms),
+    )
 
 octets-line-size : (t u : ℕ) (w : List ℕ) (o : Option (List ℕ)) → size (octetsLine w o) ≤ 2 * length (fieldOctets t u o) + (length w + 2)
 unfolding octetsLine fieldOctets
 octets-line-size t u w none = omega arith
-octets-line-size t u w (some v) = omega (arith, one-more w (octetsText v ++ (quoted "\n" ∷ [])), around v (quoted "\n"), longer u v, longer t (element u v))
+octets-line-size t u w (some v) =
+    omega (arith, one-more w (octetsText v ++ (quoted "\n" ∷ [])), around v (quoted "\n"), longer u v, longer t (element u v))
 
 named-size : (o : Option (List ℕ)) → size (namedLines o) ≤ 2 * length (fieldOctets 0xA1 0x06 o) + 48
 unfolding namedLines fieldOctets
@@ -85,11 +103,25 @@ token-size s none k = omega arith
 token-size s (some v) k =
     let a = decimal64 (tokenPlace s v k) in
     let r = quoted " length=" ∷ decimal64 (length v) ∷ quoted "\n" ∷ [] in
-    omega (arith, one-more (quoted "token at=") (a ∷ r), one-more a r, length-decimal 20 (tokenPlace s v k), number-line (quoted " length=") (length v) 20 (quoted "\n"))
+    omega (
+      arith,
+      one-more (quoted "token at=") (a ∷ r),
+      one-more a r,
+      length-decimal 20 (tokenPlace s v k),
+      number-line (quoted " length=")
+          (length v) 20 (quoted "\n"),
+    )
 
 last-size : (s : List ℕ) (t k : Option (List ℕ)) → size (lastLines s t k) ≤ 2 * length (fieldOctets 0xA3 0x04 k) + 72
 unfolding lastLines
-last-size s t k = omega (arith, length-joined (tokenLine s t k) (octetsLine (quoted "checksum ") k), token-size s t k, octets-line-size 0xA3 0x04 (quoted "checksum ") k)
+last-size s t k =
+    omega (
+      arith,
+      length-joined (tokenLine s t k) (octetsLine (quoted "checksum ") k),
+      token-size s t k,
+      octets-line-size 0xA3 0x04
+          (quoted "checksum ") k,
+    )
 
 head-size : (w s : List ℕ) → size (headLine w s) ≤ length w + 21
 unfolding headLine
@@ -98,9 +130,16 @@ head-size w s = omega (arith, number-line w (length s) 20 (quoted "\n"))
 -- the fields are part of the envelope
 tail-holds : (v : ℕ) (y t k : Option (List ℕ)) → length (fieldOctets 0xA1 v y) + length (fieldOctets 0xA3 0x04 k) ≤ length (tailOctets v y t k)
 tail-holds v y t k =
-    omega (arith, length-append (fieldOctets 0xA1 v y) (fieldOctets 0xA2 0x04 t ++ (fieldOctets 0xA3 0x04 k ++ [])), length-append (fieldOctets 0xA2 0x04 t) (fieldOctets 0xA3 0x04 k ++ []), length-append (fieldOctets 0xA3 0x04 k) [])
+    omega (
+      arith,
+      length-append (fieldOctets 0xA1 v y) (fieldOctets 0xA2 0x04 t ++ (fieldOctets 0xA3 0x04 k ++ [])),
+      length-append
+          (fieldOctets 0xA2 0x04 t) (fieldOctets 0xA3 0x04 k ++ []),
+      length-append (fieldOctets 0xA3 0x04 k) [],
+    )
 
-init-holds : (ms : List (List ℕ)) (f t k : Option (List ℕ)) → length (identifiers ms) + (length (fieldOctets 0xA1 0x03 f) + length (fieldOctets 0xA3 0x04 k)) ≤ length (encoded (Init ms f t k))
+init-holds : (ms : List (List ℕ)) (f t k : Option (List ℕ))
+    → length (identifiers ms) + (length (fieldOctets 0xA1 0x03 f) + length (fieldOctets 0xA3 0x04 k)) ≤ length (encoded (Init ms f t k))
 unfolding encoded fieldOctets
 init-holds ms f t k =
     let tl = tailOctets 0x03 f t k in
@@ -129,16 +168,41 @@ unfolding textOf few refusedText
 text-fits s = go (envelopeOf s) refl where
   read : (e : Envelope) → envelopeOf s ≡ ok e → OneReading s e → size (textOf s (ok e)) ≤ 262144
   read (Init ms f t k) h w =
-      let a = headLine (quoted "envelope init length=") s in let b = mechanismLines 0 ms in let c = octetsLine (quoted "flags ") f in let d = lastLines s t k in
+      let a =
+      headLine (quoted "envelope init length=") s in let b =
+      mechanismLines 0 ms in let c = octetsLine (quoted "flags ") f in let d = lastLines s t k in
       let n : length s ≡ length (encoded (Init ms f t k)) = ap length (w .same) in
       let few : length ms ≤ 16 = leb-true _ _ (w .is-few) in
       let short = w .short in
-      omega (arith, length-joined a (b ++ (c ++ d)), length-joined b (c ++ d), length-joined c d, head-size (quoted "envelope init length=") s, mechanisms-size 0 ms, octets-line-size 0xA1 0x03 (quoted "flags ") f, last-size s t k, init-holds ms f t k)
+      omega (
+        arith,
+        length-joined a (b ++ (c ++ d)),
+        length-joined b (c ++ d),
+        length-joined c d,
+        head-size
+            (quoted "envelope init length=") s,
+        mechanisms-size 0 ms,
+        octets-line-size 0xA1 0x03
+            (quoted "flags ") f,
+        last-size s t k,
+        init-holds ms f t k,
+      )
   read (Resp x m t k) h w =
       let a = headLine (quoted "envelope resp length=") s in let b = stateLine x in let c = namedLines m in let d = lastLines s t k in
       let n : length s ≡ length (encoded (Resp x m t k)) = ap length (w .same) in
       let short = w .short in
-      omega (arith, length-joined a (b ++ (c ++ d)), length-joined b (c ++ d), length-joined c d, head-size (quoted "envelope resp length=") s, state-size x, named-size m, last-size s t k, resp-holds x m t k)
+      omega (
+        arith,
+        length-joined a (b ++ (c ++ d)),
+        length-joined b (c ++ d),
+        length-joined c d,
+        head-size
+            (quoted "envelope resp length=") s,
+        state-size x,
+        named-size m,
+        last-size s t k,
+        resp-holds x m t k,
+      )
 
   go : (g : Got Envelope) → envelopeOf s ≡ g → size (textOf s (envelopeOf s)) ≤ 262144
   go (ok e) h = rw h (read e h (read-encoded s e h))

@@ -49,7 +49,8 @@ module _ (d : List ℕ) (i : ℕ) (on : take i d ≡ replicate i 1) where
 pub ruleset ones = (ones-next, ones-end)
 
 -- ---- the words of `mask_token`
-pub masked-is : (s : List ℕ) → Accepts s → (d d' : List ℕ) → length d ≡ length s → d' ≡ replicate (length d) 1 → (a : Answer) (y : List ℕ) → _≡_ {A = Blanking} (record { outcome = told a; octets = y }) (maskingOf s d') → y ≡ coverageOf s
+pub masked-is : (s : List ℕ) → Accepts s → (d d' : List ℕ) → length d ≡ length s → d' ≡ replicate (length d) 1 → (a : Answer) (y : List ℕ)
+    → _≡_ {A = Blanking} (record { outcome = told a; octets = y }) (maskingOf s d') → y ≡ coverageOf s
 unfolding coverageOf ones-of
 masked-is s acc d d' e d-is a y w =
     let ones : d' ≡ replicate (length s) 1 = d-is ∙ ap (λ (n : ℕ). replicate n 1) e in
@@ -86,7 +87,8 @@ module _ (s : List ℕ) (a : Accepts s) (d : List ℕ) where
       let few : length d < length (coverageOf s) = omega (arith, coverage-length s) in
       ap (λ (x : ℤ). lent x d) (same z f (negℤ (pos 16)) e) ∙ sym (simp (lt-leb _ _ few)) ∙ answer-is
 
-  pub coverage-written : length s ≤ length d → (y : List ℕ) → y ≡ coverageOf s → (z : ℤ) → SFits w64 z → z ≡ pos (length s) → lent (toZ w64 (ofZ w64 z)) (y ++ drop (length s) d) ≡ coverageAnswer s d
+  pub coverage-written : length s ≤ length d → (y : List ℕ) → y ≡ coverageOf s → (z : ℤ) → SFits w64 z → z ≡ pos (length s)
+      → lent (toZ w64 (ofZ w64 z)) (y ++ drop (length s) d) ≡ coverageAnswer s d
   coverage-written h y y-is z f e =
       let room : length (coverageOf s) ≤ length d = omega (arith, coverage-length s) in
       let n : length s ≡ length (coverageOf s) = sym (coverage-length s) in

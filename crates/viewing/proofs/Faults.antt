@@ -29,18 +29,22 @@ use Rattle.viewing.specs.Viewing.{faultReply, faultAnswer, spanReply, en
 
 -- ---- the words of `fill_fault`
 module _ (e : Entry) (d : List ℕ) where
-  pub entry-full : length d < 24 → (z : ℤ) → SFits w64 z → z ≡ negℤ (pos 16) → lent (toZ w64 (ofZ w64 z)) d ≡ writtenIn d (fits (length d) (entryOctets (e ∷ [])))
+  pub entry-full : length d < 24 → (z : ℤ) → SFits w64 z → z ≡ negℤ (pos 16)
+      → lent (toZ w64 (ofZ w64 z)) d ≡ writtenIn d (fits (length d) (entryOctets (e ∷ [])))
   entry-full h z f g =
       let few : length d < length (entryOctets (e ∷ [])) = omega (arith, octets-length (e ∷ [])) in
       ap (λ (x : ℤ). lent x d) (same z f (negℤ (pos 16)) g) ∙ sym (simp (lt-leb _ _ few))
 
-  pub entry-written : 24 ≤ length d → (d' : List ℕ) (r : ℕ) → Written d 0 24 (entryOctets (e ∷ [])) d' r → (z : ℤ) → SFits w64 z → z ≡ pos r → lent (toZ w64 (ofZ w64 z)) d' ≡ writtenIn d (fits (length d) (entryOctets (e ∷ [])))
+  pub entry-written : 24 ≤ length d → (d' : List ℕ) (r : ℕ) → Written d 0 24 (entryOctets (e ∷ [])) d' r → (z : ℤ) → SFits w64 z → z ≡ pos r
+      → lent (toZ w64 (ofZ w64 z)) d' ≡ writtenIn d (fits (length d) (entryOctets (e ∷ [])))
   entry-written h d' r w z f g =
       let room : length (entryOctets (e ∷ [])) ≤ length d = omega (arith, octets-length (e ∷ [])) in
       let r-is : r ≡ length (entryOctets (e ∷ [])) = omega (arith, w .after, w .size) in
-      ap (λ (x : ℤ). lent x d') (same z f (pos r) g) ∙ ap (λ (x : ℕ). lent (pos x) d') r-is ∙ ap (lent (pos (length (entryOctets (e ∷ []))))) (w .holds) ∙ sym (simp (le-leb _ _ room))
+      ap (λ (x : ℤ). lent x d') (same z f (pos r) g) ∙ ap (λ (x : ℕ). lent (pos x) d') r-is
+      ∙ ap (lent (pos (length (entryOctets (e ∷ []))))) (w .holds) ∙ sym (simp (le-leb _ _ room))
 
-pub entry-is : (e : Entry) (s : List ℕ) → e ≡ faultOf s → (d d' : List ℕ) (z : ℤ) → lent z d' ≡ writtenIn d (fits (length d) (entryOctets (e ∷ []))) → lent z d' ≡ writtenIn d (fits (length d) (entryOctets (faultOf s ∷ [])))
+pub entry-is : (e : Entry) (s : List ℕ) → e ≡ faultOf s → (d d' : List ℕ) (z : ℤ) → lent z d' ≡ writtenIn d (fits (length d) (entryOctets (e ∷ [])))
+    → lent z d' ≡ writtenIn d (fits (length d) (entryOctets (faultOf s ∷ [])))
 entry-is e s e-is d d' z w = rw e-is at w
 
 pub entry-small : (e : Entry) (d d' : List ℕ) (r : ℕ) → Written d 0 24 (entryOctets (e ∷ [])) d' r → r < 2 ^ 63
@@ -56,9 +60,11 @@ module _ (s : List ℕ) (r : Answer) (r-is : told r ≡ outcomeOf (tokenOf s)) (
       ∙ ap (lent (pos 0)) (sym (put-none d 0))
       ∙ sym (ap (λ (x : Reading). writtenIn d (faultReply x s (length d))) (answer-accepts s r r-is n here))
 
-  pub fault-some : (n : ℕ) (place : TokenPlace) → r ≡ answer.Refused n place → (d' : List ℕ) (z : ℤ) → SFits w64 z → lent z d' ≡ writtenIn d (fits (length d) (entryOctets (faultOf s ∷ []))) → lent (toZ w64 (ofZ w64 z)) d' ≡ faultAnswer s d
+  pub fault-some : (n : ℕ) (place : TokenPlace) → r ≡ answer.Refused n place → (d' : List ℕ) (z : ℤ) → SFits w64 z
+      → lent z d' ≡ writtenIn d (fits (length d) (entryOctets (faultOf s ∷ []))) → lent (toZ w64 (ofZ w64 z)) d' ≡ faultAnswer s d
   fault-some n place here d' z f e =
-      ap (λ (x : ℤ). lent x d') (same z f z refl) ∙ e ∙ sym (ap (λ (x : Reading). writtenIn d (faultReply x s (length d))) (answer-refuses s r r-is n place here))
+      ap (λ (x : ℤ). lent x d') (same z f z refl) ∙ e ∙ sym
+      (ap (λ (x : Reading). writtenIn d (faultReply x s (length d))) (answer-refuses s r r-is n place here))
 
 pub ruleset fault-answers = (fault-none, fault-some)
 

@@ -39,27 +39,40 @@ module _ (s : List ℕ) (a : Accepts s) (n : ℕ) (n-is : n ≡ length (entriesO
     pub entries-beyond : n ≤ k → (z : ℤ) → SFits w64 z → z ≡ negℤ (pos 19) → lent (toZ w64 (ofZ w64 z)) d ≡ entriesAnswer s k d
     entries-beyond h z f e =
         ap (λ (x : ℤ). lent x d) (same z f (negℤ (pos 19)) e)
-        ∙ sym (ap (λ (r : Reply Entry). writtenIn d (andThen r (λ e. cond (leb 24 (length d)) (given (entryOctets (take (length d / 24) (drop k (entriesOf (messagesOf (tokenOf s))))))) (refused 16)))) (item-refused (entriesOf (messagesOf (tokenOf s))) k (omega arith)))
+        ∙ sym (ap
+        (λ (r : Reply Entry). writtenIn d
+        (andThen r
+        (λ e. cond (leb 24 (length d)) (given (entryOctets (take (length d / 24) (drop k (entriesOf (messagesOf (tokenOf s))))))) (refused 16))))
+        (item-refused (entriesOf (messagesOf (tokenOf s))) k (omega arith)))
         ∙ answer-is
 
     module _ (h : k < n) where
       here : itemAt (entriesOf (messagesOf (tokenOf s))) k ≡ given (getD (entriesOf (messagesOf (tokenOf s))) k noEntry)
       here = item-given (entriesOf (messagesOf (tokenOf s))) k noEntry (omega arith)
 
-      window-is : writtenIn d (cond (leb 24 (length d)) (given (entryOctets (take (length d / 24) (drop k (entriesOf (messagesOf (tokenOf s))))))) (refused 16)) ≡ entriesAnswer s k d
+      window-is : writtenIn d
+          (cond (leb 24 (length d)) (given (entryOctets (take (length d / 24) (drop k (entriesOf (messagesOf (tokenOf s))))))) (refused 16))
+          ≡ entriesAnswer s k d
       window-is =
-          sym (ap (λ (r : Reply Entry). writtenIn d (andThen r (λ e. cond (leb 24 (length d)) (given (entryOctets (take (length d / 24) (drop k (entriesOf (messagesOf (tokenOf s))))))) (refused 16)))) here)
+          sym (ap
+          (λ (r : Reply Entry). writtenIn d
+          (andThen r
+          (λ e. cond (leb 24 (length d)) (given (entryOctets (take (length d / 24) (drop k (entriesOf (messagesOf (tokenOf s)))))))
+          (refused 16)))) here)
           ∙ answer-is
 
       pub entries-full : length d < 24 → (z : ℤ) → SFits w64 z → z ≡ negℤ (pos 16) → lent (toZ w64 (ofZ w64 z)) d ≡ entriesAnswer s k d
       entries-full g z f e = ap (λ (x : ℤ). lent x d) (same z f (negℤ (pos 16)) e) ∙ sym (simp (lt-leb _ _ g)) ∙ window-is
 
-      pub entries-written : 24 ≤ length d → (d' : List ℕ) (r : ℕ) → Filled d 0 (drop k (entriesOf (messagesOf (tokenOf s)))) d' r → (z : ℤ) → SFits w64 z → z ≡ pos r → lent (toZ w64 (ofZ w64 z)) d' ≡ entriesAnswer s k d
+      pub entries-written : 24 ≤ length d → (d' : List ℕ) (r : ℕ) → Filled d 0 (drop k (entriesOf (messagesOf (tokenOf s)))) d' r → (z : ℤ)
+          → SFits w64 z → z ≡ pos r → lent (toZ w64 (ofZ w64 z)) d' ≡ entriesAnswer s k d
       unfolding Filled
       entries-written g d' r w z f e =
           let room : length d - 0 ≡ length d = omega arith in
           let A = take (length d / 24) (drop k (entriesOf (messagesOf (tokenOf s)))) in
-          let v : Written d 0 (24 * length A) (entryOctets A) d' r = subst (λ (j : ℕ). Written d 0 (24 * length (take (j / 24) (drop k (entriesOf (messagesOf (tokenOf s)))))) (entryOctets (take (j / 24) (drop k (entriesOf (messagesOf (tokenOf s)))))) d' r) room w in
+          let v : Written d 0 (24 * length A) (entryOctets A) d' r =
+          subst (λ (j : ℕ). Written d 0 (24 * length (take (j / 24) (drop k (entriesOf (messagesOf (tokenOf s))))))
+          (entryOctets (take (j / 24) (drop k (entriesOf (messagesOf (tokenOf s)))))) d' r) room w in
           let r-is : r ≡ length (entryOctets A) = omega (arith, v .after, v .size) in
           ap (λ (x : ℤ). lent x d') (same z f (pos r) e)
           ∙ ap (λ (x : ℕ). lent (pos x) d') r-is
@@ -68,10 +81,19 @@ module _ (s : List ℕ) (a : Accepts s) (n : ℕ) (n-is : n ≡ length (entriesO
           ∙ window-is
 
 -- what is written are no more than all entries
-pub filled-short : (s : List ℕ) → Accepts s → (k : ℕ) (d d' : List ℕ) (r : ℕ) → Filled d 0 (drop k (entriesOf (messagesOf (tokenOf s)))) d' r → r < 2 ^ 63
+pub filled-short : (s : List ℕ) → Accepts s → (k : ℕ) (d d' : List ℕ) (r : ℕ) → Filled d 0 (drop k (entriesOf (messagesOf (tokenOf s)))) d' r
+    → r < 2 ^ 63
 unfolding Filled
 filled-short s a k d d' r w =
     let es = entriesOf (messagesOf (tokenOf s)) in
-    omega (arith, w .after, length-take ((length d - 0) / 24) (drop k es), length-drop k es, entries-few s (messagesOf (tokenOf s)) a, accepted-short s a)
+    omega (
+      arith,
+      w .after,
+      length-take ((length d - 0) / 24) (drop k es),
+      length-drop k es,
+      entries-few s
+          (messagesOf (tokenOf s)) a,
+      accepted-short s a,
+    )
 
 pub ruleset windows = (count-small, count-given, entries-beyond, entries-full, entries-written, filled-short)

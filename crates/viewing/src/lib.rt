@@ -60,7 +60,8 @@ pub fn write_entries(token: &[u8], first: usize, buffer: &mut [u8]) -> i64
 
 // The fault of a refused token.
 fn fill_fault(token: &[u8], buffer: &mut [u8]) -> i64
-    ensures { λ r. ⌜ lent r (now (buffer .exit)) ≡ writtenIn (now (buffer .entry)) (fits (length (now (buffer .entry))) (entryOctets (faultOf (now (token .entry)) ∷ []))) ⌝ }
+    ensures { λ r. ⌜ lent r (now (buffer .exit)) ≡ writtenIn (now (buffer .entry))
+        (fits (length (now (buffer .entry))) (entryOctets (faultOf (now (token .entry)) ∷ []))) ⌝ }
 {
     if buffer.len() < SIZE {
         return refusal(16);

@@ -23,7 +23,8 @@ fitting-front : (room : ℕ) (ls : List (List ℕ)) → fitting room ls ≡ take
 unfolding fitting
 fitting-front room [] = refl
 fitting-front room (l ∷ ls) = go (leb (length l) room) (fitting-front (room - length l) ls) where
-  go : (b : Bool) → fitting (room - length l) ls ≡ take (length (fitting (room - length l) ls)) ls → cond b (l ∷ fitting (room - length l) ls) [] ≡ take (length (cond b (l ∷ fitting (room - length l) ls) [])) (l ∷ ls)
+  go : (b : Bool) → fitting (room - length l) ls ≡ take (length (fitting (room - length l) ls)) ls
+      → cond b (l ∷ fitting (room - length l) ls) [] ≡ take (length (cond b (l ∷ fitting (room - length l) ls) [])) (l ∷ ls)
   go true e = ap (λ (x : List (List ℕ)). l ∷ x) e
   go false e = refl
 
@@ -66,7 +67,8 @@ module _ (ls : List (List ℕ)) (first end : ℕ) (d : List ℕ) where
   front-is : shownBy ≡ take (windowOf ls first end d .lines) (drop first ls)
   unfolding windowOf shownBy
   front-is =
-      let n : length (fitting (length d) (range first end ls)) ≤ end - first = omega (arith, length-fitting (length d) (range first end ls), length-take (end - first) (drop first ls)) in
+      let n : length (fitting (length d) (range first end ls)) ≤ end - first =
+      omega (arith, length-fitting (length d) (range first end ls), length-take (end - first) (drop first ls)) in
       fitting-front (length d) (range first end ls) ∙ take-take (length (fitting (length d) (range first end ls))) (end - first) (drop first ls) n
 
   -- what a window answers: octets of its buffer, lines of its range and of the whole
@@ -77,11 +79,28 @@ module _ (ls : List (List ℕ)) (first end : ℕ) (d : List ℕ) where
 
     pub window-range : r .lines ≤ end - first
     unfolding shownBy
-    window-range = omega (arith, ap (λ (w : Window). w .lines) is, lines-are, length-fitting (length d) (range first end ls), length-take (end - first) (drop first ls))
+    window-range =
+        omega (
+          arith,
+          ap (λ (w : Window). w .lines) is,
+          lines-are,
+          length-fitting (length d) (range first end ls),
+          length-take (end - first)
+              (drop first ls),
+        )
 
     pub window-lines : r .lines ≤ length ls - first
     unfolding shownBy
-    window-lines = omega (arith, ap (λ (w : Window). w .lines) is, lines-are, length-fitting (length d) (range first end ls), length-take (end - first) (drop first ls), length-drop first ls)
+    window-lines =
+        omega (
+          arith,
+          ap (λ (w : Window). w .lines) is,
+          lines-are,
+          length-fitting (length d) (range first end ls),
+          length-take (end - first)
+              (drop first ls),
+          length-drop first ls,
+        )
 
 -- a window whose buffer has room for its first line shows it
 pub gets-on : GetsOn
@@ -97,7 +116,8 @@ unfolding reached
 reached-on ls first [] = omega arith
 reached-on ls first (q ∷ qs) = omega (arith, reached-on ls (first + windowOf ls first (q .end) (q .buffer) .lines) qs)
 
-following-joined : (ls : List (List ℕ)) (first : ℕ) (qs : List Request) → following ls first qs ≡ joined (take (reached ls first qs - first) (drop first ls))
+following-joined : (ls : List (List ℕ)) (first : ℕ) (qs : List Request)
+    → following ls first qs ≡ joined (take (reached ls first qs - first) (drop first ls))
 unfolding following reached
 following-joined ls first [] = let e : 0 ≡ first - first = omega arith in ap (λ (k : ℕ). joined (take k (drop first ls))) e
 following-joined ls first (q ∷ qs) =
@@ -105,7 +125,8 @@ following-joined ls first (q ∷ qs) =
     let far = reached ls (first + k) qs in
     let e : k + (far - (first + k)) ≡ far - first = omega (arith, reached-on ls (first + k) qs) in
     ap (λ (x : List ℕ). textOf (windowOf ls first (q .end) (q .buffer)) ++ x) (following-joined ls (first + k) qs)
-    ∙ ap (λ (x : List ℕ). x ++ joined (take (far - (first + k)) (drop (first + k) ls))) (text-is ls first (q .end) (q .buffer) ∙ ap joined (front-is ls first (q .end) (q .buffer)))
+    ∙ ap (λ (x : List ℕ). x ++ joined (take (far - (first + k)) (drop (first + k) ls)))
+    (text-is ls first (q .end) (q .buffer) ∙ ap joined (front-is ls first (q .end) (q .buffer)))
     ∙ ap (λ (x : List (List ℕ)). joined (take k (drop first ls)) ++ joined (take (far - (first + k)) x)) (sym (drop-drop k first ls))
     ∙ sym (joined-append (take k (drop first ls)) (take (far - (first + k)) (drop k (drop first ls))))
     ∙ ap joined (sym (take-add k (far - (first + k)) (drop first ls)) ∙ ap (λ (n : ℕ). take n (drop first ls)) e)
@@ -114,18 +135,22 @@ pub windows-joined : WindowsJoined
 windows-joined ls qs = let e : reached ls 0 qs - 0 ≡ reached ls 0 qs = omega arith in following-joined ls 0 qs ∙ ap (λ (n : ℕ). joined (take n ls)) e
 
 -- enough windows, each with a line, reach the end
-pub reached-all : (ls : List (List ℕ)) (first : ℕ) (qs : List Request) → EachShows ls first qs → length ls ≤ first + length qs → length ls ≤ reached ls first qs
+pub reached-all : (ls : List (List ℕ)) (first : ℕ) (qs : List Request) → EachShows ls first qs → length ls ≤ first + length qs
+    → length ls ≤ reached ls first qs
 unfolding reached EachShows
 reached-all ls first [] h g = omega arith
-reached-all ls first (q ∷ qs) h g = go (which (leb (suc first) (length ls))) (reached-all ls (first + windowOf ls first (q .end) (q .buffer) .lines) qs (h .1)) where
-  go : (leb (suc first) (length ls) ≡ true) ⊎ (leb (suc first) (length ls) ≡ false)
-      → (length ls ≤ first + windowOf ls first (q .end) (q .buffer) .lines + length qs → length ls ≤ reached ls (first + windowOf ls first (q .end) (q .buffer) .lines) qs)
-      → length ls ≤ reached ls (first + windowOf ls first (q .end) (q .buffer) .lines) qs
-  go (inl e) ih =
-      let more : suc first ≤ length ls = leb-true _ _ e in
-      let some : first < length ls = omega arith in
-      ih (omega (arith, h .0 some))
-  go (inr e) ih = let none : length ls < suc first = leb-false _ _ e in omega (arith, reached-on ls (first + windowOf ls first (q .end) (q .buffer) .lines) qs)
+reached-all ls first (q ∷ qs) h g =
+    go (which (leb (suc first) (length ls))) (reached-all ls (first + windowOf ls first (q .end) (q .buffer) .lines) qs (h .1)) where
+      go : (leb (suc first) (length ls) ≡ true) ⊎ (leb (suc first) (length ls) ≡ false)
+          → (length ls ≤ first + windowOf ls first (q .end) (q .buffer) .lines + length qs
+          → length ls ≤ reached ls (first + windowOf ls first (q .end) (q .buffer) .lines) qs)
+          → length ls ≤ reached ls (first + windowOf ls first (q .end) (q .buffer) .lines) qs
+      go (inl e) ih =
+          let more : suc first ≤ length ls = leb-true _ _ e in
+          let some : first < length ls = omega arith in
+          ih (omega (arith, h .0 some))
+      go (inr e) ih =
+          let none : length ls < suc first = leb-false _ _ e in omega (arith, reached-on ls (first + windowOf ls first (q .end) (q .buffer) .lines) qs)
 
 pub windows-all : WindowsAll
 windows-all ls qs h g = windows-joined ls qs ∙ ap joined (take-all (reached ls 0 qs) ls (reached-all ls 0 qs h (omega arith)))

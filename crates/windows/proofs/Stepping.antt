@@ -37,7 +37,8 @@ module _ (p : Progress) (d l : List ℕ) where
           let g : length d < p .octets + length l = omega (arith, going .within) in
           simp (ne-eqb _ _ more, eq-eqb _ _ here, lt-leb _ _ g)
 
-      pub put-fits : length l ≤ length d - p .octets → (d' : List ℕ) (next : ℕ) → text d' next ≡ written (l ∷ []) (text d (p .octets)) → state 0 (p .left - 1) (p .lines + 1) next d' ≡ step (within p d) l
+      pub put-fits : length l ≤ length d - p .octets → (d' : List ℕ) (next : ℕ) → text d' next ≡ written (l ∷ []) (text d (p .octets))
+          → state 0 (p .left - 1) (p .lines + 1) next d' ≡ step (within p d) l
       unfolding stepFrom written appended
       put-fits h d' next e =
           let g : p .octets + length l ≤ length d = omega (arith, going .within) in
@@ -51,8 +52,12 @@ pub ruleset puts = (put-done, put-skip, put-full, put-fits)
 step-length : (t : State) (l : List ℕ) → length (step t l .buffer) ≡ length (t .buffer)
 unfolding stepFrom
 step-length t l = go (eqb (t .progress .left) 0) (eqb (t .progress .skip) 0) (which (leb (t .progress .octets + length l) (length (t .buffer)))) where
-  go : (a b : Bool) → (leb (t .progress .octets + length l) (length (t .buffer)) ≡ true) ⊎ (leb (t .progress .octets + length l) (length (t .buffer)) ≡ false)
-      → length (cond a t (cond b (placed (t .progress .left) (t .progress .lines) (t .progress .octets) (t .buffer) l) (state (t .progress .skip - 1) (t .progress .left) (t .progress .lines) (t .progress .octets) (t .buffer))) .buffer) ≡ length (t .buffer)
+  go : (a b : Bool)
+      → (leb (t .progress .octets + length l) (length (t .buffer)) ≡ true) ⊎ (leb (t .progress .octets + length l) (length (t .buffer)) ≡ false)
+      → length
+      (cond a t
+      (cond b (placed (t .progress .left) (t .progress .lines) (t .progress .octets) (t .buffer) l)
+      (state (t .progress .skip - 1) (t .progress .left) (t .progress .lines) (t .progress .octets) (t .buffer))) .buffer) ≡ length (t .buffer)
   go true b w = refl
   go false false w = refl
   go false true (inl e) = rw e (length-put _ _ _ (leb-true _ _ e))
@@ -60,15 +65,20 @@ step-length t l = go (eqb (t .progress .left) 0) (eqb (t .progress .skip) 0) (wh
 
 step-going : (t : State) (l : List ℕ) → Going (t .progress) (length (t .buffer)) → Going (step t l .progress) (length (t .buffer))
 unfolding stepFrom
-step-going t l g = go (which (eqb (t .progress .left) 0)) (eqb (t .progress .skip) 0) (which (leb (t .progress .octets + length l) (length (t .buffer)))) where
-  go : (eqb (t .progress .left) 0 ≡ true) ⊎ (eqb (t .progress .left) 0 ≡ false) → (b : Bool) → (leb (t .progress .octets + length l) (length (t .buffer)) ≡ true) ⊎ (leb (t .progress .octets + length l) (length (t .buffer)) ≡ false)
-      → Going (cond (eqb (t .progress .left) 0) t (cond b (placed (t .progress .left) (t .progress .lines) (t .progress .octets) (t .buffer) l) (state (t .progress .skip - 1) (t .progress .left) (t .progress .lines) (t .progress .octets) (t .buffer))) .progress) (length (t .buffer))
-  go (inl a) b w = rw a g
-  go (inr a) false w = rw a (record { within = g .within; few = g .few })
-  go (inr a) true (inl e) =
-      let some : t .progress .left ≡ 0 → ⊥ = eqb-false _ _ a in
-      rw (a, e) (record { within = leb-true _ _ e; few = omega (arith, g .few) })
-  go (inr a) true (inr e) = rw (a, e) (record { within = g .within; few = omega (arith, g .few) })
+step-going t l g =
+    go (which (eqb (t .progress .left) 0)) (eqb (t .progress .skip) 0) (which (leb (t .progress .octets + length l) (length (t .buffer)))) where
+      go : (eqb (t .progress .left) 0 ≡ true) ⊎ (eqb (t .progress .left) 0 ≡ false) → (b : Bool)
+          → (leb (t .progress .octets + length l) (length (t .buffer)) ≡ true) ⊎ (leb (t .progress .octets + length l) (length (t .buffer)) ≡ false)
+          → Going
+          (cond (eqb (t .progress .left) 0) t
+          (cond b (placed (t .progress .left) (t .progress .lines) (t .progress .octets) (t .buffer) l)
+          (state (t .progress .skip - 1) (t .progress .left) (t .progress .lines) (t .progress .octets) (t .buffer))) .progress) (length (t .buffer))
+      go (inl a) b w = rw a g
+      go (inr a) false w = rw a (record { within = g .within; few = g .few })
+      go (inr a) true (inl e) =
+          let some : t .progress .left ≡ 0 → ⊥ = eqb-false _ _ a in
+          rw (a, e) (record { within = leb-true _ _ e; few = omega (arith, g .few) })
+      go (inr a) true (inr e) = rw (a, e) (record { within = g .within; few = omega (arith, g .few) })
 
 pub steps-length : (ls : List (List ℕ)) (t : State) → length (steps ls t .buffer) ≡ length (t .buffer)
 unfolding steps
@@ -116,7 +126,8 @@ steps-done (l ∷ ls) p d e = steps-done ls p d e ∙ ap (steps ls) (put-done p 
 abbrev pub at-skip : Progress → ℕ → Progress
 at-skip p k = record { skip = k; left = p .left; lines = p .lines; octets = p .octets }
 
-pub steps-over : (ls : List (List ℕ)) (k : ℕ) (p : Progress) (d : List ℕ) → (p .left ≡ 0 → ⊥) → length ls ≤ k → within (at-skip p (k - length ls)) d ≡ steps ls (within (at-skip p k) d)
+pub steps-over : (ls : List (List ℕ)) (k : ℕ) (p : Progress) (d : List ℕ) → (p .left ≡ 0 → ⊥) → length ls ≤ k
+    → within (at-skip p (k - length ls)) d ≡ steps ls (within (at-skip p k) d)
 unfolding steps
 steps-over [] k p d more h = let e : k - 0 ≡ k = omega arith in ap (λ (n : ℕ). within (at-skip p n) d) e
 steps-over (l ∷ ls) zero p d more h = absurd (omega arith)
@@ -127,7 +138,8 @@ steps-over (l ∷ ls) (suc k) p d more h =
     ∙ steps-over ls k p d more (omega arith)
     ∙ ap (steps ls) (ap (λ (n : ℕ). within (at-skip p n) d) (sym u) ∙ put-skip (at-skip p (suc k)) d l more (λ z. omega arith))
 
-pub steps-into : (ls : List (List ℕ)) (k : ℕ) (p : Progress) (d : List ℕ) → (p .left ≡ 0 → ⊥) → k ≤ length ls → steps ls (within (at-skip p k) d) ≡ steps (drop k ls) (within (at-skip p 0) d)
+pub steps-into : (ls : List (List ℕ)) (k : ℕ) (p : Progress) (d : List ℕ) → (p .left ≡ 0 → ⊥) → k ≤ length ls
+    → steps ls (within (at-skip p k) d) ≡ steps (drop k ls) (within (at-skip p 0) d)
 unfolding steps
 steps-into ls zero p d more h = refl
 steps-into [] (suc k) p d more h = absurd (omega arith)

@@ -25,7 +25,8 @@ pub fitting-room : (room : ℕ) (ls : List (List ℕ)) → length (joined (fitti
 unfolding fitting
 fitting-room room [] = omega arith
 fitting-room room (l ∷ ls) = go (which (leb (length l) room)) (fitting-room (room - length l) ls) where
-  go : (leb (length l) room ≡ true) ⊎ (leb (length l) room ≡ false) → length (joined (fitting (room - length l) ls)) ≤ room - length l → length (joined (cond (leb (length l) room) (l ∷ fitting (room - length l) ls) [])) ≤ room
+  go : (leb (length l) room ≡ true) ⊎ (leb (length l) room ≡ false) → length (joined (fitting (room - length l) ls)) ≤ room - length l
+      → length (joined (cond (leb (length l) room) (l ∷ fitting (room - length l) ls) [])) ≤ room
   go (inl e) h = let g : length l ≤ room = leb-true _ _ e in rw e (omega (arith, length-append l (joined (fitting (room - length l) ls))))
   go (inr e) h = rw e (omega arith)
 
@@ -36,13 +37,15 @@ windowAt t = record { lines = t .progress .lines; octets = t .progress .octets; 
 abbrev behind : List ℕ → ℕ → ℕ → List (List ℕ) → Window
 behind d n o fs = record { lines = n + length fs; octets = o + length (joined fs); buffer = put d o (joined fs) }
 
-same : (a a' b b' : ℕ) (c c' : List ℕ) → a ≡ a' → b ≡ b' → c ≡ c' → _≡_ {A = Window} (record { lines = a; octets = b; buffer = c }) (record { lines = a'; octets = b'; buffer = c' })
+same : (a a' b b' : ℕ) (c c' : List ℕ) → a ≡ a' → b ≡ b' → c ≡ c'
+    → _≡_ {A = Window} (record { lines = a; octets = b; buffer = c }) (record { lines = a'; octets = b'; buffer = c' })
 same a a' b b' c c' p q r = rw (p, q, r)
 
 behind-none : (d : List ℕ) (n o : ℕ) → record { lines = n; octets = o; buffer = d } ≡ behind d n o []
 behind-none d n o = same _ _ _ _ _ _ (sym (add-zero n)) (sym (add-zero o)) (sym (put-none d o))
 
-behind-more : (d : List ℕ) (n o : ℕ) (l : List ℕ) (fs : List (List ℕ)) → o + length l + length (joined fs) ≤ length d → behind (put d o l) (n + 1) (o + length l) fs ≡ behind d n o (l ∷ fs)
+behind-more : (d : List ℕ) (n o : ℕ) (l : List ℕ) (fs : List (List ℕ)) → o + length l + length (joined fs) ≤ length d
+    → behind (put d o l) (n + 1) (o + length l) fs ≡ behind d n o (l ∷ fs)
 behind-more d n o l fs h = same _ _ _ _ _ _ (omega arith) (omega (arith, length-append l (joined fs))) (put-more d o l (joined fs) h)
 
 -- one line: passed over, shown, or the end
@@ -63,33 +66,37 @@ unfolding stepFrom
 step-full left n o d l h = simp (ne-eqb (suc left) 0 (λ z. omega arith), lt-leb _ _ h)
 
 -- lines put one by one are what fits of the range, put joined
-pub steps-window : (ls : List (List ℕ)) (skip left n o : ℕ) (d : List ℕ) → o ≤ length d → windowAt (steps ls (state skip left n o d)) ≡ behind d n o (fitting (length d - o) (take left (drop skip ls)))
+pub steps-window : (ls : List (List ℕ)) (skip left n o : ℕ) (d : List ℕ) → o ≤ length d
+    → windowAt (steps ls (state skip left n o d)) ≡ behind d n o (fitting (length d - o) (take left (drop skip ls)))
 unfolding steps fitting
 steps-window [] skip left n o d h = rw (drop-nil skip, take-nil left) (behind-none d n o)
 steps-window (l ∷ ls) skip zero n o d h = ap windowAt (sym (steps-done (l ∷ ls) (state skip zero n o d .progress) d refl)) ∙ behind-none d n o
-steps-window (l ∷ ls) (suc skip) (suc left) n o d h = ap (λ (t : State). windowAt (steps ls t)) (step-skip skip left n o d l) ∙ steps-window ls skip (suc left) n o d h
-steps-window (l ∷ ls) zero (suc left) n o d h = go (which (leb (o + length l) (length d))) (λ k. steps-window ls 0 left (n + 1) (o + length l) (put d o l) k) where
-  go : (leb (o + length l) (length d) ≡ true) ⊎ (leb (o + length l) (length d) ≡ false)
-      → (o + length l ≤ length (put d o l) → windowAt (steps ls (state 0 left (n + 1) (o + length l) (put d o l))) ≡ behind (put d o l) (n + 1) (o + length l) (fitting (length (put d o l) - (o + length l)) (take left (drop 0 ls))))
-      → windowAt (steps ls (stepFrom 0 (suc left) n o d l)) ≡ behind d n o (fitting (length d - o) (l ∷ take left (drop 0 ls)))
-  go (inl e) ih =
-      let g : o + length l ≤ length d = leb-true _ _ e in
-      let z : length (put d o l) ≡ length d = length-put d o l g in
-      let r : length (put d o l) - (o + length l) ≡ length d - o - length l = omega arith in
-      let b : length l ≤ length d - o = omega arith in
-      let fs = fitting (length d - o - length l) (take left (drop 0 ls)) in
-      ap (λ (t : State). windowAt (steps ls t)) (step-fits left n o d l g)
-      ∙ ih (omega arith)
-      ∙ ap (λ (m : ℕ). behind (put d o l) (n + 1) (o + length l) (fitting m (take left (drop 0 ls)))) r
-      ∙ behind-more d n o l fs (omega (arith, fitting-room (length d - o - length l) (take left (drop 0 ls))))
-      ∙ (unfold fitting in simp (le-leb (length l) (length d - o) b))
-  go (inr e) ih =
-      let g : length d < o + length l = leb-false _ _ e in
-      let b : length d - o < length l = omega arith in
-      ap (λ (t : State). windowAt (steps ls t)) (step-full left n o d l g)
-      ∙ ap windowAt (sym (steps-done ls (state 0 0 n o d .progress) d refl))
-      ∙ behind-none d n o
-      ∙ (unfold fitting in simp (lt-leb (length l) (length d - o) b))
+steps-window (l ∷ ls) (suc skip) (suc left) n o d h =
+    ap (λ (t : State). windowAt (steps ls t)) (step-skip skip left n o d l) ∙ steps-window ls skip (suc left) n o d h
+steps-window (l ∷ ls) zero (suc left) n o d h =
+    go (which (leb (o + length l) (length d))) (λ k. steps-window ls 0 left (n + 1) (o + length l) (put d o l) k) where
+      go : (leb (o + length l) (length d) ≡ true) ⊎ (leb (o + length l) (length d) ≡ false)
+          → (o + length l ≤ length (put d o l) → windowAt (steps ls (state 0 left (n + 1) (o + length l) (put d o l)))
+          ≡ behind (put d o l) (n + 1) (o + length l) (fitting (length (put d o l) - (o + length l)) (take left (drop 0 ls))))
+          → windowAt (steps ls (stepFrom 0 (suc left) n o d l)) ≡ behind d n o (fitting (length d - o) (l ∷ take left (drop 0 ls)))
+      go (inl e) ih =
+          let g : o + length l ≤ length d = leb-true _ _ e in
+          let z : length (put d o l) ≡ length d = length-put d o l g in
+          let r : length (put d o l) - (o + length l) ≡ length d - o - length l = omega arith in
+          let b : length l ≤ length d - o = omega arith in
+          let fs = fitting (length d - o - length l) (take left (drop 0 ls)) in
+          ap (λ (t : State). windowAt (steps ls t)) (step-fits left n o d l g)
+          ∙ ih (omega arith)
+          ∙ ap (λ (m : ℕ). behind (put d o l) (n + 1) (o + length l) (fitting m (take left (drop 0 ls)))) r
+          ∙ behind-more d n o l fs (omega (arith, fitting-room (length d - o - length l) (take left (drop 0 ls))))
+          ∙ (unfold fitting in simp (le-leb (length l) (length d - o) b))
+      go (inr e) ih =
+          let g : length d < o + length l = leb-false _ _ e in
+          let b : length d - o < length l = omega arith in
+          ap (λ (t : State). windowAt (steps ls t)) (step-full left n o d l g)
+          ∙ ap windowAt (sym (steps-done ls (state 0 0 n o d .progress) d refl))
+          ∙ behind-none d n o
+          ∙ (unfold fitting in simp (lt-leb (length l) (length d - o) b))
 
 pub steps-shown : (ls : List (List ℕ)) (first end : ℕ) (d : List ℕ) → windowAt (steps ls (within (startOf first end) d)) ≡ windowOf ls first end d
 unfolding windowOf
@@ -100,7 +107,8 @@ steps-shown ls first end d =
     ∙ same _ _ _ _ _ _ (zero-add _) (zero-add _) refl
 
 -- what the code answers behind the last line is the window
-pub window-is : (ls : List (List ℕ)) (first end : ℕ) (d : List ℕ) (p t : Progress) (d' : List ℕ) → p ≡ startOf first end → within t d' ≡ steps ls (within p d) → (r : Shown) → r ≡ shownSoFar t → asWindow r d' ≡ windowOf ls first end d
+pub window-is : (ls : List (List ℕ)) (first end : ℕ) (d : List ℕ) (p t : Progress) (d' : List ℕ) → p ≡ startOf first end
+    → within t d' ≡ steps ls (within p d) → (r : Shown) → r ≡ shownSoFar t → asWindow r d' ≡ windowOf ls first end d
 window-is ls first end d p t d' p-is t-is r r-is =
     ap (λ (x : Shown). asWindow x d') r-is
     ∙ ap windowAt (t-is ∙ ap (λ (u : Progress). steps ls (within u d)) p-is)

@@ -14,7 +14,8 @@ slice-relend-prefix-write-blanked : tie.Need-slice-relend-prefix-write-blanked
 slice-relend-prefix-write-blanked c = loaded _ _ _ (c .before .before .before .before .before .load .ensures) (c .before .loaded .given .1) .0
 
 slice-aggregate-write-blanked : tie.Need-slice-aggregate-write-blanked
-slice-aggregate-write-blanked c = loaded _ _ _ (c .before .before .before .before .before .before .load .ensures) (c .before .before .loaded .given .1) .1
+slice-aggregate-write-blanked c =
+    loaded _ _ _ (c .before .before .before .before .before .before .load .ensures) (c .before .before .loaded .given .1) .1
 
 write-blanked-requires : tie.Need-write-blanked-requires
 write-blanked-requires c κs = search needs

@@ -10,7 +10,8 @@ use Rattle.blanking.proofs.wipe.Statement.{statement}
 use Rattle.blanking.proofs.wipe.Tie as tie
 
 abbrev Inv-loop : tie.InvT-loop
-Inv-loop m₀ map kind header at₀ far₀ m at far = (length m ≡ length m₀) × (wiped (headed (kind .0)) map 0 m₀ 0 ≡ take at m ++ wiped (headed (kind .0)) map far (drop at m) at)
+Inv-loop m₀ map kind header at₀ far₀ m at far =
+    (length m ≡ length m₀) × (wiped (headed (kind .0)) map 0 m₀ 0 ≡ take at m ++ wiped (headed (kind .0)) map far (drop at m) at)
 
 abbrev μ-loop : tie.MeasureT-loop
 μ-loop m₀ map kind header at₀ far₀ m at far = length m₀ - at

@@ -14,7 +14,8 @@ part-requires : tie.Need-part-requires
 part-requires c κs = search needs
 
 put-octets-requires : tie.Need-put-octets-requires
-put-octets-requires c κs = let h = random-size (c .before .before .before .before .args .octets .now) (c .before .before .if1 .left) _ (c .part .ensures) in search needs
+put-octets-requires c κs =
+    let h = random-size (c .before .before .before .before .args .octets .now) (c .before .before .if1 .left) _ (c .part .ensures) in search needs
 
 returns-2 : tie.Need-returns-2
 returns-2 c = search randoms

@@ -31,7 +31,11 @@ sub-t18 c =
     let cleared = c .before .before .before .before .before .before .before .before .before .before .before .clear in
     let marks = c .before .before .before .before .before .before .before .mark-kind in
     let kept : length (cleared .last .0) ≡ length (b .args .map .now) = search needs in
-    omega (arith, held-fits _ _ (b .pre .3) (b .pre .2) (b .args .map .now) _ _ (b .pre .1) kept (cleared .ensures) (marks .ensures) _ (c .before .before .before .before .header .ensures) _ (c .before .before .swept .ensures))
+    omega (
+      arith,
+      held-fits _ _ (b .pre .3) (b .pre .2) (b .args .map .now) _ _ (b .pre .1) kept (cleared .ensures) (marks .ensures) _
+          (c .before .before .before .before .header .ensures) _ (c .before .before .swept .ensures),
+    )
 
 cast-t19 : tie.Need-cast-t19
 cast-t19 c = search needs
@@ -45,7 +49,8 @@ returns c =
     let cleared = c .before .before .before .before .before .before .before .before .before .before .before .clear in
     let marks = c .before .before .before .before .before .before .before .mark-kind in
     let kept : length (cleared .last .0) ≡ length (b .args .map .now) = search needs in
-    counted-all _ _ (b .pre .3) (b .pre .2) (b .args .map .now) _ _ (b .pre .1) kept (cleared .ensures) (marks .ensures) _ (c .before .before .before .before .header .ensures) _ (c .before .before .swept .ensures) _ (c .swept2 .ensures)
+    counted-all _ _ (b .pre .3) (b .pre .2) (b .args .map .now) _ _ (b .pre .1) kept (cleared .ensures) (marks .ensures) _
+    (c .before .before .before .before .header .ensures) _ (c .before .before .swept .ensures) _ (c .swept2 .ensures)
 
 pub count-kind-spec : {M : Type 1} → statement M
 count-kind-spec =

@@ -12,7 +12,9 @@ use Rattle.coverage.proofs.mark_values.Statement.{statement}
 use Rattle.coverage.proofs.mark_values.Tie as tie
 
 abbrev Inv-loop : tie.InvT-loop
-Inv-loop map₀ array left₀ at₀ map left at = (at + left * 12 ≤ length array) × (length map ≡ length map₀) × (markedAll map₀ (valuesOf (elementsOf array)) ≡ markedAll map (valuesFrom left array at))
+Inv-loop map₀ array left₀ at₀ map left at =
+    (at + left * 12 ≤ length array) × (length map ≡ length map₀)
+    × (markedAll map₀ (valuesOf (elementsOf array)) ≡ markedAll map (valuesFrom left array at))
 
 abbrev μ-loop : tie.MeasureT-loop
 μ-loop map₀ array left₀ at₀ map left at = left

@@ -10,7 +10,8 @@ use Rattle.coverage.proofs.swept.Statement.{statement}
 use Rattle.coverage.proofs.swept.Tie as tie
 
 abbrev Inv-loop : tie.InvT-loop
-Inv-loop map start at₀ left₀ far₀ n₀ at left far n = (at + left ≡ length map) × (n ≤ at) × (sweep map start (length map) 0 ≡ n + sweep map far left at)
+Inv-loop map start at₀ left₀ far₀ n₀ at left far n =
+    (at + left ≡ length map) × (n ≤ at) × (sweep map start (length map) 0 ≡ n + sweep map far left at)
 
 abbrev μ-loop : tie.MeasureT-loop
 μ-loop map start at₀ left₀ far₀ n₀ at left far n = left

@@ -20,7 +20,10 @@ same-length c = search needs
 
 returns : tie.Need-returns
 unfolding element
-returns c = both (c .before .before .before .before .before .before .put-head .ensures) (c .before .before .put-octets .ensures) (c .before .before .before .before .before .before .before .before .before .before .pre .0)
+returns c =
+    let back6 = c .before .before .before .before .before .before in
+    let back10 = back6 .before .before .before .before in
+    both (back6 .put-head .ensures) (c .before .before .put-octets .ensures) (back10 .pre .0)
 
 pub put-element-spec : {M : Type 1} → statement M
 put-element-spec = tie.close (tie.spec put-head-requires put-octets-requires same-length returns)

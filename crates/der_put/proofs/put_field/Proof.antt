@@ -24,7 +24,9 @@ put-head-requires c κs = let s = c .before .before .before .before .before in
 
 put-element-requires : tie.Need-put-element-requires
 put-element-requires c κs = let s = c .before .before .before .before .before .before .before .before .before in
-    let r = field-room _ _ _ _ _ (c .before .before .before .before .before .before .if1 .taken) (c .before .before .before .before .element-size .ensures) (s .pre .0) (s .pre .1) in
+    let r =
+    field-room _ _ _ _ _ (c .before .before .before .before .before .before .if1 .taken)
+    (c .before .before .before .before .element-size .ensures) (s .pre .0) (s .pre .1) in
     let w = c .before .before .before .put-head .ensures .after in
     (search needs, r .small)
 
@@ -32,7 +34,13 @@ same-length : tie.Need-same-length
 same-length c = search needs
 
 returns : tie.Need-returns
-returns c = field-put _ _ _ _ _ _ _ _ _ _ _ (c .before .before .before .before .before .before .before .before .before .if1 .taken) (c .before .before .before .before .before .before .before .element-size .ensures) (c .before .before .before .before .before .before .put-head .ensures) (c .before .before .put-element .ensures) (c .before .before .before .before .before .before .before .before .before .before .before .before .pre .0)
+returns c =
+    let back6 = c .before .before .before .before .before .before in
+    let back7 = back6 .before in
+    let back9 = back7 .before .before in
+    let back12 = back9 .before .before .before in
+    field-put _ _ _ _ _ _ _ _ _ _ _ (back9 .if1 .taken) (back7 .element-size .ensures) (back6 .put-head .ensures)
+    (c .before .before .put-element .ensures) (back12 .pre .0)
 
 returns-2 : tie.Need-returns-2
 returns-2 c = field-absent _ _ _ _ _ _ (c .if1 .left)

@@ -28,13 +28,17 @@ array-read-size c = let h = c .loop-test .taken in let f = c .before .before .if
 
 returns-2 : tie.Need-returns-2 Inv-loop μ-loop
 returns-2 c = let b = c .before .before in
-    tested-stop (b .before .before .before .args .e) (b .before .before .before .args .values .now) (b .before .if1 .left) (b .loop .i) (b .loop .total) (b .loop .inv) (c .before .loop-test .taken) (c .if2 .taken)
+    tested-stop (b .before .before .before .args .e) (b .before .before .before .args .values .now) (b .before .if1 .left) (b .loop .i)
+    (b .loop .total) (b .loop .inv) (c .before .loop-test .taken) (c .if2 .taken)
 
 cast-total : tie.Need-cast-total Inv-loop μ-loop
 cast-total c = search needs
 
 add-total : tie.Need-add-total Inv-loop μ-loop
-add-total c = let t = c .before .before .loop .inv .small in let h = c .before .loop-test .taken in let f = c .before .before .before .if1 .left in let k = c .if2 .left in record { fits = omega arith }
+add-total c =
+    let t =
+    c .before .before .loop .inv .small in let h =
+    c .before .loop-test .taken in let f = c .before .before .before .if1 .left in let k = c .if2 .left in record { fits = omega arith }
 
 add-i : tie.Need-add-i Inv-loop μ-loop
 add-i c = search needs
@@ -47,7 +51,8 @@ loop-again c = tested-turn _ _ _ _ _ (c .before .before .loop .inv) (c .before .
 
 returns-3 : tie.Need-returns-3 Inv-loop μ-loop
 returns-3 c = let b = c .before in
-    tested-end (b .before .before .before .args .e) (b .before .before .before .args .values .now) (b .before .if1 .left) (b .loop .i) (b .loop .total) (b .loop .inv) (c .loop-test .left)
+    tested-end (b .before .before .before .args .e) (b .before .before .before .args .values .now) (b .before .if1 .left) (b .loop .i)
+    (b .loop .total) (b .loop .inv) (c .loop-test .left)
 
 pub fits-spec : {M : Type 1} → statement M
 fits-spec =

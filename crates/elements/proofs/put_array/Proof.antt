@@ -33,7 +33,10 @@ put-element-requires c κs = search needs
 
 add-offset : tie.Need-add-offset Inv-loop μ-loop
 add-offset c = let b = c .before .before .before .before .before in
-    let s = b .loop .inv .sum in let t = sum-turn _ _ (b .before .before .before .before .args .e .sizes) (c .before .before .before .before .loop-test .taken) in let p = b .before .before .before .before .pre .1 .1 in
+    let s =
+    b .loop .inv .sum in let t =
+    sum-turn _ _ (b .before .before .before .before .args .e .sizes) (c .before .before .before .before .loop-test .taken) in let p =
+    b .before .before .before .before .pre .1 .1 in
     record { fits = omega arith }
 
 add-i : tie.Need-add-i Inv-loop μ-loop
@@ -44,7 +47,8 @@ loop-less c = search needs
 
 loop-again : tie.Need-loop-again Inv-loop μ-loop
 loop-again c = let b = c .before .before .before .before .before in
-    left-turn _ _ _ _ _ _ (b .before .before .before .before .pre .1 .0) _ _ _ _ (b .loop .inv) (c .before .before .before .before .loop-test .taken) _ _ (c .before .before .put-element .ensures)
+    left-turn _ _ _ _ _ _ (b .before .before .before .before .pre .1 .0) _ _ _ _ (b .loop .inv)
+    (c .before .before .before .before .loop-test .taken) _ _ (c .before .before .put-element .ensures)
 
 same-length : tie.Need-same-length Inv-loop μ-loop
 same-length c = search needs

@@ -24,7 +24,10 @@ returns : tie.Need-returns
 returns c = let c3 = c .before .before in
     let c2 = c3 .before .before .before .before in
     let c1 = c2 .before .before .before .before in
-    wrote 12 (step (c1 .put-u32 .ensures) (step (as-number 4 (c1 .before .before .offset-of .ensures) (c2 .put-u322 .ensures)) (step (c3 .put-u323 .ensures) done))) refl (c1 .before .before .before .before .pre)
+    wrote 12
+    (step (c1 .put-u32 .ensures)
+    (step (as-number 4 (c1 .before .before .offset-of .ensures) (c2 .put-u322 .ensures)) (step (c3 .put-u323 .ensures) done))) refl
+    (c1 .before .before .before .before .pre)
 
 pub put-element-spec : {M : Type 1} → statement M
 put-element-spec =

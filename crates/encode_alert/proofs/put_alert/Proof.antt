@@ -58,7 +58,8 @@ returns c =
     let f : SFits w32 (s .args .code) = search needs in
     let c2 = c .before .before in
     let c1 = c2 .before .before .before .before in
-    alert-written (s .args .heading) (s .args .scheme) (s .args .code) (s .args .alerts) (s .args .values .now) (s .pre .0) id whole _ _ (s .pre .1 .0) _ (c1 .before .before .offset-of .ensures) _ (toZ-ofZ f) _ _ (c1 .put-header .ensures) _ _ (c2 .put-elements .ensures)
+    alert-written (s .args .heading) (s .args .scheme) (s .args .code) (s .args .alerts) (s .args .values .now) (s .pre .0) id whole _ _
+    (s .pre .1 .0) _ (c1 .before .before .offset-of .ensures) _ (toZ-ofZ f) _ _ (c1 .put-header .ensures) _ _ (c2 .put-elements .ensures)
 
 pub put-alert-spec : {M : Type 1} → statement M
 put-alert-spec =

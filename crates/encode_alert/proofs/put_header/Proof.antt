@@ -48,7 +48,8 @@ same-length c = search needs
 -- src/lib.rt:26:1
 returns : tie.Need-returns
 returns c =
-    let s = c .before .before .before .before .before .before .before .before .before .before .before .before .before .before .before .before .before .before .before .before .before .before in
+    let s = (let back10 = c .before .before .before .before .before .before .before .before .before .before in
+    back10 .before .before .before .before .before .before .before .before .before .before .before .before) in
     let id : length (s .args .heading .conversation) ≡ 16 = search needs in
     let whole : length (s .args .t4) ≡ 16 = search needs in
     let f : SFits w32 (s .args .code) = search needs in
@@ -61,7 +62,8 @@ returns c =
     wrote 72
     (group (headFields (a .heading) (a .size)) (c1 .put-head .ensures)
     (step (c2 .put-octets .ensures)
-    (step (as-number 4 (ap unsigned32 (toZ-ofZ f)) (c3 .put-i32 .ensures)) (group (vectorFields (a .offset .0) (a .alerts)) (c4 .put-vector .ensures) (step (c5 .put-u32 .ensures) done)))))
+    (step (as-number 4 (ap unsigned32 (toZ-ofZ f)) (c3 .put-i32 .ensures))
+    (group (vectorFields (a .offset .0) (a .alerts)) (c4 .put-vector .ensures) (step (c5 .put-u32 .ensures) done)))))
     (simp (length-append, id, whole))
     (s .pre)
 

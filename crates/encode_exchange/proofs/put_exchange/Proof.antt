@@ -38,7 +38,9 @@ same-length c = search needs
 
 returns : tie.Need-returns
 unfolding encoded
-returns c = let s = c .before .before .before .before .before .before .before .before .before .before .before .before .before .before .before .before .before .before .before in
+returns c =
+    let s = (let back10 = c .before .before .before .before .before .before .before .before .before .before in
+    back10 .before .before .before .before .before .before .before .before .before) in
     let id : length (s .args .heading .conversation) ≡ 16 = search needs in
     let whole : length (s .args .t4) ≡ 16 = search needs in
     let n = length (s .args .value .now) in

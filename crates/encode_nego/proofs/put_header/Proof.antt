@@ -43,7 +43,9 @@ same-length c = search needs
 -- src/lib.rt:24:1
 returns : tie.Need-returns
 returns c =
-    let s = c .before .before .before .before .before .before .before .before .before .before .before .before .before .before .before .before .before .before .before .before .before .before .before in
+    let s = (let back10 = c .before .before .before .before .before .before .before .before .before .before in
+    let back20 = back10 .before .before .before .before .before .before .before .before .before .before in
+    back20 .before .before .before) in
     let id : length (s .args .heading .conversation) ≡ 16 = search needs in
     let whole : length (s .args .t4) ≡ 32 = search needs in
     let a = s .args in
@@ -54,7 +56,10 @@ returns c =
     let c1 = c2 .before .before .before .before .before in
     wrote 96
     (group (headFields (a .heading) (a .size)) (c1 .put-head .ensures)
-    (step (c2 .put-octets .ensures) (step (c3 .put-octets2 .ensures) (group (vectorFields 96 (a .schemes)) (c4 .put-vector .ensures) (group (vectorFields (a .offset .0) (a .extensions)) (c5 .put-vector2 .ensures) done)))))
+    (step (c2 .put-octets .ensures)
+    (step (c3 .put-octets2 .ensures)
+    (group (vectorFields 96 (a .schemes)) (c4 .put-vector .ensures)
+    (group (vectorFields (a .offset .0) (a .extensions)) (c5 .put-vector2 .ensures) done)))))
     (simp (length-append, id, whole))
     (s .pre)
 

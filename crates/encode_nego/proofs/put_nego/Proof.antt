@@ -72,7 +72,9 @@ returns c =
     let c3 = c .before .before in
     let c2 = c3 .before .before .before .before in
     let c1 = c2 .before .before .before .before in
-    nego-written (s .args .heading) (s .args .random) (s .args .schemes .now) (s .args .extensions) (s .args .values .now) (s .pre .0) id whole _ _ (s .pre .1 .0) _ (c1 .before .before .offset-of .ensures) _ _ (c1 .put-header .ensures) _ _ (c2 .put-octets .ensures) _ _ (c3 .put-elements .ensures)
+    nego-written (s .args .heading) (s .args .random) (s .args .schemes .now) (s .args .extensions) (s .args .values .now) (s .pre .0) id whole _ _
+    (s .pre .1 .0) _ (c1 .before .before .offset-of .ensures) _ _ (c1 .put-header .ensures) _ _ (c2 .put-octets .ensures) _ _
+    (c3 .put-elements .ensures)
 
 pub put-nego-spec : {M : Type 1} → statement M
 put-nego-spec =

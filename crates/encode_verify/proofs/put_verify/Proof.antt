@@ -59,7 +59,12 @@ put-u32-requires-3 c κs =
     let c2 = c3 .before .before .before .before in
     let c1 = c2 .before .before .before .before .before in
     let s = c1 .before .before .before .before in
-    room-behind 4 (c6 .put-octet-vector .ensures) (room-behind 12 (c5 .put-i32 .ensures) (room-behind 16 (c4 .put-u322 .ensures) (room-behind 20 (c3 .put-u32 .ensures) (room-behind 24 (c2 .put-octets .ensures) (room-behind 40 (c1 .put-head .ensures) (s .pre .0) (omega arith)) (omega (arith, whole s))) (omega arith)) (omega arith)) (omega arith)) (omega arith)
+    room-behind 4 (c6 .put-octet-vector .ensures)
+    (room-behind 12 (c5 .put-i32 .ensures)
+    (room-behind 16 (c4 .put-u322 .ensures)
+    (room-behind 20 (c3 .put-u32 .ensures)
+    (room-behind 24 (c2 .put-octets .ensures) (room-behind 40 (c1 .put-head .ensures) (s .pre .0) (omega arith)) (omega (arith, whole s)))
+    (omega arith)) (omega arith)) (omega arith)) (omega arith)
 
 put-octets-requires-2 : tie.Need-put-octets-requires-2
 put-octets-requires-2 c κs =
@@ -72,7 +77,13 @@ put-octets-requires-2 c κs =
     let c1 = c2 .before .before .before .before .before in
     let s = c1 .before .before .before .before in
     let n = length (s .args .value .now) in
-    room-behind n (c7 .put-u323 .ensures) (room-behind (4 + n) (c6 .put-octet-vector .ensures) (room-behind (12 + n) (c5 .put-i32 .ensures) (room-behind (16 + n) (c4 .put-u322 .ensures) (room-behind (20 + n) (c3 .put-u32 .ensures) (room-behind (24 + n) (c2 .put-octets .ensures) (room-behind (40 + n) (c1 .put-head .ensures) (s .pre .0) (omega arith)) (omega (arith, whole s))) (omega arith)) (omega arith)) (omega arith)) (omega arith)) (omega arith)
+    room-behind n (c7 .put-u323 .ensures)
+    (room-behind (4 + n) (c6 .put-octet-vector .ensures)
+    (room-behind (12 + n) (c5 .put-i32 .ensures)
+    (room-behind (16 + n) (c4 .put-u322 .ensures)
+    (room-behind (20 + n) (c3 .put-u32 .ensures)
+    (room-behind (24 + n) (c2 .put-octets .ensures) (room-behind (40 + n) (c1 .put-head .ensures) (s .pre .0) (omega arith))
+    (omega (arith, whole s))) (omega arith)) (omega arith)) (omega arith)) (omega arith)) (omega arith)
 
 same-length : tie.Need-same-length
 same-length c = search needs

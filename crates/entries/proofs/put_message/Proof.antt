@@ -61,7 +61,8 @@ loop-again c =
       search needs,
       search needs,
       search needs,
-      part-next (s .args .place .0) (s .args .message) _ _ (s .args .at) _ _ _ (l .loop .inv .1) (l .loop .inv .3) (l .loop .k) _ _ (l .loop .inv .5) (search needs) _ (c .before .before .before .entry-of .ensures) _ _ (c .before .before .put-entry .ensures),
+      part-next (s .args .place .0) (s .args .message) _ _ (s .args .at) _ _ _ (l .loop .inv .1) (l .loop .inv .3) (l .loop .k) _ _ (l .loop .inv .5)
+          (search needs) _ (c .before .before .before .entry-of .ensures) _ _ (c .before .before .put-entry .ensures),
     )
 
 same-length : tie.Need-same-length Inv-loop μ-loop

@@ -32,7 +32,13 @@ same-length : tie.Need-same-length
 same-length c = search needs
 
 returns : tie.Need-returns
-returns c = init-text (c .before .before .before .before .before .before .before .before .before .before .before .before .before .before .before .before .before .before .before .before .args .s .now) (c .before .before .before .before .before .before .before .before .before .before .before .before .before .before .before .before .before .before .before .before .args .i) _ _ _ _ _ (c .before .before .before .before .before .before .before .before .before .before .before .before .before .before .before .head-line .ensures) (c .before .before .before .before .before .before .before .before .before .before .before .mechanism-lines .ensures) (c .before .before .before .before .before .before .field-line .ensures) (c .before .before .last-lines .ensures)
+returns c =
+    let back6 = c .before .before .before .before .before .before in
+    let back11 = back6 .before .before .before .before .before in
+    let back15 = back11 .before .before .before .before in
+    let back20 = back15 .before .before .before .before .before in
+    init-text (back20 .args .s .now) (back20 .args .i) _ _ _ _ _ (back15 .head-line .ensures) (back11 .mechanism-lines .ensures)
+    (back6 .field-line .ensures) (c .before .before .last-lines .ensures)
 
 pub init-text-spec : {M : Type 1} → statement M
 init-text-spec =

@@ -16,7 +16,10 @@ use Rattle.envelope_lines.proofs.mechanism_line.Reads as mechanism-line
 use Rattle.envelope_parts.proofs.mechanism.Reads as mechanism-reads
 
 abbrev Inv-loop : tie.InvT-loop
-Inv-loop d₀ at s list end count next₀ k₀ d next k = (length d ≡ length d₀) × (written (mechanismLines 0 (mechanismsIn (part s list end))) (text d₀ at) ≡ written (mechanismLines k (drop k (mechanismsIn (part s list end)))) (text d next))
+Inv-loop d₀ at s list end count next₀ k₀ d next k =
+    (length d ≡ length d₀)
+    × (written (mechanismLines 0 (mechanismsIn (part s list end))) (text d₀ at)
+    ≡ written (mechanismLines k (drop k (mechanismsIn (part s list end)))) (text d next))
 
 abbrev μ-loop : tie.MeasureT-loop
 μ-loop d₀ at s list end count next₀ k₀ d next k = count - k

@@ -29,7 +29,13 @@ same-length : tie.Need-same-length
 same-length c = search needs
 
 returns : tie.Need-returns
-returns c = resp-text (c .before .before .before .before .before .before .before .before .before .before .before .before .before .before .before .before .before .before .before .args .s .now) (c .before .before .before .before .before .before .before .before .before .before .before .before .before .before .before .before .before .before .before .args .r) _ _ _ _ _ (c .before .before .before .before .before .before .before .before .before .before .before .before .before .before .head-line .ensures) (c .before .before .before .before .before .before .before .before .before .before .state-line .ensures) (c .before .before .before .before .before .before .named-line .ensures) (c .before .before .last-lines .ensures)
+returns c =
+    let back6 = c .before .before .before .before .before .before in
+    let back10 = back6 .before .before .before .before in
+    let back14 = back10 .before .before .before .before in
+    let back19 = back14 .before .before .before .before .before in
+    resp-text (back19 .args .s .now) (back19 .args .r) _ _ _ _ _ (back14 .head-line .ensures) (back10 .state-line .ensures)
+    (back6 .named-line .ensures) (c .before .before .last-lines .ensures)
 
 pub resp-text-spec : {M : Type 1} → statement M
 resp-text-spec =

@@ -56,7 +56,10 @@ put-identifiers-slice-aggregate-put-element :
       put-identifiers-below t,
       put-identifiers.Post,
     ) (put-identifiers-at t) put-identifiers.Post
-put-identifiers-slice-aggregate-put-element t c = let s = c .before .before .before .before .before .before .before in sym (length-take-le _ _ (ids-fit (s .args .sizes .now) (s .args .octets .now) (c .before .before .before .if1 .left) (s .pre .1 .sum)))
+put-identifiers-slice-aggregate-put-element t c =
+    let s =
+    c .before .before .before .before .before .before .before in
+    sym (length-take-le _ _ (ids-fit (s .args .sizes .now) (s .args .octets .now) (c .before .before .before .if1 .left) (s .pre .1 .sum)))
 
 put-identifiers-put-element-requires : (t : ℕ) → put-identifiers-lts.Need-put-element-requires (
   put-element-reads.Asked,
@@ -64,7 +67,10 @@ put-identifiers-put-element-requires : (t : ℕ) → put-identifiers-lts.Need-pu
   put-identifiers-below t,
   put-identifiers.Post,
 ) (put-identifiers-at t) put-identifiers.Post
-put-identifiers-put-element-requires t c κs = let f = ids-first _ _ _ _ (c .before .before .before .if1 .left) (c .before .before .before .before .before .before .before .pre .1) in (f .room, f .small)
+put-identifiers-put-element-requires t c κs =
+    let f =
+    ids-first _ _ _ _ (c .before .before .before .if1 .left) (c .before .before .before .before .before .before .before .pre .1) in
+    (f .room, f .small)
 
 put-identifiers-sub-put-identifiers : (t : ℕ) → put-identifiers-lts.Need-sub-put-identifiers (
   put-element-reads.Asked,
@@ -98,7 +104,12 @@ put-identifiers-sub-put-identifiers-2 : (t : ℕ) → put-identifiers-lts.Need-s
   put-identifiers-below t,
   put-identifiers.Post,
 ) (put-identifiers-at t) put-identifiers.Post
-put-identifiers-sub-put-identifiers-2 t c = let f = ids-fit (c .before .before .before .before .before .before .before .before .before .before .before .before .args .sizes .now) (c .before .before .before .before .before .before .before .before .before .before .before .before .args .octets .now) (c .before .before .before .before .before .before .before .before .if1 .left) (c .before .before .before .before .before .before .before .before .before .before .before .before .pre .1 .sum) in search needs
+put-identifiers-sub-put-identifiers-2 t c =
+    let f =
+    ids-fit (c .before .before .before .before .before .before .before .before .before .before .before .before .args .sizes .now)
+    (c .before .before .before .before .before .before .before .before .before .before .before .before .args .octets .now)
+    (c .before .before .before .before .before .before .before .before .if1 .left)
+    (c .before .before .before .before .before .before .before .before .before .before .before .before .pre .1 .sum) in search needs
 
 put-identifiers-part-put-identifiers-start-2 :
     (t : ℕ) → put-identifiers-lts.Need-part-put-identifiers-start-2 (
@@ -107,7 +118,12 @@ put-identifiers-part-put-identifiers-start-2 :
       put-identifiers-below t,
       put-identifiers.Post,
     ) (put-identifiers-at t) put-identifiers.Post
-put-identifiers-part-put-identifiers-start-2 t c = let f = ids-fit (c .before .before .before .before .before .before .before .before .before .before .before .before .args .sizes .now) (c .before .before .before .before .before .before .before .before .before .before .before .before .args .octets .now) (c .before .before .before .before .before .before .before .before .if1 .left) (c .before .before .before .before .before .before .before .before .before .before .before .before .pre .1 .sum) in search needs
+put-identifiers-part-put-identifiers-start-2 t c =
+    let f =
+    ids-fit (c .before .before .before .before .before .before .before .before .before .before .before .before .args .sizes .now)
+    (c .before .before .before .before .before .before .before .before .before .before .before .before .args .octets .now)
+    (c .before .before .before .before .before .before .before .before .if1 .left)
+    (c .before .before .before .before .before .before .before .before .before .before .before .before .pre .1 .sum) in search needs
 
 put-identifiers-part-put-identifiers-end-2 :
     (t : ℕ) → put-identifiers-lts.Need-part-put-identifiers-end-2 (
@@ -125,7 +141,17 @@ put-identifiers-put-identifiers-requires :
       put-identifiers-below t,
       put-identifiers.Post,
     ) (put-identifiers-at t) put-identifiers.Post
-put-identifiers-put-identifiers-requires t c κs = (ids-less (c .before .before .before .before .before .before .before .before .before .before .before .before .before .args .sizes .now) _ (c .before .before .before .before .before .before .before .before .before .if1 .left) (c .before .before .before .before .before .before .before .before .before .before .before .before .before .pre .0), ids-rest (c .before .before .before .before .before .before .before .before .before .before .before .before .before .args .sizes .now) (c .before .before .before .before .before .before .before .before .before .before .before .before .before .args .octets .now) _ _ _ _ (c .before .before .before .before .before .before .before .before .before .if1 .left) (c .before .before .before .before .before .before .before .before .before .before .before .before .before .pre .1) (c .before .before .before .before .before .put-element .ensures))
+put-identifiers-put-identifiers-requires t c κs = (
+  ids-less (c .before .before .before .before .before .before .before .before .before .before .before .before .before .args .sizes .now) _
+      (c .before .before .before .before .before .before .before .before .before .if1 .left)
+      (c .before .before .before .before .before .before .before .before .before .before .before .before .before .pre .0),
+  ids-rest
+      (c .before .before .before .before .before .before .before .before .before .before .before .before .before .args .sizes .now)
+      (c .before .before .before .before .before .before .before .before .before .before .before .before .before .args .octets .now) _ _ _ _
+      (c .before .before .before .before .before .before .before .before .before .if1 .left)
+      (c .before .before .before .before .before .before .before .before .before .before .before .before .before .pre .1)
+      (c .before .before .before .before .before .put-element .ensures),
+)
 
 put-identifiers-same-length : (t : ℕ) → put-identifiers-lts.Need-same-length (
   put-element-reads.Asked,
@@ -141,7 +167,10 @@ put-identifiers-returns-2 : (t : ℕ) → put-identifiers-lts.Need-returns-2 (
   put-identifiers-below t,
   put-identifiers.Post,
 ) (put-identifiers-at t) put-identifiers.Post
-put-identifiers-returns-2 t c = ids-put _ _ _ _ _ _ _ _ (c .before .before .before .before .before .before .before .before .before .before .before .before .if1 .left) (c .before .before .before .before .before .before .before .before .before .before .before .before .before .before .before .before .pre .1) (c .before .before .before .before .before .before .before .before .put-element .ensures) (c .before .before .put-identifiers .ensures)
+put-identifiers-returns-2 t c =
+    ids-put _ _ _ _ _ _ _ _ (c .before .before .before .before .before .before .before .before .before .before .before .before .if1 .left)
+    (c .before .before .before .before .before .before .before .before .before .before .before .before .before .before .before .before .pre .1)
+    (c .before .before .before .before .before .before .before .before .put-element .ensures) (c .before .before .put-identifiers .ensures)
 
 pub +put-identifiers-spec : {M : Type 1} → statement M
 +put-identifiers-spec = close μ-put-identifiers λ t. put-identifiers-lts.spec (

@@ -15,7 +15,10 @@ element-size-requires-2 : tie.Need-element-size-requires-2
 element-size-requires-2 c κs = search (needs, inits)
 
 add-element-size : tie.Need-add-element-size
-add-element-size c = let q = init-limit _ _ _ (c .before .before .before .before .before .before .before .before .pre .limit) (c .before .element-size .ensures) (c .element-size2 .ensures) in search needs
+add-element-size c =
+    let q =
+    init-limit _ _ _ (c .before .before .before .before .before .before .before .before .pre .limit) (c .before .element-size .ensures)
+    (c .element-size2 .ensures) in search needs
 
 element-size-requires-3 : tie.Need-element-size-requires-3
 element-size-requires-3 c κs = search (needs, inits)

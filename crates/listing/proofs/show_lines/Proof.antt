@@ -12,7 +12,9 @@ use Rattle.listing.proofs.show_lines.Statement.{statement}
 use Rattle.listing.proofs.show_lines.Tie as tie
 
 abbrev Inv-loop : tie.InvT-loop
-Inv-loop d₀ place m first count q₀ index₀ d q index = (length d ≡ length d₀) × (Going q (length d₀)) × (steps (drop index₀ (texts (messageLines (place .0) m))) (within q₀ d₀) ≡ steps (drop index (texts (messageLines (place .0) m))) (within q d))
+Inv-loop d₀ place m first count q₀ index₀ d q index =
+    (length d ≡ length d₀) × (Going q (length d₀))
+    × (steps (drop index₀ (texts (messageLines (place .0) m))) (within q₀ d₀) ≡ steps (drop index (texts (messageLines (place .0) m))) (within q d))
 
 abbrev μ-loop : tie.MeasureT-loop
 μ-loop d₀ place m first count q₀ index₀ d q index = count - index

@@ -14,7 +14,9 @@ use Rattle.listing.proofs.show_messages.Statement.{statement}
 use Rattle.listing.proofs.show_messages.Tie as tie
 
 abbrev Inv-loop : tie.InvT-loop
-Inv-loop d₀ token q₀ rest₀ place₀ d q rest place = (length token ≤ 65535) × (length d ≡ length d₀) × (Going q (length d₀)) × (place .0 + length rest ≡ length token) × Going-on (steps (texts (allLines (messagesOf (tokenOf token)))) (within q₀ d₀)) rest (place .0) (within q d)
+Inv-loop d₀ token q₀ rest₀ place₀ d q rest place =
+    (length token ≤ 65535) × (length d ≡ length d₀) × (Going q (length d₀)) × (place .0 + length rest ≡ length token)
+    × Going-on (steps (texts (allLines (messagesOf (tokenOf token)))) (within q₀ d₀)) rest (place .0) (within q d)
 
 abbrev μ-loop : tie.MeasureT-loop
 μ-loop d₀ token q₀ rest₀ place₀ d q rest place = length rest

@@ -16,11 +16,17 @@ enum-known-r : tie.Need-enum-known-r
 enum-known-r c = search needs
 
 show-messages-requires : tie.Need-show-messages-requires
-show-messages-requires c κs = (search windows, start-going _ (c .before .before .before .before .before .before .before .before .args .end) _ _ (c .before .before .before .before .before .start .ensures) (search needs))
+show-messages-requires c κs = (
+  search windows,
+  start-going _ (c .before .before .before .before .before .before .before .before .args .end) _ _
+      (c .before .before .before .before .before .start .ensures) (search needs),
+)
 
 show-end-requires : tie.Need-show-end-requires
 show-end-requires c κs =
-    went _ _ _ _ _ (c .before .before .before .show-messages .ensures) (start-going _ (c .before .before .before .before .before .before .before .before .before .before .before .before .args .end) _ _ (c .before .before .before .before .before .before .before .before .before .start .ensures) (search needs))
+    went _ _ _ _ _ (c .before .before .before .show-messages .ensures)
+    (start-going _ (c .before .before .before .before .before .before .before .before .before .before .before .before .args .end) _ _
+    (c .before .before .before .before .before .before .before .before .before .start .ensures) (search needs))
 
 finish-requires : tie.Need-finish-requires
 finish-requires c κs = search needs
@@ -29,7 +35,9 @@ enum-known-r-2 : tie.Need-enum-known-r-2
 enum-known-r-2 c = search needs
 
 show-refusal-requires : tie.Need-show-refusal-requires
-show-refusal-requires c κs = start-going _ (c .before .before .before .before .before .before .before .before .args .end) _ _ (c .before .before .before .before .before .start .ensures) (search needs)
+show-refusal-requires c κs =
+    start-going _ (c .before .before .before .before .before .before .before .before .args .end) _ _
+    (c .before .before .before .before .before .start .ensures) (search needs)
 
 finish-requires-2 : tie.Need-finish-requires-2
 finish-requires-2 c κs = search needs

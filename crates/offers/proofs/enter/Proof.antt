@@ -35,7 +35,9 @@ mul-put-octets : tie.Need-mul-put-octets
 mul-put-octets c = search needs
 
 put-octets-requires : tie.Need-put-octets-requires
-put-octets-requires c κs = let l : length (c .before .before .before .before .before .before .before .before .before .args .t .ids) ≡ 1024 = search needs in omega arith
+put-octets-requires c κs =
+    let l : length (c .before .before .before .before .before .before .before .before .before .args .t .ids) ≡ 1024 = search needs in
+    omega arith
 
 add-t18 : tie.Need-add-t18
 add-t18 c = search needs

@@ -12,7 +12,8 @@ use Rattle.offers.proofs.enter_all.Statement.{statement}
 use Rattle.offers.proofs.enter_all.Tie as tie
 
 abbrev Inv-loop : tie.InvT-loop
-Inv-loop list entered₀ at₀ left₀ entered at left = (at + left * 16 ≤ length list) × (entered .count ≤ 64) × (enteredAllIn entered₀ (idsOf list) ≡ enteredAllIn entered (idsAt left (drop at list)))
+Inv-loop list entered₀ at₀ left₀ entered at left =
+    (at + left * 16 ≤ length list) × (entered .count ≤ 64) × (enteredAllIn entered₀ (idsOf list) ≡ enteredAllIn entered (idsAt left (drop at list)))
 
 abbrev μ-loop : tie.MeasureT-loop
 μ-loop list entered₀ at₀ left₀ entered at left = left

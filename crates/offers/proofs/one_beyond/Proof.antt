@@ -11,7 +11,8 @@ use Rattle.offers.proofs.one_beyond.Statement.{statement}
 use Rattle.offers.proofs.one_beyond.Tie as tie
 
 abbrev Inv-loop : tie.InvT-loop
-Inv-loop ids n list at₀ left₀ at left = (at + left * 16 ≤ length list) × (allIn (idsOf list) (idsAt n ids) ≡ allIn (idsAt left (drop at list)) (idsAt n ids))
+Inv-loop ids n list at₀ left₀ at left =
+    (at + left * 16 ≤ length list) × (allIn (idsOf list) (idsAt n ids) ≡ allIn (idsAt left (drop at list)) (idsAt n ids))
 
 abbrev μ-loop : tie.MeasureT-loop
 μ-loop ids n list at₀ left₀ at left = left

@@ -12,7 +12,9 @@ use Rattle.offers.proofs.tick.Statement.{statement}
 use Rattle.offers.proofs.tick.Tie as tie
 
 abbrev Inv-loop : tie.InvT-loop
-Inv-loop ids n list ticked₀ k₀ left₀ ticked k left = (k + left ≡ n) × (length ticked ≡ 64) × ((j : ℕ) → k ≤ j → getD ticked j 0 < 9223372036854775808) × (tickedFrom ids (idsOf list) n 0 ticked₀ ≡ tickedFrom ids (idsOf list) left k ticked)
+Inv-loop ids n list ticked₀ k₀ left₀ ticked k left =
+    (k + left ≡ n) × (length ticked ≡ 64) × ((j : ℕ) → k ≤ j → getD ticked j 0 < 9223372036854775808)
+    × (tickedFrom ids (idsOf list) n 0 ticked₀ ≡ tickedFrom ids (idsOf list) left k ticked)
 
 abbrev μ-loop : tie.MeasureT-loop
 μ-loop ids n list ticked₀ k₀ left₀ ticked k left = left
@@ -45,7 +47,8 @@ array-read-ticked : tie.Need-array-read-ticked Inv-loop μ-loop
 array-read-ticked c = search needs
 
 add-ticked : tie.Need-add-ticked Inv-loop μ-loop
-add-ticked c = let l = c .before .before .before .loop in let x = one-le _ _ (c .one-listed .ensures) in let y = l .inv .2 (l .k) (omega arith) in omega arith
+add-ticked c =
+    let l = c .before .before .before .loop in let x = one-le _ _ (c .one-listed .ensures) in let y = l .inv .2 (l .k) (omega arith) in omega arith
 
 array-write-ticked : tie.Need-array-write-ticked Inv-loop μ-loop
 array-write-ticked c = search needs

@@ -35,8 +35,12 @@ loop-less c = search needs
 
 loop-again : tie.Need-loop-again Inv-loop μ-loop
 loop-again c = let b = c .before .before in
-    let a = b .before .args in
-    (omega arith, rw (b .loop .inv .1) (copy-step (a .d .now) (a .at) (a .v .now) (b .loop .i) (b .before .pre) (c .before .loop-test .taken)), simp length-set (b .loop .inv .2))
+    let a = b .before .args in (
+      omega arith,
+      rw (b .loop .inv .1) (copy-step (a .d .now) (a .at) (a .v .now) (b .loop .i) (b .before .pre) (c .before .loop-test .taken)),
+      simp
+          length-set (b .loop .inv .2),
+    )
 
 add-result : tie.Need-add-result Inv-loop μ-loop
 add-result c = search needs

@@ -11,7 +11,8 @@ use Rattle.recovery.proofs.show_pieces.Statement.{statement}
 use Rattle.recovery.proofs.show_pieces.Tie as tie
 
 abbrev Inv-loop : tie.InvT-loop
-Inv-loop d₀ file s₀ d s = (length d ≡ length d₀) × OnWay file (steps (texts (allPieceLines (piecesOf file))) (within (s₀ .progress) d₀)) (length (takenOf file)) s d
+Inv-loop d₀ file s₀ d s =
+    (length d ≡ length d₀) × OnWay file (steps (texts (allPieceLines (piecesOf file))) (within (s₀ .progress) d₀)) (length (takenOf file)) s d
 
 abbrev μ-loop : tie.MeasureT-loop
 μ-loop d₀ file s₀ d s = length file - s .place .0

@@ -9,7 +9,8 @@ start-requires : tie.Need-start-requires
 start-requires c κs = search needs
 
 show-refusal-requires : tie.Need-show-refusal-requires
-show-refusal-requires c κs = start-going _ (c .before .before .before .before .before .args .end) _ _ (c .before .before .start .ensures) (search needs)
+show-refusal-requires c κs =
+    start-going _ (c .before .before .before .before .before .args .end) _ _ (c .before .before .start .ensures) (search needs)
 
 finish-requires : tie.Need-finish-requires
 finish-requires c κs = search needs
@@ -21,11 +22,14 @@ returns : tie.Need-returns
 returns c = search windows
 
 show-pieces-requires : tie.Need-show-pieces-requires
-show-pieces-requires c κs = (search needs, start-going _ (c .before .before .before .before .before .args .end) _ _ (c .before .before .start .ensures) (search needs))
+show-pieces-requires c κs =
+    (search needs, start-going _ (c .before .before .before .before .before .args .end) _ _ (c .before .before .start .ensures) (search needs))
 
 show-end-requires : tie.Need-show-end-requires
 show-end-requires c κs =
-    pieces-going _ _ _ _ _ (c .before .before .before .show-pieces .ensures) (start-going _ (c .before .before .before .before .before .before .before .before .before .args .end) _ _ (c .before .before .before .before .before .before .start .ensures) (search needs))
+    pieces-going _ _ _ _ _ (c .before .before .before .show-pieces .ensures)
+    (start-going _ (c .before .before .before .before .before .before .before .before .before .args .end) _ _
+    (c .before .before .before .before .before .before .start .ensures) (search needs))
 
 finish-requires-2 : tie.Need-finish-requires-2
 finish-requires-2 c κs = search needs

@@ -60,15 +60,22 @@ both-requires-2 c κs = search needs
 
 returns : tie.Need-returns
 returns c =
+    let back5 = c .before .before .before .before .before in
+    let back6 = back5 .before in
+    let back7 = back6 .before in
+    let back9 = back7 .before .before in
+    let back11 = back9 .before .before in
+    let back13 = back11 .before .before in
+    let back16 = back13 .before .before .before in
     four-lines _ _ _ _ _ _
-    (c .before .before .before .before .before .before .before .before .before .before .before .before .before .before .before .before .name-line .ensures)
-    (c .before .before .before .before .before .before .before .before .before .before .before .before .before .name-line2 .ensures)
-    (c .before .before .before .before .before .before .before .before .before .before .before .next-line .ensures)
-    (c .before .before .before .before .before .before .before .before .before .next-line2 .ensures)
-    (c .before .before .before .before .before .before .before .next-line3 .ensures)
+    (back16 .name-line .ensures)
+    (back13 .name-line2 .ensures)
+    (back11 .next-line .ensures)
+    (back9 .next-line2 .ensures)
+    (back7 .next-line3 .ensures)
     _ _ _ _ _ _ _
-    (c .before .before .before .before .before .before .precedes .ensures)
-    (c .before .before .before .before .before .precedes2 .ensures)
+    (back6 .precedes .ensures)
+    (back5 .precedes2 .ensures)
     (c .before .before .before .before .is-last .ensures)
     (c .before .before .before .precedes3 .ensures)
     (c .before .before .precedes4 .ensures)

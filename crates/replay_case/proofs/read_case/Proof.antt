@@ -39,12 +39,16 @@ same-length-2 c = search needs
 
 returns : tie.Need-returns
 returns c =
+    let back7 = c .before .before .before .before .before .before .before in
+    let back10 = back7 .before .before .before in
+    let back13 = back10 .before .before .before in
+    let back18 = back13 .before .before .before .before .before in
     case-read _ _ _ _
-    (c .before .before .before .before .before .before .before .before .before .before .before .before .before .before .before .before .before .before .four-lines .ensures)
-    _ (c .before .before .before .before .before .before .before .before .before .before .before .before .before .part .ensures)
-    (c .before .before .before .before .before .before .before .before .before .before .read-given .result)
-    _ (c .before .before .before .before .before .before .before .before .before .before .read-given .ensures)
-    _ (c .before .before .before .before .before .before .before .part2 .ensures)
+    (back18 .four-lines .ensures)
+    _ (back13 .part .ensures)
+    (back10 .read-given .result)
+    _ (back10 .read-given .ensures)
+    _ (back7 .part2 .ensures)
     (c .before .before .before .before .read-given2 .result)
     _ (c .before .before .before .before .read-given2 .ensures)
     _ _ (c .before .both .ensures)

@@ -52,8 +52,11 @@ add-n c =
     let a = r .inside in
     let q = r .room in
     let b = c .before .before .before .before .before .item .ensures .inside in
-    let e = behind-size (c .before .before .before .before .before .before .before .before .before .loop .lent) (c .before .before .before .before .before .before .before .before .before .loop .n) in
-    let z : c .before .before .before .before .before .before .before .before .before .loop .n + c .before .before .before .before .before .item .result .size ≤ length (c .before .before .before .before .before .before .before .before .before .before .before .before .before .args .lent .now) = omega arith in
+    let e = (let back9 = c .before .before .before .before .before .before .before .before .before in
+    behind-size (back9 .loop .lent) (back9 .loop .n)) in
+    let z : c .before .before .before .before .before .before .before .before .before .loop .n
+    + c .before .before .before .before .before .item .result .size
+    ≤ length (c .before .before .before .before .before .before .before .before .before .before .before .before .before .args .lent .now) = omega arith in
     let y = c .before .before .before .before .before .before .before .before .before .before .before .before .before .good .1 .1 .1 .1 .0 .0 in
     search needs
 
@@ -65,8 +68,12 @@ loop-less c = let h = c .behind .ensures .onward (omega arith) in omega arith
 
 loop-again : tie.Need-loop-again Inv-loop μ-loop
 loop-again c =
-    items-more _ _ _ _ _ _ _ _ (c .before .before .before .before .before .before .before .before .before .before .loop .inv) (c .before .before .before .before .before .before .before .before .before .loop-test .taken) _ (c .before .before .before .before .before .before .before .before .field .ensures) _ _ (c .before .before .before .before .before .before .item .ensures)
-    (c .before .before .before .if1 .taken) (search needs) _ (c .before .before .added .ensures) _ (c .behind .ensures .fields) (c .behind .ensures .onward (c .before .before .before .before .before .before .before .before .before .loop-test .taken))
+    items-more _ _ _ _ _ _ _ _ (c .before .before .before .before .before .before .before .before .before .before .loop .inv)
+    (c .before .before .before .before .before .before .before .before .before .loop-test .taken) _
+    (c .before .before .before .before .before .before .before .before .field .ensures) _ _
+    (c .before .before .before .before .before .before .item .ensures)
+    (c .before .before .before .if1 .taken) (search needs) _ (c .before .before .added .ensures) _ (c .behind .ensures .fields)
+    (c .behind .ensures .onward (c .before .before .before .before .before .before .before .before .before .loop-test .taken))
 
 same-length-2 : tie.Need-same-length-2 Inv-loop μ-loop
 same-length-2 c = search needs

@@ -54,7 +54,9 @@ same-length-4 c = search needs
 
 returns-4 : tie.Need-returns-4
 returns-4 c =
-    rested-good _ _ _ _ _ _ _ _ (c .before .before .before .before .before .before .before .before .before .before .octet .ensures) (c .before .before .before .before .before .before .before .before .before .if1 .left) (c .before .before .before .before .before .before .before .if2 .left) (c .before .before .before .before .before .rest-in .result) _
+    rested-good _ _ _ _ _ _ _ _ (c .before .before .before .before .before .before .before .before .before .before .octet .ensures)
+    (c .before .before .before .before .before .before .before .before .before .if1 .left)
+    (c .before .before .before .before .before .before .before .if2 .left) (c .before .before .before .before .before .rest-in .result) _
     (c .before .before .before .before .before .rest-in .ensures) (c .before .rest .given .0 .0) (search needs) _
     (c .before .before .before .before .before .before .before .before .none .ensures)
 

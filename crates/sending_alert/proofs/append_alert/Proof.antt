@@ -29,7 +29,9 @@ add-after-message c =
 
 after-message-requires : tie.Need-after-message-requires
 after-message-requires c κs =
-    let k = alert-counted _ _ _ _ _ _ (c .before .before .before .before .before .before .before .before .pre) _ (c .before .before .before .before .size-of .ensures) in
+    let k =
+    alert-counted _ _ _ _ _ _ (c .before .before .before .before .before .before .before .before .pre) _
+    (c .before .before .before .before .size-of .ensures) in
     (k .0, omega (arith, k .1))
 
 same-length : tie.Need-same-length
@@ -42,7 +44,9 @@ returns c =
     let f : SFits w32 (s .args .code) = search needs in
     let w = c .before .before .before .write in
     let k = alert-size _ _ _ _ _ _ (s .pre) _ (c .before .before .before .before .before .size-of .ensures) in
-    handed-appends _ (sized _ _ (s .good .0)) _ _ _ full (s .pre .1) _ (s .pre .0) _ (c .before .before .before .before .before .before .heading-of .ensures) (w .result) _ _ (w .ensures) (rw (toZ-ofZ f)) _ k _ (c .after-message .ensures)
+    handed-appends _ (sized _ _ (s .good .0)) _ _ _ full (s .pre .1) _ (s .pre .0) _
+    (c .before .before .before .before .before .before .heading-of .ensures) (w .result) _ _ (w .ensures) (rw (toZ-ofZ f)) _ k _
+    (c .after-message .ensures)
 
 pub append-alert-spec : {M : Type 1} → statement M
 append-alert-spec =

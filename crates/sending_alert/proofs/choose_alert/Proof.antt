@@ -22,7 +22,8 @@ returns : tie.Need-returns
 returns c =
     let s = c .before .before .before .before .before .before in
     let g : AlertContent = record { code = s .args .code; alerts = s .args .alerts; values = s .args .values .now } in
-    choose-alert-refused _ _ _ g _ (c .before .before .before .fits2 .ensures) _ (c .before .before .choice-refusal .ensures) (c .before .if1 .taken) _ (c .answer .ensures)
+    choose-alert-refused _ _ _ g _ (c .before .before .before .fits2 .ensures) _ (c .before .before .choice-refusal .ensures)
+    (c .before .if1 .taken) _ (c .answer .ensures)
 
 chosen-record-requires : tie.Need-chosen-record-requires
 chosen-record-requires c κs = choose-ready _ _ _ _ _ (c .before .choice-refusal .ensures) (c .if1 .left)
@@ -31,7 +32,9 @@ write-alert-requires : tie.Need-write-alert-requires
 write-alert-requires c κs = search needs
 
 name-choice-requires : tie.Need-name-choice-requires
-name-choice-requires c κs = choose-ready _ _ _ _ _ (c .before .before .before .before .before .before .choice-refusal .ensures) (c .before .before .before .before .before .if1 .left)
+name-choice-requires c κs =
+    choose-ready _ _ _ _ _ (c .before .before .before .before .before .before .choice-refusal .ensures)
+    (c .before .before .before .before .before .if1 .left)
 
 same-length : tie.Need-same-length
 same-length c = search needs
@@ -41,7 +44,10 @@ returns-2 c =
     let s = c .before .before .before .before .before .before .before .before .before .before .before in
     let f : SFits w32 (s .args .code) = search needs in
     let g : AlertContent = record { code = s .args .code; alerts = s .args .alerts; values = s .args .values .now } in
-    choose-alert-made _ _ _ g _ (c .before .before .before .before .before .before .before .before .fits2 .ensures) _ (c .before .before .before .before .before .before .before .choice-refusal .ensures) (c .before .before .before .before .before .before .if1 .left) _ (c .before .before .before .before .before .chosen-record .ensures) _ (toZ-ofZ f) _ _ (c .before .before .before .write-alert .ensures) _ (c .name-choice .ensures)
+    choose-alert-made _ _ _ g _ (c .before .before .before .before .before .before .before .before .fits2 .ensures) _
+    (c .before .before .before .before .before .before .before .choice-refusal .ensures)
+    (c .before .before .before .before .before .before .if1 .left) _ (c .before .before .before .before .before .chosen-record .ensures) _
+    (toZ-ofZ f) _ _ (c .before .before .before .write-alert .ensures) _ (c .name-choice .ensures)
 
 pub choose-alert-spec : {M : Type 1} → statement M
 choose-alert-spec =

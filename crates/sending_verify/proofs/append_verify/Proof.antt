@@ -33,7 +33,9 @@ returns c =
     let w = c .before .before .before .write in
     let h = c .before .before .before .before .before .heading-of in
     let f : SFits w32 (s .args .checksum) = search needs in
-    appends _ (sized _ _ (s .good .0)) _ _ _ full (s .pre) _ (h .ensures) (w .result) _ (ofVerify (record { scheme = s .args .id; type = toZ w32 (ofZ w32 (s .args .checksum)); value = s .args .value .now })) (w .ensures) (rw (toZ-ofZ f)) _ (c .after-message .ensures)
+    appends _ (sized _ _ (s .good .0)) _ _ _ full (s .pre) _ (h .ensures) (w .result) _
+    (ofVerify (record { scheme = s .args .id; type = toZ w32 (ofZ w32 (s .args .checksum)); value = s .args .value .now })) (w .ensures)
+    (rw (toZ-ofZ f)) _ (c .after-message .ensures)
 
 pub append-verify-spec : {M : Type 1} → statement M
 append-verify-spec =

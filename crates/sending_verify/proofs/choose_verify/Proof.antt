@@ -32,7 +32,9 @@ same-length c = search needs
 returns-2 : tie.Need-returns-2
 returns-2 c =
     let f : SFits w32 (c .before .before .before .before .before .before .before .before .before .before .args .checksum) = search needs in
-    choose-verify-made _ _ _ _ _ _ (c .before .before .before .before .before .before .before .choice-refusal .ensures) (c .before .before .before .before .before .before .if1 .left) _ (c .before .before .before .before .before .chosen-record .ensures) _ (toZ-ofZ f) _ _ (c .before .before .before .write-verify .ensures) _ (c .name-choice .ensures)
+    choose-verify-made _ _ _ _ _ _ (c .before .before .before .before .before .before .before .choice-refusal .ensures)
+    (c .before .before .before .before .before .before .if1 .left) _ (c .before .before .before .before .before .chosen-record .ensures) _
+    (toZ-ofZ f) _ _ (c .before .before .before .write-verify .ensures) _ (c .name-choice .ensures)
 
 pub choose-verify-spec : {M : Type 1} → statement M
 choose-verify-spec =

@@ -38,7 +38,9 @@ returns-2 : tie.Need-returns-2
 returns-2 c =
     let s = c .before .before .before .before .before .before .before .before .before .before in
     let f : SFits w32 (s .args .checksum) = search needs in
-    verify-written _ (sized _ _ (s .good .0)) _ _ _ _ (c .before .before .before .before .before .before .before .named-refusal .ensures) (c .before .before .before .before .before .before .if1 .left) _ (c .before .before .before .before .before .scheme-id .ensures) _ (toZ-ofZ f) _ _ (c .before .before .before .append-verify .ensures) _ (c .answer2 .ensures)
+    verify-written _ (sized _ _ (s .good .0)) _ _ _ _ (c .before .before .before .before .before .before .before .named-refusal .ensures)
+    (c .before .before .before .before .before .before .if1 .left) _ (c .before .before .before .before .before .scheme-id .ensures) _
+    (toZ-ofZ f) _ _ (c .before .before .before .append-verify .ensures) _ (c .answer2 .ensures)
 
 pub write-verify-spec : {M : Type 1} → statement M
 write-verify-spec =

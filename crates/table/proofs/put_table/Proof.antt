@@ -10,7 +10,8 @@ use Rattle.table.proofs.put_table.Statement.{statement}
 use Rattle.table.proofs.put_table.Tie as tie
 
 abbrev Inv-loop : tie.InvT-loop
-Inv-loop d₀ token rest₀ place₀ next₀ d rest place next = (length d ≡ length d₀) × Stored (tableOf (messagesOf (tokenOf token))) d₀ rest (place .0) d next
+Inv-loop d₀ token rest₀ place₀ next₀ d rest place next =
+    (length d ≡ length d₀) × Stored (tableOf (messagesOf (tokenOf token))) d₀ rest (place .0) d next
 
 abbrev μ-loop : tie.MeasureT-loop
 μ-loop d₀ token rest₀ place₀ next₀ d rest place next = length rest

@@ -14,7 +14,8 @@ slice-reshare-prefix-count-next : tie.Need-slice-reshare-prefix-count-next
 slice-reshare-prefix-count-next c = loaded _ _ _ (c .before .before .before .before .before .load .ensures) (c .before .loaded .given .1) .0
 
 slice-aggregate-count-next : tie.Need-slice-aggregate-count-next
-slice-aggregate-count-next c = loaded _ _ _ (c .before .before .before .before .before .before .load .ensures) (c .before .before .loaded .given .1) .1
+slice-aggregate-count-next c =
+    loaded _ _ _ (c .before .before .before .before .before .before .load .ensures) (c .before .before .loaded .given .1) .1
 
 count-next-requires : tie.Need-count-next-requires
 count-next-requires c κs = search needs

@@ -11,7 +11,9 @@ use Rattle.tally_lines.proofs.refused_lines.Statement.{statement}
 use Rattle.tally_lines.proofs.refused_lines.Tie as tie
 
 abbrev Inv-loop : tie.InvT-loop
-Inv-loop d₀ at answers next₀ k₀ d next k = (k ≤ length answers) × (length d ≡ length d₀) × (written (answerLines 0 answers) (text d₀ at) ≡ written (answerLines k (drop k answers)) (text d next))
+Inv-loop d₀ at answers next₀ k₀ d next k =
+    (k ≤ length answers) × (length d ≡ length d₀)
+    × (written (answerLines 0 answers) (text d₀ at) ≡ written (answerLines k (drop k answers)) (text d next))
 
 abbrev μ-loop : tie.MeasureT-loop
 μ-loop d₀ at answers next₀ k₀ d next k = length answers - k

@@ -11,7 +11,8 @@ use Rattle.tally_lines.proofs.type_lines.Statement.{statement}
 use Rattle.tally_lines.proofs.type_lines.Tie as tie
 
 abbrev Inv-loop : tie.InvT-loop
-Inv-loop d₀ at types next₀ k₀ t6 d next k = (k ≤ length types) × (length d ≡ length d₀) × (written (typeLines 0 types) (text d₀ at) ≡ written (typeLines k (drop k types)) (text d next))
+Inv-loop d₀ at types next₀ k₀ t6 d next k =
+    (k ≤ length types) × (length d ≡ length d₀) × (written (typeLines 0 types) (text d₀ at) ≡ written (typeLines k (drop k types)) (text d next))
 
 abbrev μ-loop : tie.MeasureT-loop
 μ-loop d₀ at types next₀ k₀ t6 d next k = length types - k

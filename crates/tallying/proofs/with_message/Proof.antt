@@ -41,8 +41,11 @@ cast-t21 c = search needs
 
 add-t22 : tie.Need-add-t22
 add-t22 c =
-    let b = c .before .before .before .before .before .before .before .before .before .before .before .before .before .before .before .before .before .before .before .before in
-    let o = c .before .before .before .before .before .before .before .before .before .before .before .before .before .before .before .count-octets .result in
+    let b = (let back10 = c .before .before .before .before .before .before .before .before .before .before in
+    back10 .before .before .before .before .before .before .before .before .before .before) in
+    let o = (let back10 = c .before .before .before .before .before .before .before .before .before .before in
+    let back15 = back10 .before .before .before .before .before in
+    back15 .count-octets .result) in
     let small : o .bare < 2 ^ 32 = search needs in
     record { fits = ready-bare (b .args .t) (b .args .m .now) (length (b .args .map .now)) (b .pre) (o .bare) small }
 
@@ -51,8 +54,14 @@ same-length c = search needs
 
 returns : tie.Need-returns
 returns c =
-    let b = c .before .before .before .before .before .before .before .before .before .before .before .before .before .before .before .before .before .before .before .before in
-    message-is (b .args .t) (b .args .m .now) _ (c .before .before .before .before .before .before .before .before .before .before .before .before .before .before .before .before .before .le-u32 .ensures) _ (c .before .before .before .before .before .before .before .before .before .before .before .before .before .before .before .count-octets .ensures) _ (c .before .before .before .before .before .before .before .before .before .before .one-more .ensures) _ (c .before .before .before .before .before .before .before .with-offer .ensures)
+    let b = (let back10 = c .before .before .before .before .before .before .before .before .before .before in
+    back10 .before .before .before .before .before .before .before .before .before .before) in
+    let back7 = c .before .before .before .before .before .before .before in
+    let back10 = back7 .before .before .before in
+    let back15 = back10 .before .before .before .before .before in
+    let back17 = back15 .before .before in
+    message-is (b .args .t) (b .args .m .now) _ (back17 .le-u32 .ensures) _ (back15 .count-octets .ensures) _ (back10 .one-more .ensures) _
+    (back7 .with-offer .ensures)
 
 pub with-message-spec : {M : Type 1} → statement M
 with-message-spec =

@@ -11,7 +11,8 @@ use Rattle.tallying.proofs.with_messages.Statement.{statement}
 use Rattle.tallying.proofs.with_messages.Tie as tie
 
 abbrev Inv-loop : tie.InvT-loop
-Inv-loop map₀ file counted₀ rest₀ map counted rest = (length map ≡ length map₀) × Going-on (withMessages counted₀ (allOctets (messagesOf (tokenOf file)))) file rest counted
+Inv-loop map₀ file counted₀ rest₀ map counted rest =
+    (length map ≡ length map₀) × Going-on (withMessages counted₀ (allOctets (messagesOf (tokenOf file)))) file rest counted
 
 abbrev μ-loop : tie.MeasureT-loop
 μ-loop map₀ file counted₀ rest₀ map counted rest = length rest

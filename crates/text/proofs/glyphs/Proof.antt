@@ -9,7 +9,8 @@ use Rattle.text.proofs.glyphs.Statement.{statement}
 use Rattle.text.proofs.glyphs.Tie as tie
 
 abbrev Inv-loop : tie.InvT-loop
-Inv-loop d₀ at id order next₀ i₀ d next i = (i ≤ length order) × (length d ≡ length d₀) × (text d next ≡ written (glyphs id (take i order)) (text d₀ at))
+Inv-loop d₀ at id order next₀ i₀ d next i =
+    (i ≤ length order) × (length d ≡ length d₀) × (text d next ≡ written (glyphs id (take i order)) (text d₀ at))
 
 abbrev μ-loop : tie.MeasureT-loop
 μ-loop d₀ at id order next₀ i₀ d next i = length order - i

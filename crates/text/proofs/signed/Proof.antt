@@ -22,7 +22,8 @@ returns : tie.Need-returns
 returns c =
     let z = c .before .before .before .before .before .before .before .before .args .z in
     let f : SFits w32 z = search needs in
-    signed-minus z f _ (c .before .before .before .magnitude .ensures) _ _ (c .before .before .before .before .before .before .if1 .taken) (c .before .before .field .ensures)
+    signed-minus z f _ (c .before .before .before .magnitude .ensures) _ _ (c .before .before .before .before .before .before .if1 .taken)
+    (c .before .before .field .ensures)
 
 magnitude-requires-2 : tie.Need-magnitude-requires-2
 magnitude-requires-2 c κs = search needs
@@ -37,7 +38,8 @@ returns-2 : tie.Need-returns-2
 returns-2 c =
     let z = c .before .before .before .before .before .before .before .args .z in
     let f : SFits w32 z = search needs in
-    signed-plain z f _ (c .before .before .before .magnitude2 .ensures) _ _ (c .before .before .before .before .before .if1 .left) (c .before .before .number .ensures)
+    signed-plain z f _ (c .before .before .before .magnitude2 .ensures) _ _ (c .before .before .before .before .before .if1 .left)
+    (c .before .before .number .ensures)
 
 pub signed-spec : {M : Type 1} → statement M
 signed-spec =

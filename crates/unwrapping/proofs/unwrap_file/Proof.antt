@@ -35,7 +35,9 @@ same-length : tie.Need-same-length
 same-length c = search needs
 
 returns : tie.Need-returns
-returns c = loaded _ _ _ (c .before .before .before .before .before .before .before .before .load .ensures) (c .before .before .before .before .loaded .given .1)
+returns c =
+    loaded _ _ _ (c .before .before .before .before .before .before .before .before .load .ensures)
+    (c .before .before .before .before .loaded .given .1)
 
 same-length-2 : tie.Need-same-length-2
 same-length-2 c = search needs

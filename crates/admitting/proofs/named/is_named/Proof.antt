@@ -47,7 +47,12 @@ loop-less : tie.Need-loop-less Inv-loop μ-loop
 loop-less c = search needs
 
 loop-again : tie.Need-loop-again Inv-loop μ-loop
-loop-again c = (search needs, named-on _ (c .before .before .before .before .before .before .before .before .before .before .pre) _ _ _ (c .before .before .before .before .before .before .before .loop .inv .1) (search needs) _ (c .before .before .before .before .message-length .ensures) _ (c .before .before .before .names .ensures) (c .before .before .if2 .left))
+loop-again c = (
+  search needs,
+  named-on _ (c .before .before .before .before .before .before .before .before .before .before .pre) _ _ _
+      (c .before .before .before .before .before .before .before .loop .inv .1) (search needs) _
+      (c .before .before .before .before .message-length .ensures) _ (c .before .before .before .names .ensures) (c .before .before .if2 .left),
+)
 
 returns-4 : tie.Need-returns-4 Inv-loop μ-loop
 returns-4 c = search namings

@@ -10,7 +10,8 @@ use Rattle.fields.proofs.hex.octets_at.Statement.{statement}
 use Rattle.fields.proofs.hex.octets_at.Tie as tie
 
 abbrev Inv-loop : tie.InvT-loop
-Inv-loop s places octets₀ i₀ octets i = (length places ≡ 16) × (length octets ≡ 16) × (octetsAt s places ≡ behindAll (take i octets) (octetsAt s (drop i places)))
+Inv-loop s places octets₀ i₀ octets i =
+    (length places ≡ 16) × (length octets ≡ 16) × (octetsAt s places ≡ behindAll (take i octets) (octetsAt s (drop i places)))
 
 abbrev μ-loop : tie.MeasureT-loop
 μ-loop s places octets₀ i₀ octets i = 16 - i

@@ -30,7 +30,8 @@ returns c = search numerals
 
 mul-next : tie.Need-mul-next Inv-loop μ-loop
 mul-next c =
-    let h : c .before .before .before .before .loop .n * c .before .before .before .before .before .before .args .base ≤ 4294967295 * 255 = mul-le-mul {n₂ = 4294967295} {m₂ = 255} (omega arith) (omega arith) in
+    let h : c .before .before .before .before .loop .n * c .before .before .before .before .before .before .args .base ≤ 4294967295 * 255 =
+    mul-le-mul {n₂ = 4294967295} {m₂ = 255} (omega arith) (omega arith) in
     omega (arith, h)
 
 cast-next : tie.Need-cast-next Inv-loop μ-loop
@@ -38,7 +39,8 @@ cast-next c = search needs
 
 add-next : tie.Need-add-next Inv-loop μ-loop
 add-next c =
-    let h : c .before .before .before .before .loop .n * c .before .before .before .before .before .before .args .base ≤ 4294967295 * 255 = mul-le-mul {n₂ = 4294967295} {m₂ = 255} (omega arith) (omega arith) in
+    let h : c .before .before .before .before .loop .n * c .before .before .before .before .before .before .args .base ≤ 4294967295 * 255 =
+    mul-le-mul {n₂ = 4294967295} {m₂ = 255} (omega arith) (omega arith) in
     omega (arith, h)
 
 returns-2 : tie.Need-returns-2 Inv-loop μ-loop

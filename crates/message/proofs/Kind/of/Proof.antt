@@ -51,7 +51,8 @@ returns-7 : tie.Need-returns-7
 returns-7 c = search needs
 
 returns-8 : tie.Need-returns-8
-returns-8 c = let (((((((u, a), b), d), e), f), g), h) = c .before .match .rest in c .alert .ensures ∙ last-kind _ (c .before .before .pre) a b d e f g h
+returns-8 c =
+    let (((((((u, a), b), d), e), f), g), h) = c .before .match .rest in c .alert .ensures ∙ last-kind _ (c .before .before .pre) a b d e f g h
 
 pub of-spec : {M : Type 1} → statement M
 of-spec =

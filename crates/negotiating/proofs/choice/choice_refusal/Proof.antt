@@ -19,7 +19,11 @@ returns-3 : tie.Need-returns-3
 returns-3 c = search choice-refusals
 
 cast-within : tie.Need-cast-within
-cast-within c = let h : c .before .before .before .before .before .before .args .r .count ≤ 16 = choice-few (c .before .before .before .before .before .before .args .r) (c .before .before .before .before .before .before .args .marks) (c .before .before .before .before .before .before .args .fit) (c .before .before .before .before .before .before .args .class) _ (c .before .before .before .before .before .outside .ensures) (c .before .before .before .before .if1 .left) in omega arith
+cast-within c =
+    let h : c .before .before .before .before .before .before .args .r .count ≤ 16 =
+    choice-few (c .before .before .before .before .before .before .args .r) (c .before .before .before .before .before .before .args .marks)
+    (c .before .before .before .before .before .before .args .fit) (c .before .before .before .before .before .before .args .class) _
+    (c .before .before .before .before .before .outside .ensures) (c .before .before .before .before .if1 .left) in omega arith
 
 within-requires : tie.Need-within-requires
 within-requires c κs = search needs

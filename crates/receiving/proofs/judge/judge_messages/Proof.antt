@@ -11,7 +11,9 @@ use Rattle.receiving.proofs.judge.judge_messages.Statement.{statement}
 use Rattle.receiving.proofs.judge.judge_messages.Tie as tie
 
 abbrev Inv-loop : tie.InvT-loop
-Inv-loop r t conversation rest₀ place₀ sequence₀ scan₀ n₀ rest place sequence scan n = (n + length rest ≤ length t) × (place .0 + length rest ≡ length t) × (sequence ≡ r .sequence + n) × (scan .named ≤ n) × (judge r t 0 (startOf r) (chainOf t 0 0 (r .sequence) conversation) ≡ judge r t n scan (chainOf rest 0 (place .0) sequence conversation))
+Inv-loop r t conversation rest₀ place₀ sequence₀ scan₀ n₀ rest place sequence scan n =
+    (n + length rest ≤ length t) × (place .0 + length rest ≡ length t) × (sequence ≡ r .sequence + n) × (scan .named ≤ n)
+    × (judge r t 0 (startOf r) (chainOf t 0 0 (r .sequence) conversation) ≡ judge r t n scan (chainOf rest 0 (place .0) sequence conversation))
 
 abbrev μ-loop : tie.MeasureT-loop
 μ-loop r t conversation rest₀ place₀ sequence₀ scan₀ n₀ rest place sequence scan n = length rest
@@ -44,7 +46,8 @@ cast-length : tie.Need-cast-length Inv-loop μ-loop
 cast-length c = search needs
 
 slice-aggregate-admit-message : tie.Need-slice-aggregate-admit-message Inv-loop μ-loop
-slice-aggregate-admit-message c = whole-length _ _ _ _ (c .before .before .before .before .before .read-next .ensures) _ (c .before .before .before .m .given .1)
+slice-aggregate-admit-message c =
+    whole-length _ _ _ _ (c .before .before .before .before .before .read-next .ensures) _ (c .before .before .before .m .given .1)
 
 admit-message-requires : tie.Need-admit-message-requires Inv-loop μ-loop
 admit-message-requires c κs = (search needs, search needs, search judgings)
@@ -72,13 +75,25 @@ part-rest-end c = search needs
 
 in-token-requires : tie.Need-in-token-requires Inv-loop μ-loop
 in-token-requires c κs =
-    place-fits _ _ _ _ (c .before .before .before .before .before .before .before .before .before .before .read-next .ensures) _ (c .before .before .before .before .before .before .before .before .m .given .1) _ _ (c .before .before .before .before .before .before .before .before .before .before .before .before .loop .inv .1) (c .before .before .before .before .before .before .before .before .before .before .before .before .before .before .before .before .before .pre .1)
+    let back8 = c .before .before .before .before .before .before .before .before in
+    let back10 = back8 .before .before in
+    let back12 = back10 .before .before in
+    let back17 = back12 .before .before .before .before .before in
+    place-fits _ _ _ _ (back10 .read-next .ensures) _ (back8 .m .given .1) _ _ (back12 .loop .inv .1) (back17 .pre .1)
 
 add-sequence : tie.Need-add-sequence Inv-loop μ-loop
-add-sequence c = omega (arith, c .before .before .before .before .before .before .before .before .before .before .before .before .before .loop .inv, c .before .before .before .before .before .before .before .before .before .before .before .before .before .before .before .before .before .before .pre)
+add-sequence c =
+    let back10 = c .before .before .before .before .before .before .before .before .before .before in
+    let back13 = back10 .before .before .before in
+    let back18 = back13 .before .before .before .before .before in
+    omega (arith, back13 .loop .inv, back18 .pre)
 
 add-n : tie.Need-add-n Inv-loop μ-loop
-add-n c = omega (arith, c .before .before .before .before .before .before .before .before .before .before .before .before .before .loop .inv, c .before .before .before .before .before .before .before .before .before .before .before .before .before .before .before .before .before .before .pre)
+add-n c =
+    let back10 = c .before .before .before .before .before .before .before .before .before .before in
+    let back13 = back10 .before .before .before in
+    let back18 = back13 .before .before .before .before .before in
+    omega (arith, back13 .loop .inv, back18 .pre)
 
 loop-less : tie.Need-loop-less Inv-loop μ-loop
 loop-less c = search judgings

@@ -24,7 +24,12 @@ add-next-3 : tie.Need-add-next-3
 add-next-3 c = search needs
 
 returns : tie.Need-returns
-returns c = rw (c .before .before .before .before .reading-token .ensures, c .before .before .before .conversation-of .ensures, c .before .before .counts-after .ensures)
+returns c =
+    rw (
+      c .before .before .before .before .reading-token .ensures,
+      c .before .before .before .conversation-of .ensures,
+      c .before .before .counts-after .ensures,
+    )
 
 pub moved-spec : {M : Type 1} → statement M
 moved-spec =

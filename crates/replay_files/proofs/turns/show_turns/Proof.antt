@@ -8,7 +8,9 @@ use Rattle.replay_files.proofs.turns.show_turns.Statement.{statement}
 use Rattle.replay_files.proofs.turns.show_turns.Tie as tie
 
 abbrev Inv-loop : tie.InvT-loop
-Inv-loop marks ifile afile d₀ text₀ r₀ d text r = AllOn marks ifile afile (counted (r₀ .turns) (summary (restOf marks ifile afile r₀ d₀))) r d × (length d ≡ length d₀) × (length text ≡ length text₀)
+Inv-loop marks ifile afile d₀ text₀ r₀ d text r =
+    AllOn marks ifile afile (counted (r₀ .turns) (summary (restOf marks ifile afile r₀ d₀))) r d × (length d ≡ length d₀)
+    × (length text ≡ length text₀)
 
 abbrev μ-loop : tie.MeasureT-loop
 μ-loop marks ifile afile d₀ text₀ r₀ d text r = left ifile afile r

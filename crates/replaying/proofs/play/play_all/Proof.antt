@@ -8,7 +8,8 @@ use Rattle.replaying.proofs.play.play_all.Statement.{statement}
 use Rattle.replaying.proofs.play.play_all.Tie as tie
 
 abbrev Inv-loop : tie.InvT-loop
-Inv-loop marks ifile afile d₀ r₀ d r = AllOn marks ifile afile (counted (r₀ .turns) (summary (restOf marks ifile afile r₀ d₀))) r d × (length d ≡ length d₀)
+Inv-loop marks ifile afile d₀ r₀ d r =
+    AllOn marks ifile afile (counted (r₀ .turns) (summary (restOf marks ifile afile r₀ d₀))) r d × (length d ≡ length d₀)
 
 abbrev μ-loop : tie.MeasureT-loop
 μ-loop marks ifile afile d₀ r₀ d r = left ifile afile r

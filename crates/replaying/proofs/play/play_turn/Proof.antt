@@ -30,10 +30,17 @@ done-requires : tie.Need-done-requires
 done-requires c κs = search needs
 
 returns : tie.Need-returns
-returns c = turn-none _ _ _ (c .before .before .before .before .before .before .before .before .before .pre .0) _ (c .before .before .before .next-turn .ensures) _ _ (c .before .before .before .before .before .before .before .before .before .pre .1) (c .before .before .before .before .before .before .before .before .before .pre .2) (search needs) _ (c .done .ensures)
+returns c =
+    turn-none _ _ _ (c .before .before .before .before .before .before .before .before .before .pre .0) _
+    (c .before .before .before .next-turn .ensures) _ _ (c .before .before .before .before .before .before .before .before .before .pre .1)
+    (c .before .before .before .before .before .before .before .before .before .pre .2) (search needs) _ (c .done .ensures)
 
 add-end : tie.Need-add-end
-add-end c = let h = turn-end _ _ _ (c .before .before .before .before .before .before .before .before .before .before .pre .0) _ (c .before .before .before .before .next-turn .ensures) (search needs) true (search needs) in search (needs, h)
+add-end c =
+    let h =
+    turn-end _ _ _ (c .before .before .before .before .before .before .before .before .before .before .pre .0) _
+    (c .before .before .before .before .next-turn .ensures) (search needs) true (search needs) in
+    search (needs, h)
 
 sub-play-side : tie.Need-sub-play-side
 sub-play-side c = search needs
@@ -42,19 +49,32 @@ part-play-side-start : tie.Need-part-play-side-start
 part-play-side-start c = search needs
 
 part-play-side-end : tie.Need-part-play-side-end
-part-play-side-end c = turn-within _ _ _ (c .before .before .before .before .before .before .before .before .before .before .pre .0) _ (c .before .before .before .before .next-turn .ensures) (search needs) true (search needs)
+part-play-side-end c =
+    turn-within _ _ _ (c .before .before .before .before .before .before .before .before .before .before .pre .0) _
+    (c .before .before .before .before .next-turn .ensures) (search needs) true (search needs)
 
 play-side-requires : tie.Need-play-side-requires
-play-side-requires c κs = turn-ready _ _ _ (c .before .before .before .before .before .before .before .before .before .before .before .before .pre .0) _ (c .before .before .before .before .before .before .next-turn .ensures) (search needs) true (search needs)
+play-side-requires c κs =
+    turn-ready _ _ _ (c .before .before .before .before .before .before .before .before .before .before .before .before .pre .0) _
+    (c .before .before .before .before .before .before .next-turn .ensures) (search needs) true (search needs)
 
 same-length : tie.Need-same-length
 same-length c = search needs
 
 returns-2 : tie.Need-returns-2
-returns-2 c = turn-goes _ _ _ (c .before .before .before .before .before .before .before .before .before .before .before .before .before .before .before .pre .0) _ (c .before .before .before .before .before .before .before .before .before .next-turn .ensures) (search needs) true (search needs) _ _ (c .before .before .before .before .before .before .before .before .before .before .before .before .before .before .before .pre .1) _ _ (c .before .before .play-side .ensures)
+returns-2 c =
+    turn-goes _ _ _
+    (c .before .before .before .before .before .before .before .before .before .before .before .before .before .before .before .pre .0) _
+    (c .before .before .before .before .before .before .before .before .before .next-turn .ensures) (search needs) true (search needs) _ _
+    (c .before .before .before .before .before .before .before .before .before .before .before .before .before .before .before .pre .1) _ _
+    (c .before .before .play-side .ensures)
 
 add-end-2 : tie.Need-add-end-2
-add-end-2 c = let h = turn-end _ _ _ (c .before .before .before .before .before .before .before .before .before .before .pre .0) _ (c .before .before .before .before .next-turn .ensures) (search needs) false (search needs) in search (needs, h)
+add-end-2 c =
+    let h =
+    turn-end _ _ _ (c .before .before .before .before .before .before .before .before .before .before .pre .0) _
+    (c .before .before .before .before .next-turn .ensures) (search needs) false (search needs) in
+    search (needs, h)
 
 sub-play-side-2 : tie.Need-sub-play-side-2
 sub-play-side-2 c = search needs
@@ -63,16 +83,25 @@ part-play-side-start-2 : tie.Need-part-play-side-start-2
 part-play-side-start-2 c = search needs
 
 part-play-side-end-2 : tie.Need-part-play-side-end-2
-part-play-side-end-2 c = turn-within _ _ _ (c .before .before .before .before .before .before .before .before .before .before .pre .0) _ (c .before .before .before .before .next-turn .ensures) (search needs) false (search needs)
+part-play-side-end-2 c =
+    turn-within _ _ _ (c .before .before .before .before .before .before .before .before .before .before .pre .0) _
+    (c .before .before .before .before .next-turn .ensures) (search needs) false (search needs)
 
 play-side-requires-2 : tie.Need-play-side-requires-2
-play-side-requires-2 c κs = turn-ready _ _ _ (c .before .before .before .before .before .before .before .before .before .before .before .before .pre .0) _ (c .before .before .before .before .before .before .next-turn .ensures) (search needs) false (search needs)
+play-side-requires-2 c κs =
+    turn-ready _ _ _ (c .before .before .before .before .before .before .before .before .before .before .before .before .pre .0) _
+    (c .before .before .before .before .before .before .next-turn .ensures) (search needs) false (search needs)
 
 same-length-2 : tie.Need-same-length-2
 same-length-2 c = search needs
 
 returns-3 : tie.Need-returns-3
-returns-3 c = turn-goes _ _ _ (c .before .before .before .before .before .before .before .before .before .before .before .before .before .before .before .pre .0) _ (c .before .before .before .before .before .before .before .before .before .next-turn .ensures) (search needs) false (search needs) _ _ (c .before .before .before .before .before .before .before .before .before .before .before .before .before .before .before .pre .1) _ _ (c .before .before .play-side2 .ensures)
+returns-3 c =
+    turn-goes _ _ _
+    (c .before .before .before .before .before .before .before .before .before .before .before .before .before .before .before .pre .0) _
+    (c .before .before .before .before .before .before .before .before .before .next-turn .ensures) (search needs) false (search needs) _ _
+    (c .before .before .before .before .before .before .before .before .before .before .before .before .before .before .before .pre .1) _ _
+    (c .before .before .play-side2 .ensures)
 
 pub play-turn-spec : {M : Type 1} → statement M
 play-turn-spec =

@@ -32,7 +32,11 @@ returns c = rw (c .size-of .ensures)
 returns-2 : tie.Need-returns-2
 returns-2 c = let a : length (c .before .args .e .types) ≡ 8 = search needs in
     let b : length (c .before .args .e .sizes) ≡ 8 = search needs in
-    rw (set-out (c .before .args .e .types) (c .before .args .e .count) (c .before .args .kind) (omega arith), set-out (c .before .args .e .sizes) (c .before .args .e .count) (sizeOf (c .before .args .n)) (omega arith))
+    rw (
+      set-out (c .before .args .e .types) (c .before .args .e .count) (c .before .args .kind) (omega arith),
+      set-out (c .before .args .e .sizes)
+          (c .before .args .e .count) (sizeOf (c .before .args .n)) (omega arith),
+    )
 
 pub added-spec : {M : Type 1} → statement M
 added-spec =

@@ -29,7 +29,10 @@ same-length c = search needs
 
 returns-2 : tie.Need-returns-2
 returns-2 c =
-    choose-made _ _ _ (request _) _ (c .before .before .before .before .before .before .before .choice-refusal .ensures) (c .before .before .before .before .before .before .if1 .left) _ (c .before .before .before .before .before .chosen-record .ensures) _ refl _ _ (c .before .before .before .write-exchange .ensures) _ (c .name-choice .ensures)
+    choose-made _ _ _ (request _) _ (c .before .before .before .before .before .before .before .choice-refusal .ensures)
+    (c .before .before .before .before .before .before .if1 .left) _
+    (c .before .before .before .before .before .chosen-record .ensures) _ refl _ _ (c .before .before .before .write-exchange .ensures) _
+    (c .name-choice .ensures)
 
 pub choose-exchange-spec : {M : Type 1} → statement M
 choose-exchange-spec =

@@ -26,7 +26,8 @@ requested-by-requires c κs = search needs
 append-payload-requires : tie.Need-append-payload-requires
 append-payload-requires c κs =
     let s = c .before .before .before .before .before .before .before in
-    exchange-ready _ (sized _ _ (s .good .0)) _ _ _ (c .before .before .before .before .named-refusal .ensures) (c .before .before .before .if1 .left) _
+    exchange-ready _ (sized _ _ (s .good .0)) _ _ _ (c .before .before .before .before .named-refusal .ensures)
+    (c .before .before .before .if1 .left) _
 
 answer-requires-2 : tie.Need-answer-requires-2
 answer-requires-2 c κs = search needs
@@ -37,7 +38,11 @@ same-length c = search needs
 returns-2 : tie.Need-returns-2
 returns-2 c =
     let s = c .before .before .before .before .before .before .before .before .before .before .before in
-    exchange-written _ (sized _ _ (s .good .0)) _ _ _ (c .before .before .before .before .before .before .before .before .named-refusal .ensures) (c .before .before .before .before .before .before .before .if1 .left) _ (c .before .before .before .before .before .before .scheme-id .ensures) _ (c .before .before .before .before .before .requested-by .ensures) _ _ (c .before .before .before .append-payload .ensures) _ (c .answer2 .ensures)
+    exchange-written _ (sized _ _ (s .good .0)) _ _ _ (c .before .before .before .before .before .before .before .before .named-refusal .ensures)
+    (c .before .before .before .before .before .before .before .if1 .left) _
+    (c .before .before .before .before .before .before .scheme-id .ensures) _
+    (c .before .before .before .before .before .requested-by .ensures) _ _ (c .before .before .before .append-payload .ensures) _
+    (c .answer2 .ensures)
 
 pub write-exchange-spec : {M : Type 1} → statement M
 write-exchange-spec =

@@ -19,7 +19,8 @@ returns : tie.Need-returns
 returns c =
     let s = c .before .before .before .before .before in
     let full : length (s .args .t3) ≡ 16 = search needs in
-    metadata-refused _ (sized _ _ (s .good .0)) _ _ full _ _ (c .before .before .metadata-refusal .ensures) (c .before .if1 .taken) _ (c .answer .ensures)
+    metadata-refused _ (sized _ _ (s .good .0)) _ _ full _ _ (c .before .before .metadata-refusal .ensures) (c .before .if1 .taken) _
+    (c .answer .ensures)
 
 slice-aggregate-find-own : tie.Need-slice-aggregate-find-own
 slice-aggregate-find-own c = search needs
@@ -32,19 +33,23 @@ find-own-requires c κs =
 cast-with-bit : tie.Need-cast-with-bit
 cast-with-bit c =
     let s = c .before .before .before .before .before .before in
-    let h : c .find-own .result < 16 = metadata-place _ (s .args .t3) (length (s .args .value .now)) _ _ (c .before .before .before .metadata-refusal .ensures) (c .before .before .if1 .left) _ (c .find-own .ensures) in
+    let h : c .find-own .result < 16 =
+    metadata-place _ (s .args .t3) (length (s .args .value .now)) _ _ (c .before .before .before .metadata-refusal .ensures)
+    (c .before .before .if1 .left) _ (c .find-own .ensures) in
     omega arith
 
 with-bit-requires : tie.Need-with-bit-requires
 with-bit-requires c κs =
     let s = c .before .before .before .before .before .before in
-    metadata-place _ (s .args .t3) (length (s .args .value .now)) _ _ (c .before .before .before .metadata-refusal .ensures) (c .before .before .if1 .left) _ (c .find-own .ensures)
+    metadata-place _ (s .args .t3) (length (s .args .value .now)) _ _ (c .before .before .before .metadata-refusal .ensures)
+    (c .before .before .if1 .left) _ (c .find-own .ensures)
 
 append-payload-requires : tie.Need-append-payload-requires
 append-payload-requires c κs =
     let s = c .before .before .before .before .before .before .before .before in
     let full : length (s .args .t3) ≡ 16 = search needs in
-    metadata-ready _ (sized _ _ (s .good .0)) _ _ full _ _ (c .before .before .before .before .before .metadata-refusal .ensures) (c .before .before .before .before .if1 .left)
+    metadata-ready _ (sized _ _ (s .good .0)) _ _ full _ _ (c .before .before .before .before .before .metadata-refusal .ensures)
+    (c .before .before .before .before .if1 .left)
 
 answer-requires-2 : tie.Need-answer-requires-2
 answer-requires-2 c κs = search needs
@@ -56,7 +61,12 @@ returns-2 : tie.Need-returns-2
 returns-2 c =
     let s = c .before .before .before .before .before .before .before .before .before .before .before .before in
     let full : length (s .args .t3) ≡ 16 = search needs in
-    metadata-written _ (sized _ _ (s .good .0)) _ _ full _ _ (c .before .before .before .before .before .before .before .before .before .metadata-refusal .ensures) (c .before .before .before .before .before .before .before .before .if1 .left) _ (c .before .before .before .before .before .before .find-own .ensures) _ (c .before .before .before .before .before .with-bit .ensures) _ _ (c .before .before .before .append-payload .ensures) _ (c .answer2 .ensures)
+    let back5 = c .before .before .before .before .before in
+    let back6 = back5 .before in
+    let back8 = back6 .before .before in
+    let back9 = back8 .before in
+    metadata-written _ (sized _ _ (s .good .0)) _ _ full _ _ (back9 .metadata-refusal .ensures) (back8 .if1 .left) _ (back6 .find-own .ensures) _
+    (back5 .with-bit .ensures) _ _ (c .before .before .before .append-payload .ensures) _ (c .answer2 .ensures)
 
 pub write-metadata-spec : {M : Type 1} → statement M
 write-metadata-spec =

@@ -21,10 +21,14 @@ add-after-message : tie.Need-add-after-message
 add-after-message c = search needs
 
 add-after-message-2 : tie.Need-add-after-message-2
-add-after-message-2 c = record { fits = nego-small _ _ _ _ _ _ (c .before .before .before .before .before .before .before .before .before .pre) _ (c .before .before .before .before .size-of .ensures) }
+add-after-message-2 c =
+    let back9 = c .before .before .before .before .before .before .before .before .before in
+    record { fits = nego-small _ _ _ _ _ _ (back9 .pre) _ (c .before .before .before .before .size-of .ensures) }
 
 after-message-requires : tie.Need-after-message-requires
-after-message-requires c κs = nego-counted _ _ _ _ _ _ (c .before .before .before .before .before .before .before .before .before .pre) _ (c .before .before .before .before .size-of .ensures)
+after-message-requires c κs =
+    let back9 = c .before .before .before .before .before .before .before .before .before in
+    nego-counted _ _ _ _ _ _ (back9 .pre) _ (c .before .before .before .before .size-of .ensures)
 
 same-length : tie.Need-same-length
 same-length c = search needs
@@ -35,7 +39,8 @@ returns c =
     let full : length (s .args .random) ≡ 32 = search needs in
     let w = c .before .before .before .write in
     let k = nego-size _ _ _ _ _ _ (s .pre) _ (c .before .before .before .before .before .size-of .ensures) in
-    handed-appends _ (sized _ _ (s .good .0)) _ _ _ full (s .pre .ready) _ (s .pre .keeps) _ (c .before .before .before .before .before .before .heading-of .ensures) (w .result) _ _ (w .ensures) refl _ k _ (c .after-message .ensures)
+    handed-appends _ (sized _ _ (s .good .0)) _ _ _ full (s .pre .ready) _ (s .pre .keeps) _
+    (c .before .before .before .before .before .before .heading-of .ensures) (w .result) _ _ (w .ensures) refl _ k _ (c .after-message .ensures)
 
 pub append-nego-spec : {M : Type 1} → statement M
 append-nego-spec =

@@ -28,7 +28,8 @@ returns-3 : tie.Need-returns-3
 returns-3 c =
     let s = c .before .before .before .before .before .before in
     let g : NegoContent = record { random = []; test = s .args .test; extensions = s .args .extensions; values = s .args .values .now } in
-    offer-extensions _ g _ _ (c .before .before .before .before .stage-refusal .ensures) (c .before .before .before .if1 .left) (c .before .before .if2 .left) _ (c .before .extension-refusal .ensures) (c .if3 .taken)
+    offer-extensions _ g _ _ (c .before .before .before .before .stage-refusal .ensures) (c .before .before .before .if1 .left)
+    (c .before .before .if2 .left) _ (c .before .extension-refusal .ensures) (c .if3 .taken)
 
 size-of-requires : tie.Need-size-of-requires
 size-of-requires c κs = search needs
@@ -37,13 +38,19 @@ mul-has-room : tie.Need-mul-has-room
 mul-has-room c =
     let s = c .before .before .before .before .before .before .before .before in
     let g : NegoContent = record { random = []; test = s .args .test; extensions = s .args .extensions; values = s .args .values .now } in
-    record { fits = offer-list-size _ g 0 _ (c .before .before .before .before .before .before .stage-refusal .ensures) (c .before .before .before .before .before .if1 .left) }
+    record {
+      fits = offer-list-size _ g 0 _ (c .before .before .before .before .before .before .stage-refusal .ensures)
+          (c .before .before .before .before .before .if1 .left);
+    }
 
 add-has-room : tie.Need-add-has-room
 add-has-room c =
     let s = c .before .before .before .before .before .before .before .before in
     let g : NegoContent = record { random = []; test = s .args .test; extensions = s .args .extensions; values = s .args .values .now } in
-    record { fits = offer-header-size _ g 0 _ (c .before .before .before .before .before .before .stage-refusal .ensures) (c .before .before .before .before .before .if1 .left) }
+    record {
+      fits = offer-header-size _ g 0 _ (c .before .before .before .before .before .before .stage-refusal .ensures)
+          (c .before .before .before .before .before .if1 .left);
+    }
 
 has-room-requires : tie.Need-has-room-requires
 has-room-requires c κs = search needs
@@ -52,13 +59,19 @@ returns-4 : tie.Need-returns-4
 returns-4 c =
     let s = c .before .before .before .before .before .before .before .before .before .before in
     let g : NegoContent = record { random = []; test = s .args .test; extensions = s .args .extensions; values = s .args .values .now } in
-    offer-crowded _ g _ _ (c .before .before .before .before .before .before .before .before .stage-refusal .ensures) (c .before .before .before .before .before .before .before .if1 .left) (c .before .before .before .before .before .before .if2 .left) _ (c .before .before .before .before .before .extension-refusal .ensures) (c .before .before .before .before .if3 .left) _ (c .before .before .before .size-of .ensures) _ (c .before .has-room .ensures) (c .if4 .left)
+    offer-crowded _ g _ _ (c .before .before .before .before .before .before .before .before .stage-refusal .ensures)
+    (c .before .before .before .before .before .before .before .if1 .left) (c .before .before .before .before .before .before .if2 .left) _
+    (c .before .before .before .before .before .extension-refusal .ensures) (c .before .before .before .before .if3 .left) _
+    (c .before .before .before .size-of .ensures) _ (c .before .has-room .ensures) (c .if4 .left)
 
 returns-5 : tie.Need-returns-5
 returns-5 c =
     let s = c .before .before .before .before .before .before .before .before .before .before in
     let g : NegoContent = record { random = []; test = s .args .test; extensions = s .args .extensions; values = s .args .values .now } in
-    offer-fits _ g _ _ (c .before .before .before .before .before .before .before .before .stage-refusal .ensures) (c .before .before .before .before .before .before .before .if1 .left) (c .before .before .before .before .before .before .if2 .left) _ (c .before .before .before .before .before .extension-refusal .ensures) (c .before .before .before .before .if3 .left) _ (c .before .before .before .size-of .ensures) _ (c .before .has-room .ensures) (c .if4 .taken)
+    offer-fits _ g _ _ (c .before .before .before .before .before .before .before .before .stage-refusal .ensures)
+    (c .before .before .before .before .before .before .before .if1 .left) (c .before .before .before .before .before .before .if2 .left) _
+    (c .before .before .before .before .before .extension-refusal .ensures) (c .before .before .before .before .if3 .left) _
+    (c .before .before .before .size-of .ensures) _ (c .before .has-room .ensures) (c .if4 .taken)
 
 pub offer-refusal-spec : {M : Type 1} → statement M
 offer-refusal-spec =

@@ -18,36 +18,47 @@ returns : tie.Need-returns
 returns c =
     let s = c .before .before .before .before .before in
     let full : length (s .args .random) ≡ 32 = search needs in
-    let g : NegoContent = record { random = s .args .random; test = s .args .test; extensions = s .args .extensions; values = s .args .values .now } in
+    let g : NegoContent =
+    record { random = s .args .random; test = s .args .test; extensions = s .args .extensions; values = s .args .values .now } in
     offer-refused _ (sized _ _ (s .good .0)) _ g full _ (c .before .before .offer-refusal .ensures) (c .before .if1 .taken) _ (c .answer .ensures)
 
 mul-end : tie.Need-mul-end
 mul-end c =
     let s = c .before .before .before .before .before .before in
     let full : length (s .args .random) ≡ 32 = search needs in
-    let g : NegoContent = record { random = s .args .random; test = s .args .test; extensions = s .args .extensions; values = s .args .values .now } in
-    record { fits = offer-end _ (sized _ _ (s .good .0)) (s .args .transcript .now) g full _ (c .before .before .before .offer-refusal .ensures) (c .before .before .if1 .left) }
+    let g : NegoContent =
+    record { random = s .args .random; test = s .args .test; extensions = s .args .extensions; values = s .args .values .now } in
+    record {
+      fits = offer-end _ (sized _ _ (s .good .0)) (s .args .transcript .now) g full _ (c .before .before .before .offer-refusal .ensures)
+          (c .before .before .if1 .left);
+    }
 
 array-share-prefix-list : tie.Need-array-share-prefix-list
 array-share-prefix-list c =
     let s = c .before .before .before .before .before .before .before in
     let full : length (s .args .random) ≡ 32 = search needs in
-    let g : NegoContent = record { random = s .args .random; test = s .args .test; extensions = s .args .extensions; values = s .args .values .now } in
-    offer-list _ (sized _ _ (s .good .0)) (s .args .transcript .now) g full _ (c .before .before .before .before .offer-refusal .ensures) (c .before .before .before .if1 .left)
+    let g : NegoContent =
+    record { random = s .args .random; test = s .args .test; extensions = s .args .extensions; values = s .args .values .now } in
+    offer-list _ (sized _ _ (s .good .0)) (s .args .transcript .now) g full _ (c .before .before .before .before .offer-refusal .ensures)
+    (c .before .before .before .if1 .left)
 
 slice-aggregate-append-nego : tie.Need-slice-aggregate-append-nego
 slice-aggregate-append-nego c =
     let s = c .before .before .before .before .before .before .before .before in
     let full : length (s .args .random) ≡ 32 = search needs in
-    let g : NegoContent = record { random = s .args .random; test = s .args .test; extensions = s .args .extensions; values = s .args .values .now } in
-    offer-part _ (sized _ _ (s .good .0)) (s .args .transcript .now) g full _ (c .before .before .before .before .before .offer-refusal .ensures) (c .before .before .before .before .if1 .left)
+    let g : NegoContent =
+    record { random = s .args .random; test = s .args .test; extensions = s .args .extensions; values = s .args .values .now } in
+    offer-part _ (sized _ _ (s .good .0)) (s .args .transcript .now) g full _ (c .before .before .before .before .before .offer-refusal .ensures)
+    (c .before .before .before .before .if1 .left)
 
 append-nego-requires : tie.Need-append-nego-requires
 append-nego-requires c κs =
     let s = c .before .before .before .before .before .before .before .before in
     let full : length (s .args .random) ≡ 32 = search needs in
-    let g : NegoContent = record { random = s .args .random; test = s .args .test; extensions = s .args .extensions; values = s .args .values .now } in
-    offer-ready _ (sized _ _ (s .good .0)) _ g full _ (c .before .before .before .before .before .offer-refusal .ensures) (c .before .before .before .before .if1 .left)
+    let g : NegoContent =
+    record { random = s .args .random; test = s .args .test; extensions = s .args .extensions; values = s .args .values .now } in
+    offer-ready _ (sized _ _ (s .good .0)) _ g full _ (c .before .before .before .before .before .offer-refusal .ensures)
+    (c .before .before .before .before .if1 .left)
 
 answer-requires-2 : tie.Need-answer-requires-2
 answer-requires-2 c κs = search needs
@@ -59,8 +70,12 @@ returns-2 : tie.Need-returns-2
 returns-2 c =
     let s = c .before .before .before .before .before .before .before .before .before .before .before .before in
     let full : length (s .args .random) ≡ 32 = search needs in
-    let g : NegoContent = record { random = s .args .random; test = s .args .test; extensions = s .args .extensions; values = s .args .values .now } in
-    offer-written _ (sized _ _ (s .good .0)) _ g full _ (c .before .before .before .before .before .before .before .before .before .offer-refusal .ensures) (c .before .before .before .before .before .before .before .before .if1 .left) _ _ (c .before .before .before .append-nego .ensures) _ (c .answer2 .ensures)
+    let g : NegoContent =
+    record { random = s .args .random; test = s .args .test; extensions = s .args .extensions; values = s .args .values .now } in
+    let back8 = c .before .before .before .before .before .before .before .before in
+    let back9 = back8 .before in
+    offer-written _ (sized _ _ (s .good .0)) _ g full _ (back9 .offer-refusal .ensures) (back8 .if1 .left) _ _
+    (c .before .before .before .append-nego .ensures) _ (c .answer2 .ensures)
 
 pub write-offer-spec : {M : Type 1} → statement M
 write-offer-spec =

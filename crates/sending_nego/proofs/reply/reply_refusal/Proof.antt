@@ -32,7 +32,8 @@ returns-3 : tie.Need-returns-3
 returns-3 c =
     let s = c .before .before .before .before .before .before .before in
     let g : NegoContent = record { random = []; test = s .args .test; extensions = s .args .extensions; values = s .args .values .now } in
-    reply-marks _ _ g _ _ (c .before .before .before .before .before .stage-refusal .ensures) (c .before .before .before .before .if1 .left) (c .before .before .before .if2 .taken) _ (c .before .within .ensures) (c .if3 .left)
+    reply-marks _ _ g _ _ (c .before .before .before .before .before .stage-refusal .ensures) (c .before .before .before .before .if1 .left)
+    (c .before .before .before .if2 .taken) _ (c .before .within .ensures) (c .if3 .left)
 
 extension-refusal-requires : tie.Need-extension-refusal-requires
 extension-refusal-requires c κs = search needs
@@ -41,7 +42,9 @@ returns-4 : tie.Need-returns-4
 returns-4 c =
     let s = c .before .before .before .before .before .before .before .before .before in
     let g : NegoContent = record { random = []; test = s .args .test; extensions = s .args .extensions; values = s .args .values .now } in
-    reply-extensions _ _ g _ _ (c .before .before .before .before .before .before .before .stage-refusal .ensures) (c .before .before .before .before .before .before .if1 .left) (c .before .before .before .before .before .if2 .taken) _ (c .before .before .before .within .ensures) (c .before .before .if3 .taken) _ (c .before .extension-refusal .ensures) (c .if4 .taken)
+    reply-extensions _ _ g _ _ (c .before .before .before .before .before .before .before .stage-refusal .ensures)
+    (c .before .before .before .before .before .before .if1 .left) (c .before .before .before .before .before .if2 .taken) _
+    (c .before .before .before .within .ensures) (c .before .before .if3 .taken) _ (c .before .extension-refusal .ensures) (c .if4 .taken)
 
 choose-own-requires : tie.Need-choose-own-requires
 choose-own-requires c κs = search needs
@@ -50,7 +53,14 @@ returns-5 : tie.Need-returns-5
 returns-5 c =
     let s = c .before .before .before .before .before .before .before .before .before .before .before .before in
     let g : NegoContent = record { random = []; test = s .args .test; extensions = s .args .extensions; values = s .args .values .now } in
-    reply-none _ _ g _ _ (c .before .before .before .before .before .before .before .before .before .before .stage-refusal .ensures) (c .before .before .before .before .before .before .before .before .before .if1 .left) (c .before .before .before .before .before .before .before .before .if2 .taken) _ (c .before .before .before .before .before .before .within .ensures) (c .before .before .before .before .before .if3 .taken) _ (c .before .before .before .before .extension-refusal .ensures) (c .before .before .before .if4 .left) _ (c .before .before .choose-own .ensures) (c .if5 .taken)
+    let back5 = c .before .before .before .before .before in
+    let back6 = back5 .before in
+    let back8 = back6 .before .before in
+    let back9 = back8 .before in
+    let back10 = back9 .before in
+    reply-none _ _ g _ _ (back10 .stage-refusal .ensures) (back9 .if1 .left) (back8 .if2 .taken) _ (back6 .within .ensures) (back5 .if3 .taken) _
+    (c .before .before .before .before .extension-refusal .ensures) (c .before .before .before .if4 .left) _
+    (c .before .before .choose-own .ensures) (c .if5 .taken)
 
 size-of-requires : tie.Need-size-of-requires
 size-of-requires c κs = search needs
@@ -71,13 +81,33 @@ returns-6 : tie.Need-returns-6
 returns-6 c =
     let s = c .before .before .before .before .before .before .before .before .before .before .before .before .before .before .before .before in
     let g : NegoContent = record { random = []; test = s .args .test; extensions = s .args .extensions; values = s .args .values .now } in
-    reply-crowded _ _ g _ _ (c .before .before .before .before .before .before .before .before .before .before .before .before .before .before .stage-refusal .ensures) (c .before .before .before .before .before .before .before .before .before .before .before .before .before .if1 .left) (c .before .before .before .before .before .before .before .before .before .before .before .before .if2 .taken) _ (c .before .before .before .before .before .before .before .before .before .before .within .ensures) (c .before .before .before .before .before .before .before .before .before .if3 .taken) _ (c .before .before .before .before .before .before .before .before .extension-refusal .ensures) (c .before .before .before .before .before .before .before .if4 .left) _ (c .before .before .before .before .before .before .choose-own .ensures) (c .before .before .before .before .if5 .left) _ (c .before .before .before .size-of .ensures) _ (c .before .has-room .ensures) (c .if6 .left)
+    let back6 = c .before .before .before .before .before .before in
+    let back7 = back6 .before in
+    let back8 = back7 .before in
+    let back9 = back8 .before in
+    let back10 = back9 .before in
+    let back12 = back10 .before .before in
+    let back13 = back12 .before in
+    let back14 = back13 .before in
+    reply-crowded _ _ g _ _ (back14 .stage-refusal .ensures) (back13 .if1 .left) (back12 .if2 .taken) _ (back10 .within .ensures)
+    (back9 .if3 .taken) _ (back8 .extension-refusal .ensures) (back7 .if4 .left) _ (back6 .choose-own .ensures)
+    (c .before .before .before .before .if5 .left) _ (c .before .before .before .size-of .ensures) _ (c .before .has-room .ensures) (c .if6 .left)
 
 returns-7 : tie.Need-returns-7
 returns-7 c =
     let s = c .before .before .before .before .before .before .before .before .before .before .before .before .before .before .before .before in
     let g : NegoContent = record { random = []; test = s .args .test; extensions = s .args .extensions; values = s .args .values .now } in
-    reply-fits _ _ g _ _ (c .before .before .before .before .before .before .before .before .before .before .before .before .before .before .stage-refusal .ensures) (c .before .before .before .before .before .before .before .before .before .before .before .before .before .if1 .left) (c .before .before .before .before .before .before .before .before .before .before .before .before .if2 .taken) _ (c .before .before .before .before .before .before .before .before .before .before .within .ensures) (c .before .before .before .before .before .before .before .before .before .if3 .taken) _ (c .before .before .before .before .before .before .before .before .extension-refusal .ensures) (c .before .before .before .before .before .before .before .if4 .left) _ (c .before .before .before .before .before .before .choose-own .ensures) (c .before .before .before .before .if5 .left) _ (c .before .before .before .size-of .ensures) _ (c .before .has-room .ensures) (c .if6 .taken)
+    let back6 = c .before .before .before .before .before .before in
+    let back7 = back6 .before in
+    let back8 = back7 .before in
+    let back9 = back8 .before in
+    let back10 = back9 .before in
+    let back12 = back10 .before .before in
+    let back13 = back12 .before in
+    let back14 = back13 .before in
+    reply-fits _ _ g _ _ (back14 .stage-refusal .ensures) (back13 .if1 .left) (back12 .if2 .taken) _ (back10 .within .ensures) (back9 .if3 .taken) _
+    (back8 .extension-refusal .ensures) (back7 .if4 .left) _ (back6 .choose-own .ensures) (c .before .before .before .before .if5 .left) _
+    (c .before .before .before .size-of .ensures) _ (c .before .has-room .ensures) (c .if6 .taken)
 
 pub reply-refusal-spec : {M : Type 1} → statement M
 reply-refusal-spec =

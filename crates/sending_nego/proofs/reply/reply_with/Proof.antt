@@ -49,7 +49,10 @@ returns : tie.Need-returns
 returns c =
     let s = c .before .before .before .before .before .before .before .before .before .before .before .before .before .before .before in
     let small : s .args .marks < 65536 = search needs in
-    reply-named _ _ _ _ _ _ (s .pre) (sized _ _ (s .good .0)) small _ (c .before .before .before .before .before .before .before .before .before .before .gather .ensures) _ (c .before .before .choose-own .ensures) _ _ (c .before .before .before .before .before .append-nego .ensures) _ (c .before .id-of .ensures) _ (c .naming .ensures)
+    let back5 = c .before .before .before .before .before in
+    let back10 = back5 .before .before .before .before .before in
+    reply-named _ _ _ _ _ _ (s .pre) (sized _ _ (s .good .0)) small _ (back10 .gather .ensures) _ (c .before .before .choose-own .ensures) _ _
+    (back5 .append-nego .ensures) _ (c .before .id-of .ensures) _ (c .naming .ensures)
 
 pub reply-with-spec : {M : Type 1} → statement M
 reply-with-spec =

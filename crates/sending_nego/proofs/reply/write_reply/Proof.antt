@@ -18,14 +18,16 @@ returns : tie.Need-returns
 returns c =
     let s = c .before .before .before .before .before in
     let full : length (s .args .random) ≡ 32 = search needs in
-    let g : NegoContent = record { random = s .args .random; test = s .args .test; extensions = s .args .extensions; values = s .args .values .now } in
+    let g : NegoContent =
+    record { random = s .args .random; test = s .args .test; extensions = s .args .extensions; values = s .args .values .now } in
     reply-refused _ (sized _ _ (s .good .0)) _ _ g full _ (c .before .before .reply-refusal .ensures) (c .before .if1 .taken) _ (c .answer .ensures)
 
 reply-with-requires : tie.Need-reply-with-requires
 reply-with-requires c κs =
     let s = c .before .before .before .before .before in
     let full : length (s .args .random) ≡ 32 = search needs in
-    let g : NegoContent = record { random = s .args .random; test = s .args .test; extensions = s .args .extensions; values = s .args .values .now } in
+    let g : NegoContent =
+    record { random = s .args .random; test = s .args .test; extensions = s .args .extensions; values = s .args .values .now } in
     reply-ready _ (sized _ _ (s .good .0)) _ _ g full _ (c .before .before .reply-refusal .ensures) (c .before .if1 .left)
 
 same-length : tie.Need-same-length
@@ -35,8 +37,10 @@ returns-2 : tie.Need-returns-2
 returns-2 c =
     let s = c .before .before .before .before .before .before .before .before in
     let full : length (s .args .random) ≡ 32 = search needs in
-    let g : NegoContent = record { random = s .args .random; test = s .args .test; extensions = s .args .extensions; values = s .args .values .now } in
-    reply-written _ (sized _ _ (s .good .0)) _ _ g full _ (c .before .before .before .before .before .reply-refusal .ensures) (c .before .before .before .before .if1 .left) _ (c .before .before .reply-with .ensures)
+    let g : NegoContent =
+    record { random = s .args .random; test = s .args .test; extensions = s .args .extensions; values = s .args .values .now } in
+    reply-written _ (sized _ _ (s .good .0)) _ _ g full _ (c .before .before .before .before .before .reply-refusal .ensures)
+    (c .before .before .before .before .if1 .left) _ (c .before .before .reply-with .ensures)
 
 pub write-reply-spec : {M : Type 1} → statement M
 write-reply-spec =
