@@ -1,5 +1,5 @@
--- Of what an end reads in a run at most one is a VERIFY for a scheme, and after the choice the record's flag says whether the one for the chosen scheme is
--- read.
+-- Of what an end reads in a run at most one is a VERIFY for a scheme, and after the choice the record's flag says whether the one for the chosen
+-- scheme is read.
 -- Assumes nothing.
 use Prim.Native.Nat.{ℕ, _+_, _^_, _≤_, _<_}
 use mathlib.Core.Path.{_≡_, refl, sym, ap, subst, _∙_}

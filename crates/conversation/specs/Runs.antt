@@ -132,10 +132,9 @@ ends w (c ∷ cs) = ends (next w (c .0) (c .1)) cs
 abbrev pub isAccepted : Answer → Bool
 isAccepted a = eqb (a .refusal) 0
 
--- "A call is lawful if none of 15, 16, 18, 19 applies."; C-22: 25 and 26, "neither lawful". By the number that is given, which asks no more than that. Demand
--- 3 asks it of choosing calls: one
--- without room is 16, and so not lawful. The two differ only where nothing is left and there is no room: the number is 17 then. No call of demand 3's
--- second run is 17, so that there they agree.
+-- "A call is lawful if none of 15, 16, 18, 19 applies."; C-22: 25 and 26, "neither lawful". By the number that is given, which asks no more than
+-- that. Demand 3 asks it of choosing calls: one without room is 16, and so not lawful. The two differ only where nothing is left and there is no
+-- room: the number is 17 then. No call of demand 3's second run is 17, so that there they agree.
 abbrev pub isLawful : Answer → Bool
 isLawful a =
     not (eqb (a .refusal) 15

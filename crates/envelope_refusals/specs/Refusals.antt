@@ -23,9 +23,8 @@ pub record Exactly {A : Type 0} (g : Got A) (F : ℕ → Type 0) : Type 0 where
   pub only-then : (n : ℕ) → g ≡ no n → F n
   pub then : (n : ℕ) → F n → g ≡ no n
 
--- "20 tag, wrapper's identifier or state not as RFC 4178 has it, a required element .. missing, or a length past its holder's end, 21 a length indefinite or
--- not
--- shortest": all of 20 comes before 21, and an indefinite length says no contents that could be wrong
+-- "20 tag, wrapper's identifier or state not as RFC 4178 has it, a required element .. missing, or a length past its holder's end, 21 a length
+-- indefinite or not shortest": all of 20 comes before 21, and an indefinite length says no contents that could be wrong
 pub data ElementFault (t : ℕ) (p : List ℕ → Bool) : List ℕ → ℕ → Type 0 where
   missing : ElementFault t p [] 20
   tag : (x : ℕ) (s : List ℕ) → (x ≡ t → ⊥) → ElementFault t p (x ∷ s) 20

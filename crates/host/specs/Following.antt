@@ -5,9 +5,8 @@
 --   textIn w             the octets that a call wrote into the buffer
 --   lineEnds v           how many line ends stand in a text
 --   ListingEnds          each line of a listing has one line end
---   shownFrom s a qs     the texts of windows asked for one after the other, the first from line a, each from the line behind the one before: as many lines on
---                        as
---                        it has line ends
+--   shownFrom s a qs     the texts of windows asked for one after the other, the first from line a, each from the line behind the one before: as many
+--                        lines on as it has line ends
 --   EachFits s a qs      while lines are left, each of them asks for a line and has room for the first
 --   reachedFrom s a qs   the line behind the last that these windows show
 --   HostWindows          such windows from line 0 to the last, joined, are the listing of an accepted token

@@ -126,9 +126,8 @@ fn finish(d: Draft, store: &[u8], sizes: &[usize]) {
     report(r, &out);
 }
 
-// Wraps a text. The store and the lent octets have room for half of it, which is all that its digits stand for; the sizes for its mechanisms, whose lines have
-// at
-// least eleven octets.
+// Wraps a text. The store and the lent octets have room for half of it, which is all that its digits stand for; the sizes for its mechanisms, whose
+// lines have at least eleven octets.
 fn wrap(text: &[u8]) {
     let mut store = [0u8; 131072];
     let mut lent = [0u8; 131072];

@@ -1,7 +1,6 @@
--- `tallying::count_file` meets its contract: a walk of its MIR, by hand. The borrow is opened, the record behind it is copied and passed to `tallied` with the
--- slice, the record that comes back is stored
--- over the old one, and the borrow is closed at it. All that the proof knows of `tallied` is that it meets its contract, and nothing here names a field of the
--- record.
+-- `tallying::count_file` meets its contract: a walk of its MIR, by hand. The borrow is opened, the record behind it is copied and passed to `tallied`
+-- with the slice, the record that comes back is stored over the old one, and the borrow is closed at it. All that the proof knows of `tallied` is
+-- that it meets its contract, and nothing here names a field of the record.
 -- Assumes nothing.
 use mathlib.Core.Path.{_≡_, refl, ap}
 use Prim.Native.Nat.{ℕ, _<_, _^_}

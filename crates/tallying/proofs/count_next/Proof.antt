@@ -1,6 +1,5 @@
--- `tallying::count_next` meets its contract: a walk of its MIR, by hand. A local that holds the record is lent to `count_file` for a lifetime that is made for
--- the call, and comes back at the last value that
--- `count_file` ensures. Nothing here names a field of the record.
+-- `tallying::count_next` meets its contract: a walk of its MIR, by hand. A local that holds the record is lent to `count_file` for a lifetime that is
+-- made for the call, and comes back at the last value that `count_file` ensures. Nothing here names a field of the record.
 -- Assumes nothing.
 use mathlib.Core.Path.{_≡_, refl, ap}
 use Prim.Native.Nat.{ℕ, _<_, _^_}
