@@ -12,8 +12,8 @@ use borrow.Author.Tests.{lt-ltb, ne-eqb}
 use Rattle.octets.specs.Octets.{sameOctets}
 use Rattle.text.specs.Text.{quoted}
 use Rattle.fields.specs.Fields.{part}
-use Rattle.script.specs.Given.{behindWord, gives, nothingGiven, givenAs, givenOf}
-use Rattle.script.specs.declared.given.GivenText.{GivenText}
+use Rattle.replay_case.specs.Given.{behindWord, gives, nothingGiven, givenAs, givenOf}
+use Rattle.replay_case.specs.declared.given.GivenText.{GivenText}
 use Rattle.replay_case.specs.declared.Place.{Place}
 use Rattle.replay_case.specs.declared.Places.{Places}
 use Rattle.replay_case.specs.Case.{textLines, countedLines, lineAt, CaseSaid, bothSides, badCase, sidesBy, hasName, caseIn, caseAs, sideAs}

@@ -1,2 +1,3 @@
+pub mod Givens
 pub mod Lines
 pub mod Cases

@@ -19,8 +19,8 @@ use lib.ListN.{length, take, getD}
 use lib.Dec.{eqb, ltb}
 use Rattle.text.specs.Text.{quoted}
 use Rattle.fields.specs.Fields.{part}
-use Rattle.script.specs.Given.{behindWord, Given, gives, nothingGiven, givenOf}
-use Rattle.script.specs.declared.given.GivenText.{GivenText}
+use Rattle.replay_case.specs.Given.{behindWord, Given, gives, nothingGiven, givenOf}
+use Rattle.replay_case.specs.declared.given.GivenText.{GivenText}
 use Rattle.replay_case.specs.declared.Place.{Place}
 use Rattle.replay_case.specs.declared.CaseText.{CaseText}
 

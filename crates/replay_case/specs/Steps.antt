@@ -13,7 +13,7 @@ use lib.ListN.{length, drop, getD}
 use lib.Dec.{eqb, ltb}
 use Rattle.text.specs.Text.{quoted}
 use Rattle.fields.specs.Fields.{part}
-use Rattle.script.specs.Given.{behindWord}
+use Rattle.replay_case.specs.Given.{behindWord}
 use Rattle.replay_case.specs.declared.Place.{Place}
 use Rattle.replay_case.specs.declared.Places.{Places}
 use Rattle.replay_case.specs.Case.{textLines, countedLines, lineAt, hasName}

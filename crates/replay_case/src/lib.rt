@@ -7,9 +7,11 @@ ghost use Rattle.replay_case.specs.Case.{caseAs, caseIn, counts as Case�
 ghost use Rattle.replay_case.specs.Steps.{NextLine, NameLine, FourLines};
 use bytes::scan::find;
 use fields::part;
-use script::given::GivenText;
-use script::given::read_behind;
-use script::given::read_given;
+use given::GivenText;
+use given::read_behind;
+use given::read_given;
+
+pub mod given;
 
 // A part of a text: from a place on, up to another.
 pub struct Place {
@@ -36,18 +38,18 @@ struct Places {
 }
 
 // Whether a place stands in front of another.
-fn precedes(a: usize, b: usize) -> bool
-    ensures { λ r. ⌜ r ≡ ltb a b ⌝ }
+fn precedes(from: usize, end: usize) -> bool
+    ensures { λ r. ⌜ r ≡ ltb from end ⌝ }
 {
-    a < b
+    from < end
 }
 
 // Whether both hold.
-fn both(a: bool, b: bool) -> bool
-    ensures { λ r. ⌜ r ≡ (a && b) ⌝ }
+fn both(first: bool, second: bool) -> bool
+    ensures { λ r. ⌜ r ≡ (first && second) ⌝ }
 {
-    if a {
-        return b;
+    if first {
+        return second;
     }
     false
 }
@@ -114,10 +116,13 @@ fn four_lines(text: &[u8]) -> Places
 {
     let initiator = name_line(text, 0, b"initiator ");
     let acceptor = name_line(text, initiator.end + 1, b"acceptor ");
-    let i = next_line(text, acceptor.end + 1);
-    let a = next_line(text, i.end + 1);
-    let fifth = next_line(text, a.end + 1);
-    let four = is_last(precedes(a.from, a.end), precedes(fifth.from, fifth.end));
+    let iline = next_line(text, acceptor.end + 1);
+    let aline = next_line(text, iline.end + 1);
+    let fifth = next_line(text, aline.end + 1);
+    let four = is_last(
+        precedes(aline.from, aline.end),
+        precedes(fifth.from, fifth.end),
+    );
     let named = both(
         precedes(initiator.from, initiator.end),
         precedes(acceptor.from, acceptor.end),
@@ -126,8 +131,8 @@ fn four_lines(text: &[u8]) -> Places
         ok: both(four, named),
         initiator,
         acceptor,
-        i,
-        a,
+        i: iline,
+        a: aline,
     }
 }
 
@@ -141,13 +146,13 @@ pub fn read_case(text: &[u8], ilist: &mut [u8], alist: &mut [u8]) -> CaseText
     let acceptor = lines.acceptor;
     let iline = lines.i;
     let aline = lines.a;
-    let i = read_given(part(text, iline.from, iline.end), b"i", ilist);
-    let a = read_given(part(text, aline.from, aline.end), b"a", alist);
+    let igiven = read_given(part(text, iline.from, iline.end), b"i", ilist);
+    let agiven = read_given(part(text, aline.from, aline.end), b"a", alist);
     CaseText {
-        ok: both(lines.ok, both(i.ok, a.ok)),
+        ok: both(lines.ok, both(igiven.ok, agiven.ok)),
         initiator,
         acceptor,
-        i,
-        a,
+        i: igiven,
+        a: agiven,
     }
 }

@@ -13,7 +13,7 @@ use Rattle.fields.specs.declared.hex.IdText.{IdText}
 use Rattle.fields.specs.Fields.{Octets, of, behindAll, front, bad, fit, idOf, idAs}
 use Rattle.fields.proofs.Decoding.{behind-twice, behind-none, fits, fits-not, fit-long}
 use Rattle.script.specs.Grammar.{first, others, both, idsOf}
-use Rattle.script.specs.Steps.{fieldsFrom}
+use Rattle.script.specs.Places.{fieldsFrom}
 use Rattle.script.proofs.Places.{past-none, field-there}
 
 -- the ids of a list: those in front stand already at the front of d

@@ -23,7 +23,8 @@ use Rattle.fields.proofs.Decoding.{fits}
 use Rattle.script.specs.declared.Command.{Command}
 use Rattle.script.specs.declared.item.ItemText.{ItemText}
 use Rattle.script.specs.Grammar.{first, others, past, Items, these, noItems, bothItems, typed, itemOf, itemsIn, filled, sizeOf, elementsOf, testIn, Line, lineAs, line, badLine, octetsThen, frontThen, itemsThen, extended}
-use Rattle.script.specs.Steps.{fieldsFrom, within, ItemRead, oneMore}
+use Rattle.script.specs.Places.{fieldsFrom}
+use Rattle.script.specs.Steps.{within, ItemRead, oneMore}
 use Rattle.script.proofs.Places.{past-none, field-there}
 use Rattle.script.proofs.Lines.{bad-line}
 

@@ -2,4 +2,3 @@ pub mod Places
 pub mod Ids
 pub mod Lines
 pub mod Items
-pub mod Givens

@@ -20,7 +20,7 @@ use Rattle.fields.specs.declared.number.Number.{Number}
 use Rattle.fields.specs.declared.number.Number.the-variants as number
 use Rattle.fields.specs.Fields.{numberOf, decodedAs, Decodes, idAs, Numeral, is, hexadecimalOf, roomOf, Octets, of, Front, front, bad, fit, octetsOf, idOf}
 use Rattle.script.specs.Grammar.{fieldsOf, first, others, only, idsOf, Form, forms, form, formOf, past, numberIn, hasId, idIn, restIn, Line, lineAs, line, badLine, numberThen, octetsThen, frontThen, itemsIn, itemsThen, extended, rested, named, numbered, called, chosen, ends, verbs, speeches, speechVerb, placeFrom, placeOf, verbOf, fieldsLine, commandOf}
-use Rattle.script.specs.Steps.{fieldsFrom}
+use Rattle.script.specs.Places.{fieldsFrom}
 use Rattle.script.proofs.Places.{past-none, from-start, field-there}
 use Rattle.fields.proofs.Decoding.{fits}
 

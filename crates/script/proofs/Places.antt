@@ -15,7 +15,8 @@ use Rattle.bytes.specs.Bytes.{indexOf, indexAfter, slice}
 use Rattle.octets.specs.Octets.{sameOctets}
 use Rattle.fields.specs.Fields.{part}
 use Rattle.script.specs.Grammar.{longer, fieldsOf, first, others, only, placeFrom, placeOf}
-use Rattle.script.specs.Steps.{endOf, fieldsFrom}
+use Rattle.script.specs.Places.{fieldsFrom}
+use Rattle.script.specs.Steps.{endOf}
 
 pub end-past : (s : List ℕ) (from : ℕ) → length s < from → length s ≡ endOf s from
 unfolding endOf

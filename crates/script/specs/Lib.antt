@@ -1,3 +1,3 @@
-pub mod Given
 pub mod Grammar
+pub mod Places
 pub mod Steps

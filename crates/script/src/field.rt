@@ -2,7 +2,8 @@
 // none.
 ghost use mathlib.Core.Path.{_≡_};
 ghost use Rattle.script.specs.Grammar.{fieldsOf, first, only, placeOf, past as Grammar·past};
-ghost use Rattle.script.specs.Steps.{fieldsFrom, FieldEnd, Behind};
+ghost use Rattle.script.specs.Places.{fieldsFrom, Behind};
+ghost use Rattle.script.specs.Steps.{FieldEnd};
 use bytes::scan::find;
 use fields::is_word;
 use fields::part;
@@ -18,7 +19,7 @@ fn field_end(s: &[u8], from: usize) -> usize
 }
 
 // The field that starts at `from`.
-pub(crate) fn field(s: &[u8], from: usize) -> &[u8]
+pub fn field(s: &[u8], from: usize) -> &[u8]
     ensures { λ r. ⌜ now r ≡ first (fieldsFrom (now (s .entry)) from) ⌝ }
 {
     let end = field_end(s, from);
@@ -37,7 +38,7 @@ pub(crate) fn last(s: &[u8], from: usize) -> &[u8]
 }
 
 // Where the next field starts: behind the line's end, where there is none.
-pub(crate) fn behind(s: &[u8], from: usize) -> usize
+pub fn behind(s: &[u8], from: usize) -> usize
     ensures { λ r. ⌜ Behind (now (s .entry)) from r ⌝ }
 {
     field_end(s, from) + 1

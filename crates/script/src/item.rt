@@ -2,7 +2,8 @@
 ghost use mathlib.Core.Path.{_≡_};
 ghost use Prim.Native.Nat.{_<_};
 ghost use Rattle.script.specs.Grammar.{sizeOf, testIn};
-ghost use Rattle.script.specs.Steps.{fieldsFrom, ItemRead, oneMore};
+ghost use Rattle.script.specs.Places.{fieldsFrom};
+ghost use Rattle.script.specs.Steps.{ItemRead, oneMore};
 use super::field::behind;
 use super::field::field;
 use elements::Elements;

@@ -2,7 +2,7 @@
 ghost use mathlib.Core.Path.{_≡_};
 ghost use Prim.Native.Nat.{_≤_};
 ghost use lib.ListN.{length, take};
-ghost use Rattle.script.specs.Steps.{fieldsFrom};
+ghost use Rattle.script.specs.Places.{fieldsFrom};
 ghost use Rattle.script.specs.Grammar.{verbs, ends, speeches, placeOf, verbOf, speechVerb, hasId, itemsIn, lineAs, line as Grammar·line, badLine, itemsThen, extended, rested, named, numbered, called, chosen, commandOf};
 use elements::Elements;
 use field::behind;
@@ -21,10 +21,9 @@ use value::id_in;
 use value::number_in;
 use value::rest_in;
 
-mod field;
-pub mod given;
+pub mod field;
 mod item;
-mod value;
+pub mod value;
 
 // What a line says: the call, its end, the MARKS of a choice, its number (ROOM, a reply's MARKS, TYPE or CODE), its id (CONVERSATION or ID), whether it is a
 // test call, its extensions or alerts, and how many octets it is given (RANDOM and the values of the extensions, the values of the alerts, OCTETS, or the
@@ -77,7 +76,7 @@ const NONE: u8 = 0;
 
 const ROOM: u8 = 1;
 
-const MARKS: u8 = 2;
+pub const MARKS: u8 = 2;
 
 const CODE: u8 = 3;
 
@@ -89,7 +88,7 @@ const EXTENSIONS: u8 = 6;
 
 const OCTETS: u8 = 7;
 
-const IDS: u8 = 8;
+pub const IDS: u8 = 8;
 
 const ALERTS: u8 = 9;
 

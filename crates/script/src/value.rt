@@ -3,7 +3,7 @@ ghost use mathlib.Core.Path.{_≡_};
 ghost use lib.ListN.{length};
 ghost use Rattle.fields.specs.Fields.{numberOf, fit, decodedAs, idAs};
 ghost use Rattle.script.specs.Grammar.{idsOf, numberIn, idIn, restIn};
-ghost use Rattle.script.specs.Steps.{fieldsFrom};
+ghost use Rattle.script.specs.Places.{fieldsFrom};
 use super::IDS;
 use super::MARKS;
 use super::NONE;
@@ -22,7 +22,7 @@ use fields::number::room;
 use put::put_octets;
 
 // A line's number, in the field that starts at `from`.
-pub(crate) fn number_in(line: &[u8], from: usize, kind: u8) -> Number
+pub fn number_in(line: &[u8], from: usize, kind: u8) -> Number
     ensures { λ r. ⌜ numberOf r ≡ numberIn kind (fieldsFrom (now (line .entry)) from) ⌝ }
 {
     if kind == NONE {
@@ -73,7 +73,7 @@ fn ids(line: &[u8], from: usize, d: &mut [u8]) -> Decoded
 }
 
 // The rest of a line that is octets alone, from the field that starts at `from`: they are put at the front of d.
-pub(crate) fn rest_in(line: &[u8], from: usize, kind: u8, d: &mut [u8]) -> Decoded
+pub fn rest_in(line: &[u8], from: usize, kind: u8, d: &mut [u8]) -> Decoded
     ensures { λ r. ⌜ decodedAs r (now (d .exit)) ≡ fit (length (now (d .entry))) (restIn kind (fieldsFrom (now (line .entry)) from)) ⌝ }
 {
     if kind == IDS {

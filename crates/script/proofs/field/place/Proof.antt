@@ -6,7 +6,7 @@ use Prim.Native.Nat.{_+_, _-_, _≤_}
 use mathlib.Core.Path.{_≡_}
 use lib.ListN.{length}
 use Rattle.script.specs.Grammar.{fieldsOf, placeFrom, placeOf}
-use Rattle.script.specs.Steps.{fieldsFrom}
+use Rattle.script.specs.Places.{fieldsFrom}
 use Rattle.script.proofs.field.place.Statement.{statement}
 use Rattle.script.proofs.field.place.Tie as tie
 

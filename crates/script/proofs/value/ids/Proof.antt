@@ -7,7 +7,7 @@ use mathlib.Core.Path.{_≡_, refl}
 use lib.ListN.{length, take}
 use Rattle.fields.specs.Fields.{behindAll}
 use Rattle.script.specs.Grammar.{idsOf}
-use Rattle.script.specs.Steps.{fieldsFrom}
+use Rattle.script.specs.Places.{fieldsFrom}
 use Rattle.script.proofs.value.ids.Statement.{statement}
 use Rattle.script.proofs.value.ids.Tie as tie
 

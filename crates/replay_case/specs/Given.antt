@@ -12,8 +12,8 @@ use mathlib.Core.List.{List, []}
 use lib.ListN.{length, take, drop}
 use Rattle.octets.specs.Octets.{sameOctets}
 use Rattle.fields.specs.Fields.{Numeral, is, nothing, Front, front, bad, fit}
 use Rattle.script.specs.Grammar.{fieldsOf, first, others, MARKS, IDS, numberIn, restIn}
-use Rattle.script.specs.declared.given.GivenText.{GivenText}
+use Rattle.replay_case.specs.declared.given.GivenText.{GivenText}
 
 -- "FILE is all that stands behind the one space"
 unfoldable pub behindWord : List ℕ → List ℕ → List ℕ

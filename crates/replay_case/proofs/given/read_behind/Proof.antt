@@ -1,8 +1,8 @@
 -- Assumes nothing.
-use Rattle.script.proofs.Givens.{behinds}
+use Rattle.replay_case.proofs.Givens.{behinds}
 use borrow.Author.Needs.{needs}
-use Rattle.script.proofs.given.read_behind.Statement.{statement}
-use Rattle.script.proofs.given.read_behind.Tie as tie
+use Rattle.replay_case.proofs.given.read_behind.Statement.{statement}
+use Rattle.replay_case.proofs.given.read_behind.Tie as tie
 
 part-requires : tie.Need-part-requires
 part-requires c κs = search needs

@@ -13,11 +13,11 @@ use Rattle.fields.specs.declared.hex.Decoded.{Decoded}
 use Rattle.fields.specs.declared.hex.Decoded.the-variants as decoded
 use Rattle.fields.specs.declared.number.Number.{Number}
 use Rattle.fields.specs.declared.number.Number.the-variants as number
-use Rattle.script.specs.declared.given.GivenText.{GivenText}
+use Rattle.replay_case.specs.declared.given.GivenText.{GivenText}
 use Rattle.script.specs.Grammar.{first, others, numberIn, restIn}
-use Rattle.script.specs.Steps.{fieldsFrom}
-use Rattle.script.specs.Given.{behindWord, givenAs, givenBy, givenOf}
+use Rattle.script.specs.Places.{fieldsFrom}
+use Rattle.replay_case.specs.Given.{behindWord, givenAs, givenBy, givenOf}
 use Rattle.script.proofs.Places.{from-start}
 
 -- what stands behind a word
 module _ (w s v : List ℕ) (v-is : v ≡ take (length w - 0) (drop 0 s)) (b : Bool) (b-is : b ≡ sameOctets v w) where

@@ -2,17 +2,17 @@
 ghost use mathlib.Core.Path.{_≡_};
 ghost use mathlib.Core.Bool.{false};
 ghost use lib.ListN.{length};
-ghost use Rattle.script.specs.Given.{behindWord, givenAs, givenOf};
-use super::IDS;
-use super::MARKS;
-use super::field::behind;
-use super::field::field;
-use super::value::number_in;
-use super::value::rest_in;
+ghost use Rattle.replay_case.specs.Given.{behindWord, givenAs, givenOf};
 use fields::hex::Decoded;
 use fields::is_word;
 use fields::number::Number;
 use fields::part;
+use script::IDS;
+use script::MARKS;
+use script::field::behind;
+use script::field::field;
+use script::value::number_in;
+use script::value::rest_in;
 
 // What a line `E MARKS ID ID ..` says: the marks, and how many octets of ids stand at the front of the lent slice; or that it is none.
 pub struct GivenText {
@@ -22,7 +22,7 @@ pub struct GivenText {
 }
 
 // What stands behind the word at the front of a line; nothing where it does not begin so.
-pub fn read_behind<'a>(line: &'a [u8], word: &[u8]) -> &'a [u8]
+pub(crate) fn read_behind<'a>(line: &'a [u8], word: &[u8]) -> &'a [u8]
     ensures { λ r. ⌜ now r ≡ behindWord (now (word .entry)) (now (line .entry)) ⌝ }
 {
     if is_word(part(line, 0, word.len()), word) {
@@ -43,19 +43,19 @@ fn none() -> GivenText
 }
 
 // The marks and the ids of a line whose first field is a word.
-pub fn read_given(line: &[u8], word: &[u8], lent: &mut [u8]) -> GivenText
+pub(crate) fn read_given(line: &[u8], word: &[u8], lent: &mut [u8]) -> GivenText
     ensures { λ r. ⌜ givenAs r (now (lent .exit)) ≡ givenOf (now (word .entry)) (now (line .entry)) (length (now (lent .entry))) ⌝ }
 {
     if is_word(field(line, 0), word) {} else {
         return none();
     }
-    let at = behind(line, 0);
-    let n = number_in(line, at, MARKS);
-    let Number::Is(marks) = n else {
+    let from = behind(line, 0);
+    let number = number_in(line, from, MARKS);
+    let Number::Is(marks) = number else {
         return none();
     };
-    let rest = rest_in(line, behind(line, at), IDS, lent);
-    let Decoded::Octets(length) = rest else {
+    let list = rest_in(line, behind(line, from), IDS, lent);
+    let Decoded::Octets(length) = list else {
         return none();
     };
     GivenText {

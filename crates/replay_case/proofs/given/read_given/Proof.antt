@@ -1,8 +1,8 @@
 -- Assumes nothing.
-use Rattle.script.proofs.Givens.{givens}
+use Rattle.replay_case.proofs.Givens.{givens}
 use borrow.Author.Needs.{needs}
-use Rattle.script.proofs.given.read_given.Statement.{statement}
-use Rattle.script.proofs.given.read_given.Tie as tie
+use Rattle.replay_case.proofs.given.read_given.Statement.{statement}
+use Rattle.replay_case.proofs.given.read_given.Tie as tie
 
 field-requires : tie.Need-field-requires
 field-requires c κs = search needs
@@ -22,8 +22,8 @@ behind-requires c κs = search needs
 number-in-requires : tie.Need-number-in-requires
 number-in-requires c κs = search needs
 
-enum-known-n : tie.Need-enum-known-n
-enum-known-n c = search needs
+enum-known-number : tie.Need-enum-known-number
+enum-known-number c = search needs
 
 enum-told : tie.Need-enum-told
 enum-told c = search needs
@@ -40,8 +40,8 @@ behind-requires-2 c κs = search needs
 rest-in-requires : tie.Need-rest-in-requires
 rest-in-requires c κs = search needs
 
-enum-known-rest : tie.Need-enum-known-rest
-enum-known-rest c = search needs
+enum-known-list : tie.Need-enum-known-list
+enum-known-list c = search needs
 
 enum-told-2 : tie.Need-enum-told-2
 enum-told-2 c = search needs
@@ -71,13 +71,13 @@ read-given-spec =
     returns
     behind-requires
     number-in-requires
-    enum-known-n
+    enum-known-number
     enum-told
     none-requires-2
     returns-2
     behind-requires-2
     rest-in-requires
-    enum-known-rest
+    enum-known-list
     enum-told-2
     none-requires-3
     same-length
