@@ -6,12 +6,13 @@ use mathlib.Core.Bool.{Bool, true, false, cond, not, _&&_}
 use mathlib.Core.Logic.{_⊎_, inl, inr}
 use mathlib.Core.List.{List, [], _∷_, _++_}
 use lib.Dec.{eqb}
-use borrow.Author.Tests.{eq-eqb}
+use borrow.Author.Tests.{eq-eqb, ne-eqb}
 use Rattle.octets.proofs.Bools.{no-true, and-l, and-r}
 use Rattle.message.specs.Check.{Row, FirstFails}
 use Rattle.message.proofs.Tables.{AllTrue, without, fails-other}
 use Rattle.conversation.specs.declared.Record.{Record}
 use Rattle.conversation.specs.Outcomes.{Outcome, refused, decide, row}
+use Rattle.conversation.specs.Runs.{isAccepted}
 
 -- what holds of every refusal and of the action holds of the outcome
 pub decide-out : (P : Outcome → Type 0) (rows : List Row) (r : Record) (d : List ℕ) (action : Outcome)
@@ -22,6 +23,19 @@ decide-out P (x ∷ xs) r d action f h = go (x .test) refl (decide-out P xs r d 
       → P (cond (x .test) (decide xs r d action) (refused r d (x .number) 0))
   go true t ih = rw t (ih (λ n g. f n (inr (t, g))) (λ g. h (t, g)))
   go false t ih = rw t (f (x .number) (inl (t, refl)))
+
+-- what holds of the action, accepted behind tests that all hold, holds of an accepted outcome
+pub accepted-out : (P : Outcome → Type 0) (rows : List Row) (r : Record) (d : List ℕ) (action : Outcome) → without 0 rows ≡ true
+    → (AllTrue rows → isAccepted (action .answer) ≡ true → P action)
+    → isAccepted (decide rows r d action .answer) ≡ true → P (decide rows r d action)
+accepted-out P rows r d action z =
+    decide-out (λ out. isAccepted (out .answer) ≡ true → P out) rows r d action
+    (λ n f a. no-true (sym (ne-eqb n 0 (fails-other 0 rows n z f)) ∙ a))
+
+-- the tests of an accepted call hold
+pub passed-by : (rows : List Row) (r : Record) (d : List ℕ) (action : Outcome) → without 0 rows ≡ true
+    → isAccepted (decide rows r d action .answer) ≡ true → AllTrue rows
+passed-by rows r d action z = accepted-out (λ out. AllTrue rows) rows r d action z (λ g a. g)
 
 -- a number that one row has is given where that row's test is the first that fails
 pub fails-one : (k : ℕ) (xs : List Row) (b : Bool) (ys : List Row) (n : ℕ) → without k xs ≡ true → without k ys ≡ true

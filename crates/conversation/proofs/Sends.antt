@@ -10,12 +10,12 @@ use native.Mathlib.Omega.{arith}
 use lib.ListN.{length, take, drop, length-drop}
 use lib.Seq.{length-take-le}
 use lib.Dec.{eqb, leb}
-use borrow.Author.Tests.{leb-true, le-leb, eq-eqb, ne-eqb, not-true}
-use Rattle.octets.proofs.Bools.{no-true, and-i, and-l}
+use borrow.Author.Tests.{leb-true, le-leb, eq-eqb, not-true}
+use Rattle.octets.proofs.Bools.{and-i, and-l}
 use Rattle.message.specs.Layout.{nego as nego-shape, shapeOf, contentOf}
 use Rattle.message.specs.Check.{Row, criticalOk}
 use Rattle.message.specs.Show.{idsAt}
-use Rattle.message.proofs.Tables.{AllTrue, without, fails-other}
+use Rattle.message.proofs.Tables.{AllTrue, without}
 use Rattle.message.proofs.Ids.{length-ids}
 use Rattle.put.specs.Put.{put}
 use Rattle.elements.specs.Elements.{itemsFit, itemsOf, ordinary}
@@ -36,7 +36,7 @@ use Rattle.conversation.specs.Writing.{negoIn, extensionRows, heading, m
 use Rattle.conversation.specs.Choosing.{openTo, chose, choosing}
 use Rattle.conversation.specs.Runs.{NegoCall, Call, offer, reply, metadata, speak, read, choose, End, act, isAccepted}
 use Rattle.conversation.specs.Claims.{Arrays, sentBy, ReadsAsSent, WrittenReads}
-use Rattle.conversation.proofs.Rows.{decide-out, true-behind, front-true, back-true}
+use Rattle.conversation.proofs.Rows.{accepted-out, true-behind, front-true, back-true}
 use Rattle.conversation.proofs.Chosen.{choiceTable, choice-passed}
 use Rattle.conversation.proofs.Ends.{length-joined, left-sized, sized-at}
 use Rattle.conversation.proofs.Inside.{now-below, limits-counts, limits-chose, chosen-allowed}
@@ -139,8 +139,7 @@ module _ (r : Record) (d : List ℕ) (arrays : Arrays r) where
   sends kind rows c action z of-acceptor of-initiator range given used transcript =
       let m : List ℕ = messageOf r kind c in
       let table : List Row = stageRows r kind ++ thenFits rows r d m in
-      decide-out (λ out. isAccepted (out .answer) ≡ true → ReadsAsSent r d (record { heading = heading r kind; contents = c }) out) table r d action
-      (λ n f a. no-true (sym (ne-eqb n 0 (fails-other 0 table n z f)) ∙ a))
+      accepted-out (ReadsAsSent r d (record { heading = heading r kind; contents = c })) table r d action z
       (λ g a.
       let limits : AllTrue (limitRows r) = front-true (limitRows r) (row 18 (mayWrite r kind) ∷ thenFits rows r d m) g in
       let v = given limits (front-true rows (fits r d (length m) ∷ []) (back-true (stageRows r kind) (thenFits rows r d m) g)) in
@@ -224,10 +223,7 @@ module _ (e : End) (peer : List ℕ) (arrays : Arrays (e .record-of)) where
       let table : List Row = choiceTable r d n s in
       let action : Outcome = naming (named (ownOf r) (openTo r n)) (appended q d (placeAfter q (classIn s)) (spoken q s) (spokenAs q s)) in
       let there : Arrays q = record { list = arrays .list; conversation = arrays .conversation } in
-      decide-out
-      (λ out. isAccepted (out .answer) ≡ true → ReadsAsSent r d (record { heading = heading r (classIn s); contents = contentsIn id s }) out)
-      table r d action
-      (λ k f a. no-true (sym (ne-eqb k 0 (fails-other 0 table k refl f)) ∙ a))
+      accepted-out (ReadsAsSent r d (record { heading = heading r (classIn s); contents = contentsIn id s })) table r d action refl
       (λ g a.
       let p = choice-passed r d n s g in
       let role : r .acceptor ≡ false = not-true _ (and-l (not (r .acceptor)) (eqb (r .stage) 2) (p .may)) in

@@ -10,26 +10,25 @@ use native.Mathlib.Omega.{arith}
 use lib.ListN.{length, length-append}
 use lib.Dec.{eqb}
 use lib.IntN.{ℤ}
-use borrow.Author.Tests.{eqb-true, eqb-false, ne-eqb, not-true}
+use borrow.Author.Tests.{eqb-true, eqb-false, not-true}
 use Rattle.octets.specs.Octets.{sameOctets}
 use Rattle.octets.proofs.Bools.{which, no-true, and-l}
 use Rattle.message.specs.Layout.{headOf}
 use Rattle.message.specs.Check.{Row}
-use Rattle.message.proofs.Tables.{AllTrue, without, fails-other}
 use Rattle.encode.specs.Encode.{Contents, ofVerify, sizeOf, headFields, bodyFields, encoded}
 use Rattle.roundtrip.proofs.Fields.{number-at, octets-at}
 use Rattle.schemes.specs.Lists.{Id, keep}
 use Rattle.conversation.specs.declared.Record.{Record}
 use Rattle.conversation.specs.State.{LATER, schemeAt}
 use Rattle.conversation.specs.Turns.{NEGO, METADATA, VERIFY, typeOf}
-use Rattle.conversation.specs.Outcomes.{Outcome, decide, row, fits}
+use Rattle.conversation.specs.Outcomes.{row, fits}
 use Rattle.conversation.specs.Writing.{heading, messageOf, stageRows, thenFits, schemeNow, schemeAllowed, namedRows, Speech, request, checksum, alarm, classIn, speechFits, spoken, speaking}
 use Rattle.conversation.specs.Admitting.{schemeIn}
 use Rattle.conversation.specs.Choosing.{chose, choosing}
 use Rattle.conversation.specs.Runs.{Call, offer, reply, metadata, speak, read, choose, End, act, Opening, World, world, next, ends, isAccepted}
 use Rattle.conversation.specs.Logs.{Logs, nextLogs}
 use Rattle.conversation.specs.Claims.{addedBy, addedAt, writtenIn, isReading, isVerify, verifyFor, VerifyOnce, recordAt, chosenIn, FlagSays}
-use Rattle.conversation.proofs.Rows.{decide-out, true-behind}
+use Rattle.conversation.proofs.Rows.{passed-by, true-behind}
 use Rattle.conversation.proofs.Chosen.{choiceTable, choice-passed}
 use Rattle.conversation.proofs.Inside.{now-below, now-chosen, chosen-below}
 use Rattle.conversation.proofs.Logs.{type-known, Sound, Both, both-next, both-opened}
@@ -100,18 +99,11 @@ module _ (id : Id) (e : End) (peer : List ℕ) (log : List (List ℕ)) (ok : Sou
   abbrev d : List ℕ
   d = e .transcript
 
-  -- the tests of an accepted call hold
-  passed-by : (rows : List Row) (action : Outcome) → without 0 rows ≡ true → isAccepted (decide rows r d action .answer) ≡ true → AllTrue rows
-  passed-by rows action z =
-      decide-out (λ out. isAccepted (out .answer) ≡ true → AllTrue rows) rows r d action
-      (λ n f a. no-true (sym (ne-eqb n 0 (fails-other 0 rows n z f)) ∙ a))
-      (λ g a. g)
-
   speak-whole : (s : Speech) → isAccepted (speaking r d s .answer) ≡ true → length (schemeAt r (schemeNow r)) ≡ 16
   unfolding speaking
   speak-whole s a =
       let rest : List Row = thenFits (namedRows r (speechFits s)) r d (spoken r s) in
-      let g = passed-by (stageRows r (classIn s) ++ rest) _ refl a in
+      let g = passed-by (stageRows r (classIn s) ++ rest) r d _ refl a in
       ok .ids (schemeNow r)
       (now-below r
       (true-behind (stageRows r (classIn s) ++ (row 25 (speechFits s) ∷ [])) (row 15 (schemeAllowed r)) (fits r d (length (spoken r s)) ∷ []) g))
@@ -119,7 +111,7 @@ module _ (id : Id) (e : End) (peer : List ℕ) (log : List (List ℕ)) (ok : Sou
   choose-whole : (m : ℕ) (s : Speech) → isAccepted (choosing r d m s .answer) ≡ true → length (schemeAt (chose r m) (schemeNow (chose r m))) ≡ 16
   unfolding choosing
   choose-whole m s a =
-      let p = choice-passed r d m s (passed-by (choiceTable r d m s) _ refl a) in
+      let p = choice-passed r d m s (passed-by (choiceTable r d m s) r d _ refl a) in
       let role : r .acceptor ≡ false = not-true _ (and-l (not (r .acceptor)) (eqb (r .stage) 2) (p .may)) in
       let (l1, (l2, (l3, (l4, (l5, (l6, (l7, rest))))))) = ok .limits in
       ap (λ (k : ℕ). length (schemeAt r k)) (now-chosen r m) ∙ ok .ids _ (chosen-below r m (rw role at l7) (p .left))

@@ -8,12 +8,12 @@ use mathlib.Core.List.{List, [], _∷_, _++_}
 use native.Mathlib.Omega.{arith}
 use lib.ListN.{length, take}
 use lib.Dec.{eqb, leb}
-use borrow.Author.Tests.{eqb-true, eq-eqb, ne-eqb, leb-true, lt-ltb, not-true}
+use borrow.Author.Tests.{eqb-true, eq-eqb, leb-true, lt-ltb, not-true}
 use Rattle.octets.proofs.Bools.{which, no-true, and-l, and-r}
 use Rattle.octets.proofs.Same.{same-refl}
 use Rattle.message.specs.Layout.{headOf}
 use Rattle.message.specs.Check.{Row}
-use Rattle.message.proofs.Tables.{AllTrue, without, fails-other}
+use Rattle.message.proofs.Tables.{AllTrue}
 use Rattle.encode.specs.Encode.{Whole, Contents, ofExchange}
 use Rattle.schemes.specs.Lists.{Id, place, joinIds}
 use Rattle.schemes.specs.Sets.{left, named, below}
@@ -28,7 +28,7 @@ use Rattle.conversation.specs.Choosing.{openTo, chose, mayChoose, choosing}
 use Rattle.conversation.specs.Runs.{NegoCall, Sized, Call, offer, reply, metadata, speak, read, choose, End, act, turnAfter, isAccepted}
 use Rattle.conversation.specs.Logs.{added}
 use Rattle.conversation.proofs.Decides.{decide-passed}
-use Rattle.conversation.proofs.Rows.{back-true, decide-out, true-behind}
+use Rattle.conversation.proofs.Rows.{back-true, passed-by, true-behind}
 use Rattle.conversation.proofs.Chosen.{choiceTable, choice-passed}
 use Rattle.conversation.proofs.Tokens.{Heads}
 use Rattle.conversation.proofs.Goals.{positive, no-after, nego-start}
@@ -204,13 +204,6 @@ module _ (e : End) (peer : List ℕ) (log : List (List ℕ)) (ok : Sound (e .rec
     begins : r .position ≡ 0 → (base ≡ begun marks r) × ((rest : List ℕ) → owed marks r (x ++ rest) ≡ true)
     goes-on : 1 ≤ r .position → (writes r ≡ 3 → ⊥) → base ≡ r
 
-  -- the tests of an accepted call hold
-  passed-by : (rows : List Row) (action : Outcome) → without 0 rows ≡ true → isAccepted (decide rows r d action .answer) ≡ true → AllTrue rows
-  passed-by rows action z =
-      decide-out (λ out. isAccepted (out .answer) ≡ true → AllTrue rows) rows r d action
-      (λ n f a. no-true (sym (ne-eqb n 0 (fails-other 0 rows n z f)) ∙ a))
-      (λ g a. g)
-
   made : (k : Call) (base : Record) (kind : ℕ) (c : Contents) (w : WrittenAs)
       → classOf (base .acceptor) (typeOf (base .acceptor) kind) ≡ kind → base .acceptor ≡ r .acceptor → base .sequence ≡ r .sequence
       → base .conversation ≡ r .conversation → Whole c
@@ -262,7 +255,7 @@ module _ (e : End) (peer : List ℕ) (log : List (List ℕ)) (ok : Sound (e .rec
       let c : Contents = negoIn (nego .0) (take (16 * r .count) (r .list)) in
       let rows : List Row = stageRows r NEGO ++ thenFits (offerRows r (nego .0)) r d x in
       let action : Outcome = appended r d (placeAfter r NEGO) x (unchanged r) in
-      let g = passed-by rows action refl a in
+      let g = passed-by rows r d action refl a in
       let may : mayWrite r NEGO ≡ true = true-behind (limitRows r) (row 18 (mayWrite r NEGO)) (thenFits (offerRows r (nego .0)) r d x) g in
       let role : not (r .acceptor) ≡ true =
       true-behind (stageRows r NEGO) (row 18 (not (r .acceptor))) (extensionRows (nego .0) ++ (fits r d (length x) ∷ [])) g in
@@ -295,7 +288,7 @@ module _ (e : End) (peer : List ℕ) (log : List (List ℕ)) (ok : Sound (e .rec
       let w : WrittenAs = record { marks = marks; metadata = r .metadata; requested = r .requested; attested = r .attested } in
       let rows : List Row = stageRows r NEGO ++ thenFits (replyRows r marks (nego .0)) r d x in
       let action : Outcome = naming l (appended r d (placeAfter r NEGO) x w) in
-      let g = passed-by rows action refl a in
+      let g = passed-by rows r d action refl a in
       let may : mayWrite r NEGO ≡ true = true-behind (limitRows r) (row 18 (mayWrite r NEGO)) (thenFits (replyRows r marks (nego .0)) r d x) g in
       let role : r .acceptor ≡ true =
       true-behind (stageRows r NEGO) (row 18 (r .acceptor))
@@ -331,7 +324,7 @@ module _ (e : End) (peer : List ℕ) (log : List (List ℕ)) (ok : Sound (e .rec
       record { marks = r .marks; metadata = r .metadata + 2 ^ place (ownOf r) (id .0); requested = r .requested; attested = r .attested } in
       let rows : List Row = stageRows r METADATA ++ thenFits (metadataRows r (id .0) (length value)) r d x in
       let action : Outcome = appended r d (placeAfter r METADATA) x w in
-      let g = passed-by rows action refl a in
+      let g = passed-by rows r d action refl a in
       let may : mayWrite r METADATA ≡ true =
       true-behind (limitRows r) (row 18 (mayWrite r METADATA)) (thenFits (metadataRows r (id .0) (length value)) r d x) g in
       let allowed : metadataAllowed r (id .0) ≡ true =
@@ -362,7 +355,7 @@ module _ (e : End) (peer : List ℕ) (log : List (List ℕ)) (ok : Sound (e .rec
       let c : Contents = contentsIn id s in
       let rows : List Row = stageRows r (classIn s) ++ thenFits (namedRows r (speechFits s)) r d x in
       let action : Outcome = appended r d (placeAfter r (classIn s)) x (spokenAs r s) in
-      let g = passed-by rows action refl a in
+      let g = passed-by rows r d action refl a in
       let may : mayWrite r (classIn s) ≡ true =
       true-behind (limitRows r) (row 18 (mayWrite r (classIn s))) (thenFits (namedRows r (speechFits s)) r d x) g in
       let allowed : schemeAllowed r ≡ true =
@@ -389,7 +382,7 @@ module _ (e : End) (peer : List ℕ) (log : List (List ℕ)) (ok : Sound (e .rec
       let id : Id = schemeAt q (schemeNow q) in
       let l : List Id = named (ownOf r) (openTo r marks) in
       let action : Outcome = naming l (appended q d (placeAfter q (classIn s)) x (spokenAs q s)) in
-      let g = passed-by (choiceTable r d marks s) action refl a in
+      let g = passed-by (choiceTable r d marks s) r d action refl a in
       let p = choice-passed r d marks s g in
       let role : r .acceptor ≡ false = not-true _ (and-l (not (r .acceptor)) (eqb (r .stage) 2) (p .may)) in
       let none : writes r ≡ 3 =
@@ -419,12 +412,12 @@ module _ (e : End) (peer : List ℕ) (log : List (List ℕ)) (ok : Sound (e .rec
       let x : List ℕ = replyMessage r m (nego .0) in
       let rest : List Row =
       row 19 (below (r .count) m) ∷ (extensionRows (nego .0) ++ (row 17 (someLeft (left (ownOf r) (r .common) m)) ∷ fits r d (length x) ∷ [])) in
-      true-behind (stageRows r NEGO) (row 18 (r .acceptor)) rest (passed-by (stageRows r NEGO ++ (row 18 (r .acceptor) ∷ rest)) _ refl a)
+      true-behind (stageRows r NEGO) (row 18 (r .acceptor)) rest (passed-by (stageRows r NEGO ++ (row 18 (r .acceptor) ∷ rest)) r d _ refl a)
 
   choice-role : (m : ℕ) (s : Speech) → isAccepted (act e peer (choose m s) .answer) ≡ true → r .acceptor ≡ false
   unfolding act choosing
   choice-role m s a =
-      not-true _ (and-l (not (r .acceptor)) (eqb (r .stage) 2) (choice-passed r d m s (passed-by (choiceTable r d m s) _ refl a) .may))
+      not-true _ (and-l (not (r .acceptor)) (eqb (r .stage) 2) (choice-passed r d m s (passed-by (choiceTable r d m s) r d _ refl a) .may))
 
   pub writes-call : (k : Call) → Marked (r .acceptor) marks k → (k ≡ read → ⊥) → isAccepted (act e peer k .answer) ≡ true → Writes k
   writes-call (offer nego) m z a = writes-offer nego a

@@ -13,7 +13,7 @@ use borrow.Author.Tests.{eqb-true, ne-eqb, leb-true, le-leb}
 use Rattle.octets.proofs.Bools.{which, no-true}
 use Rattle.message.specs.Layout.{headOf, size}
 use Rattle.message.specs.Check.{Row}
-use Rattle.message.proofs.Tables.{AllTrue, fails-other}
+use Rattle.message.proofs.Tables.{AllTrue}
 use Rattle.token.specs.Token.{passes, Chain, end, refused as cutAt, message, chainOf, Reading, Accepted, tokenOf}
 use Rattle.token.specs.Walk.{messagesOf, Accepts}
 use Rattle.token.specs.Split.{Numbered, join, placedFrom}
@@ -28,7 +28,7 @@ use Rattle.conversation.specs.Admitting.{Admitted, on, stop, admit}
 use Rattle.conversation.specs.Runs.{isAccepted}
 use Rattle.conversation.specs.Logs.{messagesIn}
 use Rattle.conversation.proofs.Decides.{decide-passed}
-use Rattle.conversation.proofs.Rows.{decide-out}
+use Rattle.conversation.proofs.Rows.{decide-out, accepted-out}
 use Rattle.conversation.proofs.Tokens.{judged-number}
 use Rattle.conversation.proofs.Messages.{FramedFrom, Ends, token-taken}
 use Rattle.sides.specs.Turning.{afterFirst, heardTurn}
@@ -48,8 +48,7 @@ pub heard-by : (r : Record) (d t : List ℕ) → isAccepted (readingToken r d t 
 unfolding readingToken
 heard-by r d t =
     let rows : List Row = limitRows r ++ tokenRows r (length t) in
-    decide-out (λ out. isAccepted (out .answer) ≡ true → Heard r t (out .answer .next)) rows r d (finish r d t (judged r t))
-    (λ n f a. no-true (sym (ne-eqb n 0 (fails-other 0 rows n refl f)) ∙ a))
+    accepted-out (λ out. Heard r t (out .answer .next)) rows r d (finish r d t (judged r t)) refl
     (λ g. token g (judged r t) refl) where
       token : AllTrue (limitRows r ++ tokenRows r (length t)) → (j : Judged) → judged r t ≡ j → isAccepted (finish r d t j .answer) ≡ true
           → Heard r t (finish r d t j .answer .next)
@@ -78,9 +77,7 @@ unfolding heardTurn readingToken
 heard-turn true r d t = λ a. (refl, heard-by r d t a)
 heard-turn false r d t =
     let rows : List Row = limitRows r ++ tokenRows r (length t) in
-    decide-out (λ out. isAccepted (out .answer) ≡ true → (false ≡ true) × Heard r t (out .answer .next)) rows r d
-    (finish r d t (afterFirst false (judged r t)))
-    (λ n f a. no-true (sym (ne-eqb n 0 (fails-other 0 rows n refl f)) ∙ a))
+    accepted-out (λ out. (false ≡ true) × Heard r t (out .answer .next)) rows r d (finish r d t (afterFirst false (judged r t))) refl
     (λ g. token (judged r t) refl) where
       token : (j : Judged) → judged r t ≡ j → isAccepted (finish r d t (afterFirst false j) .answer) ≡ true
           → (false ≡ true) × Heard r t (finish r d t (afterFirst false j) .answer .next)
