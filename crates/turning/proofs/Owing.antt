@@ -5,6 +5,7 @@ use mathlib.Core.Path.{_≡_, refl, sym, ap, _∙_}
 use mathlib.Core.Bool.{Bool, true, false, _&&_}
 use mathlib.Core.Logic.{_⊎_, inl, inr}
 use mathlib.Core.List.{List, [], _∷_, _++_}
+use native.Mathlib.Numerals.{add-one}
 use native.Mathlib.Omega.{arith}
 use lib.ListN.{length, take, drop, getD, length-take, length-drop, drop-of-length-le}
 use lib.Seq.{take-add, length-take-le, take-all}
@@ -37,37 +38,26 @@ use Rattle.sides.specs.Turning.{sameList, withMarks, owed}
 
 -- 1. octets, one by one
 
-same-front : (x y : ℕ) (xs ys : List ℕ) → x ≡ y → sameOctets (x ∷ xs) (y ∷ ys) ≡ sameOctets xs ys
-unfolding sameOctets
-same-front x y xs ys e = rw (eq-eqb _ _ e)
-
 id-same : (a b : List ℕ) → length a ≡ 16 → sameId a b ≡ sameOctets a b
 unfolding sameId
 id-same a b e = rw (eq-eqb _ _ e)
 
-module _ (a b : List ℕ) where
-  pub all-sizes : (length a ≡ length b → ⊥) → false ≡ sameOctets a b
-  all-sizes h = same-sizes a b h
+module _ (a b : List ℕ) (i : ℕ) (even : length a ≡ length b) (inv : sameOctets a b ≡ sameOctets (drop i a) (drop i b)) where
+  pub all-end : length a ≤ i → true ≡ sameOctets a b
+  unfolding sameOctets
+  all-end h =
+      let w : length b ≤ i = omega arith in
+      sym (inv ∙ rw (drop-of-length-le a h, drop-of-length-le b w))
 
-  pub all-start : sameOctets a b ≡ sameOctets (drop 0 a) (drop 0 b)
-  all-start = refl
+  pub all-differ : i < length a → (getD a i 0 ≡ getD b i 0 → ⊥) → false ≡ sameOctets a b
+  unfolding sameOctets
+  all-differ h n = sym (inv ∙ same-step a b i h (omega arith) ∙ rw (ne-eqb _ _ n))
 
-  module _ (i : ℕ) (even : length a ≡ length b) (inv : sameOctets a b ≡ sameOctets (drop i a) (drop i b)) where
-    pub all-end : length a ≤ i → true ≡ sameOctets a b
-    all-end h =
-        sym (inv ∙ ap (λ (l : List ℕ). sameOctets l (drop i b)) (drop-of-length-le a {i = i} h)
-        ∙ ap (sameOctets []) (drop-of-length-le b {i = i} (omega arith)) ∙ (unfold sameOctets in refl))
+  pub all-on : i < length a → getD a i 0 ≡ getD b i 0 → sameOctets a b ≡ sameOctets (drop (i + 1) a) (drop (i + 1) b)
+  unfolding sameOctets
+  all-on h n = inv ∙ same-step a b i h (omega arith) ∙ simp (eq-eqb _ _ n, add-one)
 
-    pub all-differ : i < length a → (getD a i 0 ≡ getD b i 0 → ⊥) → false ≡ sameOctets a b
-    all-differ h n = sym (inv ∙ same-step a b i h (omega arith) ∙ (unfold sameOctets in rw (ne-eqb _ _ n)))
-
-    pub all-on : i < length a → getD a i 0 ≡ getD b i 0 → sameOctets a b ≡ sameOctets (drop (i + 1) a) (drop (i + 1) b)
-    all-on h n =
-        let k : suc i ≡ i + 1 = omega arith in
-        inv ∙ same-step a b i h (omega arith) ∙ same-front (getD a i 0) (getD b i 0) (drop (suc i) a) (drop (suc i) b) n
-        ∙ ap (λ (j : ℕ). sameOctets (drop j a) (drop j b)) k
-
-pub ruleset alls = (all-sizes, all-start, all-end, all-differ, all-on)
+pub ruleset alls = (same-sizes, all-end, all-differ, all-on)
 
 -- 2. the schemes that a NEGO lists, as octets
 
@@ -135,9 +125,6 @@ module _ (w : Record) (few : w .count ≤ 16) (list : length (w .list) ≡ 256) 
   pub reply-end : 16 * s .count ≤ length (s .octets)
   reply-end = omega (arith, length-take (16 * s .count) (s .octets), ap length octets-are, joined-length)
 
-  pub reply-part : 16 * s .count ≡ length (take (16 * s .count) (s .octets))
-  reply-part = sym (length-take-le (16 * s .count) (s .octets) reply-end)
-
   pub reply-is : (s .count ≡ 0 → ⊥) → (t l : List ℕ) → l ≡ listedIn t → (b : Bool) → b ≡ sameOctets l (take (16 * s .count) (s .octets))
       → b ≡ someLeft (replied (withMarks marks w)) && sameList (listedBy t) (replied (withMarks marks w))
   reply-is n t l l-is b b-is =
@@ -147,10 +134,7 @@ module _ (w : Record) (few : w .count ≤ 16) (list : length (w .list) ≡ 256) 
         go [] h = absurd (h refl)
         go (x ∷ k) h = refl
 
-pub front-part : (n : ℕ) (l : List ℕ) → n ≤ length l → n ≡ length (take n l)
-front-part n l h = sym (length-take-le n l h)
-
-pub ruleset lists = (lists-own-is, reply-none, reply-end, reply-part, reply-is)
+pub ruleset lists = (lists-own-is, reply-none, reply-end, reply-is)
 
 -- 4. the choice
 module _ (w : Record) (few : w .count ≤ 16) (t : List ℕ) (long : 64 ≤ length t) (z : Left) (marks : ℕ)

@@ -1,5 +1,6 @@
 -- Assumes nothing.
-use Rattle.tally.proofs.Fronts.{fronts}
+use mathlib.Core.Path.{sym}
+use lib.Seq.{length-take-le}
 use borrow.Author.Needs.{needs}
 use Rattle.tally.proofs.held_name.Statement.{statement}
 use Rattle.tally.proofs.held_name.Tie as tie
@@ -11,7 +12,7 @@ returns : tie.Need-returns
 returns c = search needs
 
 slice-aggregate-next-name : tie.Need-slice-aggregate-next-name
-slice-aggregate-next-name c = search fronts
+slice-aggregate-next-name c = sym (search (needs, length-take-le))
 
 next-name-requires-2 : tie.Need-next-name-requires-2
 next-name-requires-2 c κs = search needs

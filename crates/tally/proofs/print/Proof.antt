@@ -1,5 +1,6 @@
 -- Assumes nothing.
-use Rattle.tally.proofs.Fronts.{fronts}
+use mathlib.Core.Path.{sym}
+use lib.Seq.{length-take-le}
 use borrow.Author.Needs.{needs}
 use Rattle.tally.proofs.print.Statement.{statement}
 use Rattle.tally.proofs.print.Tie as tie
@@ -8,7 +9,7 @@ returns : tie.Need-returns
 returns c = search needs
 
 slice-aggregate-write-all : tie.Need-slice-aggregate-write-all
-slice-aggregate-write-all c = search fronts
+slice-aggregate-write-all c = sym (search (needs, length-take-le))
 
 write-all-requires : tie.Need-write-all-requires
 write-all-requires c κs = search needs

@@ -1,4 +1,6 @@
 -- Assumes nothing.
+use mathlib.Core.Path.{sym}
+use lib.Seq.{length-take-le}
 use borrow.Author.Needs.{needs}
 use Rattle.turning.proofs.Owing.{lists}
 use Rattle.turning.proofs.owed.lists_reply.Statement.{statement}
@@ -23,7 +25,7 @@ array-share-prefix-octets : tie.Need-array-share-prefix-octets
 array-share-prefix-octets c = search (needs, lists)
 
 slice-aggregate-same-all : tie.Need-slice-aggregate-same-all
-slice-aggregate-same-all c = search (needs, lists)
+slice-aggregate-same-all c = sym (search (needs, lists, length-take-le))
 
 same-all-requires : tie.Need-same-all-requires
 same-all-requires c κs = search needs
