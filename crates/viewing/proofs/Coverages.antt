@@ -69,12 +69,6 @@ put-front : (d v : List ℕ) → v ++ drop (length v) d ≡ put d 0 v
 unfolding put
 put-front d v = let z : length v ≡ 0 + length v = omega arith in ap (λ (n : ℕ). v ++ drop n d) z
 
-pub front-long : (s d : List ℕ) → length s ≤ length d → length s ≡ length (take (length s) d)
-front-long s d h = sym (length-take-le (length s) d h)
-
-pub front-same : (s d : List ℕ) → length s ≤ length d → length (take (length s) d) ≡ length s
-front-same s d h = length-take-le (length s) d h
-
 pub token-small : (s : List ℕ) → Accepts s → length s < 2 ^ 63
 token-small s a = omega (arith, accepted-short s a)
 
@@ -99,4 +93,4 @@ module _ (s : List ℕ) (a : Accepts s) (d : List ℕ) where
       ∙ sym (simp (le-leb _ _ room))
       ∙ answer-is
 
-pub ruleset coverages = (front-long, front-same, token-small, coverage-full, coverage-written)
+pub ruleset coverages = (length-take-le, token-small, coverage-full, coverage-written)

@@ -1,4 +1,5 @@
 -- Assumes nothing.
+use mathlib.Core.Path.{sym}
 use Rattle.viewing.proofs.Coverages.{coverages}
 use borrow.Author.Needs.{needs}
 use Rattle.viewing.proofs.fill_coverage.Statement.{statement}
@@ -14,7 +15,7 @@ slice-relend-prefix-mask-token : tie.Need-slice-relend-prefix-mask-token
 slice-relend-prefix-mask-token c = search needs
 
 slice-aggregate-mask-token : tie.Need-slice-aggregate-mask-token
-slice-aggregate-mask-token c = search coverages
+slice-aggregate-mask-token c = sym (search coverages)
 
 mask-token-requires : tie.Need-mask-token-requires
 mask-token-requires c κs = (search needs, search coverages)
