@@ -26,18 +26,18 @@ pub enum Stored {
     Refused(u32),
 }
 
-// Whether sizes sum to n.
-fn sums_to(sizes: &[usize], n: usize) -> bool
-    ensures { λ r. ⌜ r ≡ eqb n (sumOf (now (sizes .entry))) ⌝ }
+// Whether sizes sum to a total.
+fn sums_to(sizes: &[usize], total: usize) -> bool
+    ensures { λ r. ⌜ r ≡ eqb total (sumOf (now (sizes .entry))) ⌝ }
 {
-    let mut left = n;
+    let mut left = total;
     let mut i: usize = 0;
     while i < sizes.len() {
-        let m = sizes[i];
-        if left < m {
+        let size = sizes[i];
+        if left < size {
             return false;
         }
-        left -= m;
+        left -= size;
         i += 1;
     }
     left == 0
@@ -58,13 +58,13 @@ fn with_element(n: usize, m: usize) -> usize
 fn identifiers_size(sizes: &[usize]) -> usize
     ensures { λ r. ⌜ r ≡ capped (identifiersSize (now (sizes .entry))) ⌝ }
 {
-    let mut n: usize = 0;
+    let mut size: usize = 0;
     let mut i: usize = 0;
     while i < sizes.len() {
-        n = with_element(n, sizes[i]);
+        size = with_element(size, sizes[i]);
         i += 1;
     }
-    n
+    size
 }
 
 // How many octets the three fields behind the first have, capped.
@@ -78,10 +78,10 @@ fn tail_size(
 ) -> usize
     ensures { λ r. ⌜ r ≡ capped (tailSize named second carried token checked checksum) ⌝ }
 {
-    let y = field_size(named, second);
-    let t = field_size(carried, token);
-    let k = field_size(checked, checksum);
-    cap(y + (t + k))
+    let second_field = field_size(named, second);
+    let token_field = field_size(carried, token);
+    let checksum_field = field_size(checked, checksum);
+    cap(second_field + (token_field + checksum_field))
 }
 
 // Identifiers, each as an element; `sizes` cuts `octets` into them.
@@ -93,9 +93,9 @@ fn put_identifiers(d: &mut [u8], at: usize, sizes: &[usize], octets: &[u8]) -> u
     if sizes.len() == 0 {
         return at;
     }
-    let n = sizes[0];
-    let a = put_element(d, at, 0x06, &octets[..n]);
-    put_identifiers(d, a, &sizes[1..], &octets[n..])
+    let size = sizes[0];
+    let next = put_element(d, at, 0x06, &octets[..size]);
+    put_identifiers(d, next, &sizes[1..], &octets[size..])
 }
 
 // The list of mechanisms; `size` is that of its identifiers.
@@ -105,9 +105,9 @@ fn put_list(d: &mut [u8], at: usize, sizes: &[usize], octets: &[u8], size: usize
         (fieldOctets 0xA0 0x30 (some (identifiers (splitBy (now (sizes .entry)) (now (octets .entry)))))) (now (d .exit)) r ⌝ }
 {
     let inner = element_size(size);
-    let a = put_head(d, at, 0xA0, inner);
-    let b = put_head(d, a, 0x30, size);
-    put_identifiers(d, b, sizes, octets)
+    let sequence_at = put_head(d, at, 0xA0, inner);
+    let identifiers_at = put_head(d, sequence_at, 0x30, size);
+    put_identifiers(d, identifiers_at, sizes, octets)
 }
 
 // The three fields behind the first; the second has an element with the tag `inner` in it.
@@ -128,9 +128,9 @@ fn put_tail(
         (tailOctets inner (given named (now (second .entry))) (given carried (now (token .entry))) (given checked (now (checksum .entry))))
         (now (d .exit)) r ⌝ }
 {
-    let a = put_field(d, at, 0xA1, inner, named, second);
-    let b = put_field(d, a, 0xA2, 0x04, carried, token);
-    put_field(d, b, 0xA3, 0x04, checked, checksum)
+    let token_at = put_field(d, at, 0xA1, inner, named, second);
+    let checksum_at = put_field(d, token_at, 0xA2, 0x04, carried, token);
+    put_field(d, checksum_at, 0xA3, 0x04, checked, checksum)
 }
 
 // An Init that has room; `list` are the octets of its identifiers, `inner` those of its fields.
@@ -156,14 +156,14 @@ fn put_init(
     let spnego = [0x2B, 0x06, 0x01, 0x05, 0x05, 0x02];
     let sequence = element_size(inner);
     let wrapped = 8 + element_size(sequence);
-    let a = put_head(d, 0, 0x60, wrapped);
-    let b = put_element(d, a, 0x06, &spnego);
-    let c = put_head(d, b, 0xA0, sequence);
-    let e = put_head(d, c, 0x30, inner);
-    let f = put_list(d, e, sizes, octets, list);
+    let spnego_at = put_head(d, 0, 0x60, wrapped);
+    let init_at = put_element(d, spnego_at, 0x06, &spnego);
+    let sequence_at = put_head(d, init_at, 0xA0, sequence);
+    let list_at = put_head(d, sequence_at, 0x30, inner);
+    let tail_at = put_list(d, list_at, sizes, octets, list);
     put_tail(
         d,
-        f,
+        tail_at,
         0x03,
         flagged,
         flags,
@@ -288,9 +288,9 @@ pub fn write_init(
     ensures { λ r. ⌜ told r (now (d .exit)) ≡ storingInit (now (d .entry)) (now (sizes .entry)) (now (octets .entry)) flagged
         (now (flags .entry)) carried (now (token .entry)) checked (now (checksum .entry)) ⌝ }
 {
-    let n = mechanisms_refusal(sizes, octets.len());
-    if n != 0 {
-        return Stored::Refused(n);
+    let number = mechanisms_refusal(sizes, octets.len());
+    if number != 0 {
+        return Stored::Refused(number);
     }
     size_init(
         d,
@@ -336,12 +336,12 @@ fn put_resp(
 {
     let octet = [state];
     let sequence = element_size(inner);
-    let a = put_head(d, 0, 0xA1, sequence);
-    let b = put_head(d, a, 0x30, inner);
-    let c = put_field(d, b, 0xA0, 0x0A, stated, &octet);
+    let sequence_at = put_head(d, 0, 0xA1, sequence);
+    let state_at = put_head(d, sequence_at, 0x30, inner);
+    let tail_at = put_field(d, state_at, 0xA0, 0x0A, stated, &octet);
     put_tail(
         d,
-        c,
+        tail_at,
         0x06,
         named,
         mechanism,

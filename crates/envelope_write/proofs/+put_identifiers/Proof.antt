@@ -41,13 +41,13 @@ put-identifiers-returns : (t : ℕ) → put-identifiers-lts.Need-returns (
 ) (put-identifiers-at t) put-identifiers.Post
 put-identifiers-returns t c = ids-none _ _ _ _ (c .if1 .taken)
 
-put-identifiers-shared-slice-read-n : (t : ℕ) → put-identifiers-lts.Need-shared-slice-read-n (
+put-identifiers-shared-slice-read-size : (t : ℕ) → put-identifiers-lts.Need-shared-slice-read-size (
   put-element-reads.Asked,
   put-element-reads.Learnt,
   put-identifiers-below t,
   put-identifiers.Post,
 ) (put-identifiers-at t) put-identifiers.Post
-put-identifiers-shared-slice-read-n t c = search needs
+put-identifiers-shared-slice-read-size t c = search needs
 
 put-identifiers-slice-aggregate-put-element :
     (t : ℕ) → put-identifiers-lts.Need-slice-aggregate-put-element (
@@ -182,7 +182,7 @@ pub +put-identifiers-spec : {M : Type 1} → statement M
     (put-identifiers-at t)
     put-identifiers.Post
     (put-identifiers-returns t)
-    (put-identifiers-shared-slice-read-n t)
+    (put-identifiers-shared-slice-read-size t)
     (put-identifiers-slice-aggregate-put-element t)
     (put-identifiers-put-element-requires t)
     (put-identifiers-sub-put-identifiers t)

@@ -13,10 +13,10 @@ use Rattle.envelope_write.proofs.identifiers_size.Lts as lts
 use Rattle.envelope_write.proofs.with_element.Reads as with-element-reads
 
 abbrev Inv-loop : tie.InvT-loop
-Inv-loop sizes n₀ i₀ n i = (n ≤ 65536) × (capped (identifiersSize sizes) ≡ capped (n + identifiersSize (drop i sizes)))
+Inv-loop sizes size₀ i₀ size i = (size ≤ 65536) × (capped (identifiersSize sizes) ≡ capped (size + identifiersSize (drop i sizes)))
 
 abbrev μ-loop : tie.MeasureT-loop
-μ-loop sizes n₀ i₀ n i = length sizes - i
+μ-loop sizes size₀ i₀ size i = length sizes - i
 
 loop-holds : tie.Need-loop-holds Inv-loop μ-loop
 loop-holds c = (search needs, sizes-start _)

@@ -12,19 +12,19 @@ use Rattle.envelope_write.proofs.sums_to.Reads as reads
 use Rattle.envelope_write.proofs.sums_to.Lts as lts
 
 abbrev Inv-loop : tie.InvT-loop
-Inv-loop sizes n left₀ i₀ left i = eqb n (sumOf sizes) ≡ eqb left (sumOf (drop i sizes))
+Inv-loop sizes total left₀ i₀ left i = eqb total (sumOf sizes) ≡ eqb left (sumOf (drop i sizes))
 
 abbrev μ-loop : tie.MeasureT-loop
-μ-loop sizes n left₀ i₀ left i = length sizes - i
+μ-loop sizes total left₀ i₀ left i = length sizes - i
 
 loop-holds : tie.Need-loop-holds Inv-loop μ-loop
 loop-holds c = refl
 
-mul-m : tie.Need-mul-m Inv-loop μ-loop
-mul-m c = search needs
+mul-size : tie.Need-mul-size Inv-loop μ-loop
+mul-size c = search needs
 
-shared-slice-read-m : tie.Need-shared-slice-read-m Inv-loop μ-loop
-shared-slice-read-m c = search needs
+shared-slice-read-size : tie.Need-shared-slice-read-size Inv-loop μ-loop
+shared-slice-read-size c = search needs
 
 returns : tie.Need-returns Inv-loop μ-loop
 returns c = search (needs, sums)
@@ -48,8 +48,8 @@ sums-to-spec =
     Inv-loop
     μ-loop
     loop-holds
-    mul-m
-    shared-slice-read-m
+    mul-size
+    shared-slice-read-size
     returns
     add-i
     loop-less
