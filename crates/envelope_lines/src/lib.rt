@@ -35,13 +35,13 @@ fn octets_text(d: &mut [u8], at: usize, v: &[u8]) -> usize
 fn mechanism_line(d: &mut [u8], at: usize, k: usize, v: &[u8]) -> usize
     ensures { λ r. ⌜ text (now (d .exit)) r ≡ written (mechanismLine k (now (v .entry))) (text (now (d .entry)) at) ⌝ }
 {
-    let a = wide_field(d, at, b"mechanism ", k);
-    let b = append(d, a, b" ");
-    let c = octets_text(d, b, v);
+    let index_end = wide_field(d, at, b"mechanism ", k);
+    let octets_start = append(d, index_end, b" ");
+    let octets_end = octets_text(d, octets_start, v);
     if is_negoex(v) {
-        return append(d, c, b" negoex\n");
+        return append(d, octets_end, b" negoex\n");
     }
-    append(d, c, b"\n")
+    append(d, octets_end, b"\n")
 }
 
 // The lines of the mechanisms of a list.
@@ -71,9 +71,9 @@ fn octets_line(d: &mut [u8], at: usize, word: &[u8], v: &[u8]) -> usize
     ensures { λ r. ⌜ text (now (d .exit)) r ≡ written (now (word .entry) ∷ (octetsText (now (v .entry)) ++ (quoted "\n" ∷ [])))
         (text (now (d .entry)) at) ⌝ }
 {
-    let a = append(d, at, word);
-    let b = octets_text(d, a, v);
-    append(d, b, b"\n")
+    let word_end = append(d, at, word);
+    let octets_end = octets_text(d, word_end, v);
+    append(d, octets_end, b"\n")
 }
 
 // A field's line, where it is there.
@@ -119,8 +119,8 @@ fn state_line(d: &mut [u8], at: usize, s: &[u8], f: Field) -> usize
     match f {
         Field::Absent => at,
         Field::At(_, _) => {
-            let a = field(d, at, b"state ", first(octets(s, f)));
-            append(d, a, b"\n")
+            let state_end = field(d, at, b"state ", first(octets(s, f)));
+            append(d, state_end, b"\n")
         }
     }
 }
@@ -134,9 +134,9 @@ fn token_line(d: &mut [u8], at: usize, s: &[u8], f: Field, k: Field) -> usize
     match f {
         Field::Absent => at,
         Field::At(b, e) => {
-            let x = wide_field(d, at, b"token at=", b);
-            let y = wide_field(d, x, b" length=", e - b);
-            append(d, y, b"\n")
+            let place_end = wide_field(d, at, b"token at=", b);
+            let length_end = wide_field(d, place_end, b" length=", e - b);
+            append(d, length_end, b"\n")
         }
     }
 }
@@ -147,24 +147,24 @@ fn last_lines(d: &mut [u8], at: usize, s: &[u8], t: Field, k: Field) -> usize
     ensures { λ r. ⌜ text (now (d .exit)) r ≡ written (lastLines (now (s .entry)) (shown (now (s .entry)) t) (shown (now (s .entry)) k))
         (text (now (d .entry)) at) ⌝ }
 {
-    let a = token_line(d, at, s, t, k);
-    field_line(d, a, b"checksum ", s, k)
+    let token_end = token_line(d, at, s, t, k);
+    field_line(d, token_end, b"checksum ", s, k)
 }
 
 // The first line: what the envelope is, and its length.
 fn head_line(d: &mut [u8], word: &[u8], s: &[u8]) -> usize
     ensures { λ r. ⌜ text (now (d .exit)) r ≡ written (headLine (now (word .entry)) (now (s .entry))) (text (now (d .entry)) 0) ⌝ }
 {
-    let a = wide_field(d, 0, word, s.len());
-    append(d, a, b"\n")
+    let length_end = wide_field(d, 0, word, s.len());
+    append(d, length_end, b"\n")
 }
 
 // A refusal's line.
 pub fn refused_line(d: &mut [u8], n: u32) -> usize
     ensures { λ r. ⌜ text (now (d .exit)) r ≡ written (refusedText n) (text (now (d .entry)) 0) ⌝ }
 {
-    let a = field(d, 0, b"refused ", n);
-    append(d, a, b" at=0\n")
+    let number_end = field(d, 0, b"refused ", n);
+    append(d, number_end, b" at=0\n")
 }
 
 fn init_text(d: &mut [u8], s: &[u8], i: Init) -> usize
@@ -177,10 +177,10 @@ fn init_text(d: &mut [u8], s: &[u8], i: Init) -> usize
     let flags = i.flags;
     let token = i.token;
     let checksum = i.checksum;
-    let a = head_line(d, b"envelope init length=", s);
-    let b = mechanism_lines(d, a, s, list, end, count);
-    let c = field_line(d, b, b"flags ", s, flags);
-    last_lines(d, c, s, token, checksum)
+    let head_end = head_line(d, b"envelope init length=", s);
+    let mechanisms_end = mechanism_lines(d, head_end, s, list, end, count);
+    let flags_end = field_line(d, mechanisms_end, b"flags ", s, flags);
+    last_lines(d, flags_end, s, token, checksum)
 }
 
 fn resp_text(d: &mut [u8], s: &[u8], r: Resp) -> usize
@@ -191,10 +191,10 @@ fn resp_text(d: &mut [u8], s: &[u8], r: Resp) -> usize
     let mechanism = r.mechanism;
     let token = r.token;
     let checksum = r.checksum;
-    let a = head_line(d, b"envelope resp length=", s);
-    let b = state_line(d, a, s, state);
-    let c = named_line(d, b, s, mechanism);
-    last_lines(d, c, s, token, checksum)
+    let head_end = head_line(d, b"envelope resp length=", s);
+    let state_end = state_line(d, head_end, s, state);
+    let mechanism_end = named_line(d, state_end, s, mechanism);
+    last_lines(d, mechanism_end, s, token, checksum)
 }
 
 // The text of the envelope in a buffer, from the lent slice's front on.
@@ -239,6 +239,6 @@ pub fn begun(v: &[u8]) -> bool
 pub fn wrote_line(d: &mut [u8], v: &[u8]) -> usize
     ensures { λ r. ⌜ text (now (d .exit)) r ≡ written (wroteLine (now (v .entry))) (text (now (d .entry)) 0) ⌝ }
 {
-    let a = wide_field(d, 0, b"wrote ", v.len());
-    octets_line(d, a, b" ", v)
+    let length_end = wide_field(d, 0, b"wrote ", v.len());
+    octets_line(d, length_end, b" ", v)
 }
