@@ -46,21 +46,21 @@ fn more(n: usize, x: u8) -> usize
     requires { ⌜ n ≤ 65536 ⌝ }
     ensures { λ r. ⌜ r ≡ capped (n * 256 + x) ⌝ }
 {
-    let m = n * 256 + wide(x);
-    if m < 65536 { m } else { 65536 }
+    let value = n * 256 + wide(x);
+    if value < 65536 { value } else { 65536 }
 }
 
 // The number in octets, most significant first, capped: so the octets may be as many as there are.
 fn whole(v: &[u8]) -> usize
     ensures { λ r. ⌜ r ≡ capped (number (now (v .entry))) ⌝ }
 {
-    let mut n: usize = 0;
+    let mut value: usize = 0;
     let mut i: usize = 0;
     while i < v.len() {
-        n = more(n, v[i]);
+        value = more(value, v[i]);
         i += 1;
     }
-    n
+    value
 }
 
 // How many octets a length has that begins with x.
@@ -89,15 +89,15 @@ fn shortest(v: &[u8], n: usize) -> bool
     ensures { λ r. ⌜ r ≡ Element·shortest (now (v .entry)) n ⌝ }
 {
     if n < 128 {
-        let a = [n as u8];
-        return same(v, &a);
+        let written = [n as u8];
+        return same(v, &written);
     }
     if n < 256 {
-        let a = [0x81, n as u8];
-        return same(v, &a);
+        let written = [0x81, n as u8];
+        return same(v, &written);
     }
-    let a = [0x82, (n / 256) as u8, (n % 256) as u8];
-    same(v, &a)
+    let written = [0x82, (n / 256) as u8, (n % 256) as u8];
+    same(v, &written)
 }
 
 // An element from its length on.
@@ -108,16 +108,16 @@ fn framed_from(s: &[u8], at: usize, end: usize) -> Framed
     if at == end {
         return Framed::Refused(20);
     }
-    let k = lead(s[at]);
-    if end - at < k {
+    let width = lead(s[at]);
+    if end - at < width {
         return Framed::Refused(20);
     }
-    let b = at + k;
-    let n = size(&s[at..b]);
-    if end - b < n {
+    let contents_at = at + width;
+    let length = size(&s[at..contents_at]);
+    if end - contents_at < length {
         return Framed::Refused(20);
     }
-    Framed::At(at, b, b + n)
+    Framed::At(at, contents_at, contents_at + length)
 }
 
 // The element with a tag at the front of a holder, taken apart.

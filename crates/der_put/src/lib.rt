@@ -49,15 +49,15 @@ pub fn put_head(d: &mut [u8], at: usize, tag: u8, n: usize) -> usize
     ensures { λ r. ⌜ Written (now (d .entry)) at (headSize n) (head tag n) (now (d .exit)) r ⌝ }
 {
     if n < 128 {
-        let v = [tag, n as u8];
-        return put_octets(d, at, &v);
+        let head = [tag, n as u8];
+        return put_octets(d, at, &head);
     }
     if n < 256 {
-        let v = [tag, 0x81, n as u8];
-        return put_octets(d, at, &v);
+        let head = [tag, 0x81, n as u8];
+        return put_octets(d, at, &head);
     }
-    let v = [tag, 0x82, (n / 256) as u8, (n % 256) as u8];
-    put_octets(d, at, &v)
+    let head = [tag, 0x82, (n / 256) as u8, (n % 256) as u8];
+    put_octets(d, at, &head)
 }
 
 // An element.
@@ -65,8 +65,8 @@ pub fn put_element(d: &mut [u8], at: usize, tag: u8, v: &[u8]) -> usize
     requires { ⌜ (at + elementSize (length (now v)) ≤ length (now d)) × (length (now v) ≤ 65535) ⌝ }
     ensures { λ r. ⌜ Written (now (d .entry)) at (elementSize (length (now (v .entry)))) (element tag (now (v .entry))) (now (d .exit)) r ⌝ }
 {
-    let a = put_head(d, at, tag, v.len());
-    put_octets(d, a, v)
+    let contents_at = put_head(d, at, tag, v.len());
+    put_octets(d, contents_at, v)
 }
 
 // A field, where it is there.
@@ -76,8 +76,8 @@ pub fn put_field(d: &mut [u8], at: usize, tag: u8, inner: u8, there: bool, v: &[
         (now (d .exit)) r ⌝ }
 {
     if there {
-        let a = put_head(d, at, tag, element_size(v.len()));
-        return put_element(d, a, inner, v);
+        let element_at = put_head(d, at, tag, element_size(v.len()));
+        return put_element(d, element_at, inner, v);
     }
     at
 }

@@ -23,8 +23,8 @@ sub-if2 c = search needs
 returns-2 : tie.Need-returns-2
 returns-2 c = search (needs, framing)
 
-add-b : tie.Need-add-b
-add-b c = search needs
+add-contents-at : tie.Need-add-contents-at
+add-contents-at c = search needs
 
 sub-size : tie.Need-sub-size
 sub-size c = search needs
@@ -59,7 +59,7 @@ framed-from-spec =
     lead-requires
     sub-if2
     returns-2
-    add-b
+    add-contents-at
     sub-size
     part-size-start
     part-size-end

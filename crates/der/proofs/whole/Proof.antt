@@ -13,10 +13,10 @@ use Rattle.der.proofs.whole.Lts as lts
 use Rattle.der.proofs.more.Reads as more-reads
 
 abbrev Inv-loop : tie.InvT-loop
-Inv-loop v n₀ i₀ n i = (n ≤ 65536) × (capped (numberFrom 0 v) ≡ capped (numberFrom n (drop i v)))
+Inv-loop v value₀ i₀ value i = (value ≤ 65536) × (capped (numberFrom 0 v) ≡ capped (numberFrom value (drop i v)))
 
 abbrev μ-loop : tie.MeasureT-loop
-μ-loop v n₀ i₀ n i = length v - i
+μ-loop v value₀ i₀ value i = length v - i
 
 loop-holds : tie.Need-loop-holds Inv-loop μ-loop
 loop-holds c = (search needs, refl)
