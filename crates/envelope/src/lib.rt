@@ -141,9 +141,9 @@ fn identifiers_at(s: &[u8], at: usize, end: usize) -> Counted
     let mut next = at;
     let mut left: usize = 16;
     while next < end {
-        let r = cut_at(s, next, end, 0x06);
-        let Cut::Element(_, e) = r else {
-            return refused(r);
+        let cut = cut_at(s, next, end, 0x06);
+        let Cut::Element(_, e) = cut else {
+            return refused(cut);
         };
         if left == 0 {
             return Counted::Refused(23);
@@ -340,12 +340,12 @@ fn resp_token(s: &[u8], at: usize, end: usize) -> Read
 pub fn read_envelope(s: &[u8]) -> Read
     ensures { λ r. ⌜ Reads (now (s .entry)) (length (now (s .entry))) (envelopeOf (now (s .entry))) r ⌝ }
 {
-    let n = s.len();
-    if 65535 < n {
+    let length = s.len();
+    if 65535 < length {
         return Read::Refused(1);
     }
-    if starts_at(s, 0, n, 0x60) {
-        return wrapper(s, 0, n);
+    if starts_at(s, 0, length, 0x60) {
+        return wrapper(s, 0, length);
     }
-    resp_token(s, 0, n)
+    resp_token(s, 0, length)
 }

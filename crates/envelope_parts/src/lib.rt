@@ -41,8 +41,8 @@ fn identifier(s: &[u8], at: usize, end: usize, k: usize) -> &[u8]
     let mut next = at;
     let mut left = k;
     while next < end {
-        let r = cut_at(s, next, end, 0x06);
-        let Cut::Element(b, e) = r else {
+        let cut = cut_at(s, next, end, 0x06);
+        let Cut::Element(b, e) = cut else {
             return &s[..0];
         };
         if left == 0 {
@@ -58,11 +58,11 @@ fn identifier(s: &[u8], at: usize, end: usize, k: usize) -> &[u8]
 pub fn mechanism(s: &[u8], list: usize, end: usize, k: usize) -> &[u8]
     ensures { λ r. ⌜ now r ≡ mechanismOf k (part (now (s .entry)) list end) ⌝ }
 {
-    let v = part_of(s, list, end);
-    if 65535 < v.len() {
-        return &v[..0];
+    let identifiers = part_of(s, list, end);
+    if 65535 < identifiers.len() {
+        return &identifiers[..0];
     }
-    identifier(v, 0, v.len(), k)
+    identifier(identifiers, 0, identifiers.len(), k)
 }
 
 // Whether an identifier's contents are those of NEGOEX.

@@ -27,8 +27,8 @@ loop-holds c = (search needs, search needs, search (needs, starting))
 cut-at-requires : tie.Need-cut-at-requires Inv-loop μ-loop
 cut-at-requires c κs = search needs
 
-enum-known-r : tie.Need-enum-known-r Inv-loop μ-loop
-enum-known-r c = search needs
+enum-known-cut : tie.Need-enum-known-cut Inv-loop μ-loop
+enum-known-cut c = search needs
 
 enum-told : tie.Need-enum-told Inv-loop μ-loop
 enum-told c = search needs
@@ -63,7 +63,7 @@ identifiers-at-spec =
     returns
     loop-holds
     cut-at-requires
-    enum-known-r
+    enum-known-cut
     enum-told
     refused-requires
     returns-2

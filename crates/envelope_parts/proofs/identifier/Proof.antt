@@ -23,8 +23,8 @@ loop-holds c = (search needs, refl)
 cut-at-requires : tie.Need-cut-at-requires Inv-loop μ-loop
 cut-at-requires c κs = search needs
 
-enum-known-r : tie.Need-enum-known-r Inv-loop μ-loop
-enum-known-r c = search needs
+enum-known-cut : tie.Need-enum-known-cut Inv-loop μ-loop
+enum-known-cut c = search needs
 
 enum-told : tie.Need-enum-told Inv-loop μ-loop
 enum-told c = search needs
@@ -70,7 +70,7 @@ identifier-spec =
     μ-loop
     loop-holds
     cut-at-requires
-    enum-known-r
+    enum-known-cut
     enum-told
     slice-aggregate-result
     returns
