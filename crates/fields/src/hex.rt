@@ -46,23 +46,23 @@ fn pair_at(s: &[u8], at: usize) -> u16
 fn decode(s: &[u8], d: &mut [u8]) -> Decoded
     ensures { λ r. ⌜ Decodes (now (s .entry)) (now (d .entry)) (pairsOf (now (s .entry))) r (now (d .exit)) ⌝ }
 {
-    let n = s.len() / 2;
-    if d.len() < n {
+    let count = s.len() / 2;
+    if d.len() < count {
         return Decoded::Bad;
     }
     let mut i = 0;
-    while i < n {
-        let v = pair_at(s, 2 * i);
-        if 255 < v {
+    while i < count {
+        let value = pair_at(s, 2 * i);
+        if 255 < value {
             return Decoded::Bad;
         }
-        d[i] = v as u8;
+        d[i] = value as u8;
         i += 1;
     }
     if s.len() % 2 == 1 {
         return Decoded::Bad;
     }
-    Decoded::Octets(n)
+    Decoded::Octets(count)
 }
 
 // OCTETS, at the front of d. What d holds there is left open where they are bad; behind them it stays as it was.
@@ -102,11 +102,11 @@ fn octets_at(s: &[u8], places: &[u8]) -> IdText
     let mut octets = [0u8; 16];
     let mut i = 0;
     while i < 16 {
-        let v = pair_at(s, places[i] as usize);
-        if 255 < v {
+        let value = pair_at(s, places[i] as usize);
+        if 255 < value {
             return IdText { ok: false, octets };
         }
-        octets[i] = v as u8;
+        octets[i] = value as u8;
         i += 1;
     }
     IdText { ok: true, octets }

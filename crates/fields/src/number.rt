@@ -37,21 +37,21 @@ pub(crate) fn digit(c: u8) -> u8
 fn numeral(s: &[u8], base: u8, most: u32) -> Number
     ensures { λ r. ⌜ numberOf r ≡ Fields·numeral base most (now (s .entry)) ⌝ }
 {
-    let mut n: u64 = 0;
+    let mut number: u64 = 0;
     let mut i = 0;
     while i < s.len() {
-        let v = digit(s[i]);
-        if base <= v {
+        let value = digit(s[i]);
+        if base <= value {
             return Number::Bad;
         }
-        let next = n * base as u64 + v as u64;
+        let next = number * base as u64 + value as u64;
         if (most as u64) < next {
             return Number::Bad;
         }
-        n = next;
+        number = next;
         i += 1;
     }
-    Number::Is(n as u32)
+    Number::Is(number as u32)
 }
 
 // A number of so many hexadecimal digits.

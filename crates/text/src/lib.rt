@@ -25,8 +25,8 @@ pub fn number(d: &mut [u8], at: usize, n: u32) -> usize
     ensures { λ r. ⌜ text (now (d .exit)) r ≡ written (decimal n ∷ []) (text (now (d .entry)) at) ⌝ }
 {
     let mut digits = [0u8; 20];
-    let k = io::decimal(n as u64, &mut digits);
-    append(d, at, &digits[..k])
+    let count = io::decimal(n as u64, &mut digits);
+    append(d, at, &digits[..count])
 }
 
 // A place or a size in decimal.
@@ -34,8 +34,8 @@ pub fn wide_number(d: &mut [u8], at: usize, n: usize) -> usize
     ensures { λ r. ⌜ text (now (d .exit)) r ≡ written (decimal64 n ∷ []) (text (now (d .entry)) at) ⌝ }
 {
     let mut digits = [0u8; 20];
-    let k = io::decimal(n as u64, &mut digits);
-    append(d, at, &digits[..k])
+    let count = io::decimal(n as u64, &mut digits);
+    append(d, at, &digits[..count])
 }
 
 // The octets v, and a number behind them.
@@ -83,8 +83,8 @@ fn hex_digit(x: u8) -> u8
 pub fn hex(d: &mut [u8], at: usize, x: u8) -> usize
     ensures { λ r. ⌜ text (now (d .exit)) r ≡ written (hexOf x ∷ []) (text (now (d .entry)) at) ⌝ }
 {
-    let v = [hex_digit(x / 16), hex_digit(x % 16)];
-    append(d, at, &v)
+    let digits = [hex_digit(x / 16), hex_digit(x % 16)];
+    append(d, at, &digits)
 }
 
 // Octets as digits.

@@ -9,11 +9,11 @@ use Rattle.fields.proofs.hex.decode.Statement.{statement}
 use Rattle.fields.proofs.hex.decode.Tie as tie
 
 abbrev Inv-loop : tie.InvT-loop
-Inv-loop s d₀ n i₀ d i = (i ≤ n) × (n ≡ length s / 2) × (n ≤ length d) × (length d ≡ length d₀) × (drop n d ≡ drop n d₀)
+Inv-loop s d₀ count i₀ d i = (i ≤ count) × (count ≡ length s / 2) × (count ≤ length d) × (length d ≡ length d₀) × (drop count d ≡ drop count d₀)
     × (pairsOf s ≡ behindAll (take i d) (pairsOf (drop (2 * i) s)))
 
 abbrev μ-loop : tie.MeasureT-loop
-μ-loop s d₀ n i₀ d i = n - i
+μ-loop s d₀ count i₀ d i = count - i
 
 returns : tie.Need-returns Inv-loop μ-loop
 returns c = search pair-octets

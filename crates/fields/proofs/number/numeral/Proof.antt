@@ -11,10 +11,10 @@ use Rattle.fields.proofs.number.numeral.Statement.{statement}
 use Rattle.fields.proofs.number.numeral.Tie as tie
 
 abbrev Inv-loop : tie.InvT-loop
-Inv-loop s base most n₀ i₀ n i = (n ≤ most) × (numeralFrom base most 0 s ≡ numeralFrom base most n (drop i s))
+Inv-loop s base most number₀ i₀ number i = (number ≤ most) × (numeralFrom base most 0 s ≡ numeralFrom base most number (drop i s))
 
 abbrev μ-loop : tie.MeasureT-loop
-μ-loop s base most n₀ i₀ n i = length s - i
+μ-loop s base most number₀ i₀ number i = length s - i
 
 loop-holds : tie.Need-loop-holds Inv-loop μ-loop
 loop-holds c = (search needs, refl)
@@ -30,7 +30,7 @@ returns c = search numerals
 
 mul-next : tie.Need-mul-next Inv-loop μ-loop
 mul-next c =
-    let h : c .before .before .before .before .loop .n * c .before .before .before .before .before .before .args .base ≤ 4294967295 * 255 =
+    let h : c .before .before .before .before .loop .number * c .before .before .before .before .before .before .args .base ≤ 4294967295 * 255 =
     mul-le-mul {n₂ = 4294967295} {m₂ = 255} (omega arith) (omega arith) in
     omega (arith, h)
 
@@ -39,7 +39,7 @@ cast-next c = search needs
 
 add-next : tie.Need-add-next Inv-loop μ-loop
 add-next c =
-    let h : c .before .before .before .before .loop .n * c .before .before .before .before .before .before .args .base ≤ 4294967295 * 255 =
+    let h : c .before .before .before .before .loop .number * c .before .before .before .before .before .before .args .base ≤ 4294967295 * 255 =
     mul-le-mul {n₂ = 4294967295} {m₂ = 255} (omega arith) (omega arith) in
     omega (arith, h)
 
