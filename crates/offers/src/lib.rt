@@ -25,17 +25,17 @@ fn enter(t: Table, id: &[u8]) -> Table
     requires { ⌜ (t .count ≤ 64) × (length (now id) ≡ 16) ⌝ }
     ensures { λ r. ⌜ r ≡ enteredIn t (now (id .entry)) ⌝ }
 {
-    let n = t.count as usize;
+    let count = t.count as usize;
     let mut ids = t.ids;
-    if has_id(&ids, n, id) {
+    if has_id(&ids, count, id) {
         return t;
     }
-    if 64 <= n {
+    if 64 <= count {
         return t;
     }
     let mut counts = t.counts;
-    counts[n] = 0;
-    put_octets(&mut ids, field::ID * n, id);
+    counts[count] = 0;
+    put_octets(&mut ids, field::ID * count, id);
     Table {
         ids,
         counts,
@@ -114,11 +114,11 @@ pub fn add_offer(t: Table, list: &[u8]) -> Table
     ensures { λ r. ⌜ r ≡ offeredIn t (idsOf (now (list .entry))) ⌝ }
 {
     let entered = enter_all(t, list);
-    let n = entered.count as usize;
+    let count = entered.count as usize;
     let ids = entered.ids;
     let before = entered.counts;
-    let counts = tick(&ids, n, before, list);
-    let beyond = one_beyond(&ids, n, list);
+    let counts = tick(&ids, count, before, list);
+    let beyond = one_beyond(&ids, count, list);
     Table {
         ids,
         counts,

@@ -45,9 +45,9 @@ pub fn choose_kept(kept: [u8; 16], common: u16, marks: u16) -> Left
     if open == 0 {
         return Left { place: 0, left: 0 };
     }
-    let k = u16::trailing_zeros(open) as usize;
+    let lowest = u16::trailing_zeros(open) as usize;
     Left {
-        place: kept[k] as u32,
+        place: kept[lowest] as u32,
         left: u16::count_ones(open),
     }
 }

@@ -56,17 +56,17 @@ pub fn distinct_ids(list: &[u8], n: usize) -> bool
 pub fn list_ok(own: &[u8]) -> bool
     ensures { λ r. ⌜ r ≡ listOk (now (own .entry)) ⌝ }
 {
-    let n = own.len() / field::ID;
+    let count = own.len() / field::ID;
     if own.len() % field::ID != 0 {
         return false;
     }
-    if n < 1 {
+    if count < 1 {
         return false;
     }
-    if MOST < n {
+    if MOST < count {
         return false;
     }
-    distinct_ids(own, n)
+    distinct_ids(own, count)
 }
 
 // The id at a place of octets.

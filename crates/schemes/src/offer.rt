@@ -33,7 +33,7 @@ pub fn gather(list: [u8; 256], n: usize, set: u16) -> Schemes
     requires { ⌜ n ≤ 16 ⌝ }
     ensures { λ r. ⌜ r ≡ schemesOf (left (idsAt n list) set 0) ⌝ }
 {
-    let mut s = Schemes {
+    let mut schemes = Schemes {
         octets: [0u8; 256],
         count: 0,
     };
@@ -42,8 +42,8 @@ pub fn gather(list: [u8; 256], n: usize, set: u16) -> Schemes
         let place = k as u32;
         k += 1;
         if bit_of(set, place) {
-            s = with_id(s, id_of(list, place));
+            schemes = with_id(schemes, id_of(list, place));
         }
     }
-    s
+    schemes
 }

@@ -34,14 +34,14 @@ fn note(k: Kept, p: usize, n: usize) -> Kept
     if n <= p {
         return k;
     }
-    let b = p as u8;
+    let place = p as u8;
     let count = k.count as usize;
     let places = k.places;
-    if has_place(&places[..count], b) {
+    if has_place(&places[..count], place) {
         return k;
     }
     let mut next = k;
-    next.places[count] = b;
+    next.places[count] = place;
     next.count = k.count + 1;
     next
 }
@@ -51,20 +51,20 @@ pub fn kept_places(own: &[u8], n: usize, peer: &[u8]) -> Kept
     requires { ⌜ (n * 16 ≤ length (now own)) × (n ≤ 16) ⌝ }
     ensures { λ r. ⌜ r ≡ keptOf (keptPlaces (idsAt n (now (own .entry))) (idsOf (now (peer .entry)))) ⌝ }
 {
-    let m = peer.len() / field::ID;
-    let mut k = Kept {
+    let count = peer.len() / field::ID;
+    let mut kept = Kept {
         places: [0u8; 16],
         count: 0,
     };
     let mut j: usize = 0;
-    while j < m {
+    while j < count {
         let at = j * field::ID;
         let end = at + field::ID;
-        let p = find(own, n, &peer[at..end]);
-        k = note(k, p, n);
+        let place = find(own, n, &peer[at..end]);
+        kept = note(kept, place, n);
         j += 1;
     }
-    k
+    kept
 }
 
 // Whether a place is one of n, where the set's lowest bit asks for it.

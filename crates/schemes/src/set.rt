@@ -53,14 +53,14 @@ pub fn common_set(own: &[u8], n: usize, peer: &[u8]) -> u16
     requires { ⌜ (n * 16 ≤ length (now own)) × (n ≤ 16) ⌝ }
     ensures { λ r. ⌜ r ≡ commonSet (idsAt n (now (own .entry))) (idsOf (now (peer .entry))) ⌝ }
 {
-    let m = peer.len() / field::ID;
+    let count = peer.len() / field::ID;
     let mut set: u16 = 0;
     let mut k = n;
     while 0 < k {
         k -= 1;
         let at = k * field::ID;
         let end = at + field::ID;
-        if has_id(peer, m, &own[at..end]) {
+        if has_id(peer, count, &own[at..end]) {
             set = set * 2 + 1;
         } else {
             set = set * 2;

@@ -7,8 +7,8 @@ use Rattle.offers.proofs.add_offer.Tie as tie
 enter-all-requires : tie.Need-enter-all-requires
 enter-all-requires c κs = search needs
 
-cast-n : tie.Need-cast-n
-cast-n c = search needs
+cast-count : tie.Need-cast-count
+cast-count c = search needs
 
 slice-aggregate-tick : tie.Need-slice-aggregate-tick
 slice-aggregate-tick c = search needs
@@ -33,7 +33,7 @@ add-offer-spec =
     tie.close
     (tie.spec
     enter-all-requires
-    cast-n
+    cast-count
     slice-aggregate-tick
     tick-requires
     slice-aggregate-one-beyond

@@ -7,8 +7,8 @@ use borrow.Author.Needs.{needs}
 use Rattle.offers.proofs.enter.Statement.{statement}
 use Rattle.offers.proofs.enter.Tie as tie
 
-cast-n : tie.Need-cast-n
-cast-n c = search needs
+cast-count : tie.Need-cast-count
+cast-count c = search needs
 
 slice-aggregate-has-id : tie.Need-slice-aggregate-has-id
 slice-aggregate-has-id c = search needs
@@ -49,7 +49,7 @@ pub enter-spec : {M : Type 1} → statement M
 enter-spec =
     tie.close
     (tie.spec
-    cast-n
+    cast-count
     slice-aggregate-has-id
     has-id-requires
     returns

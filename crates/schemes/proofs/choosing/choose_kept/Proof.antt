@@ -10,8 +10,8 @@ marked-kept-requires c κs = search needs
 returns : tie.Need-returns
 returns c = search (needs, choices)
 
-cast-k : tie.Need-cast-k
-cast-k c = record { fits = search choices }
+cast-lowest : tie.Need-cast-lowest
+cast-lowest c = record { fits = search choices }
 
 array-read-t14 : tie.Need-array-read-t14
 array-read-t14 c = search (needs, choices)
@@ -24,4 +24,4 @@ returns-2 c = search (needs, choices)
 
 pub choose-kept-spec : {M : Type 1} → statement M
 choose-kept-spec =
-    tie.close (tie.spec marked-kept-requires returns cast-k array-read-t14 cast-t11 returns-2)
+    tie.close (tie.spec marked-kept-requires returns cast-lowest array-read-t14 cast-t11 returns-2)

@@ -12,10 +12,10 @@ use Rattle.schemes.proofs.offer.gather.Statement.{statement}
 use Rattle.schemes.proofs.offer.gather.Tie as tie
 
 abbrev Inv-loop : tie.InvT-loop
-Inv-loop list n set s₀ k₀ s k = (k ≤ n) × (s ≡ schemesOf (left (idsAt k list) set 0))
+Inv-loop list n set schemes₀ k₀ schemes k = (k ≤ n) × (schemes ≡ schemesOf (left (idsAt k list) set 0))
 
 abbrev μ-loop : tie.MeasureT-loop
-μ-loop list n set s₀ k₀ s k = n - k
+μ-loop list n set schemes₀ k₀ schemes k = n - k
 
 loop-holds : tie.Need-loop-holds Inv-loop μ-loop
 loop-holds c = (search needs, search gatherings)
@@ -33,7 +33,7 @@ id-of-requires : tie.Need-id-of-requires Inv-loop μ-loop
 id-of-requires c κs = search needs
 
 with-id-requires : tie.Need-with-id-requires Inv-loop μ-loop
-with-id-requires c κs = let l = c .before .before .before .before .loop in gather-room _ _ (l .k) (l .s) (l .inv .1) (omega arith)
+with-id-requires c κs = let l = c .before .before .before .before .loop in gather-room _ _ (l .k) (l .schemes) (l .inv .1) (omega arith)
 
 loop-less : tie.Need-loop-less Inv-loop μ-loop
 loop-less c = search needs
@@ -44,7 +44,8 @@ loop-again c =
     let a = c .before .before .before .before .before .before .args in
     let sized : length (a .list) ≡ 256 = search needs in (
       search needs,
-      gather-take _ _ (l .k) (l .s) (l .inv .1) _ (c .before .before .before .bit-of .ensures) (c .before .before .if1 .taken) sized (omega arith)
+      gather-take _ _ (l .k) (l .schemes) (l .inv .1) _ (c .before .before .before .bit-of .ensures) (c .before .before .if1 .taken) sized
+          (omega arith)
           _ (c .before .id-of .ensures) _ (c .with-id .ensures),
     )
 

@@ -10,10 +10,10 @@ use Rattle.schemes.proofs.reply.kept_places.Statement.{statement}
 use Rattle.schemes.proofs.reply.kept_places.Tie as tie
 
 abbrev Inv-loop : tie.InvT-loop
-Inv-loop own n peer m k₀ j₀ k j = (j ≤ m) × (k ≡ keptOf (keptPlaces (idsAt n own) (idsAt j peer)))
+Inv-loop own n peer count kept₀ j₀ kept j = (j ≤ count) × (kept ≡ keptOf (keptPlaces (idsAt n own) (idsAt j peer)))
 
 abbrev μ-loop : tie.MeasureT-loop
-μ-loop own n peer m k₀ j₀ k j = m - j
+μ-loop own n peer count kept₀ j₀ kept j = count - j
 
 loop-holds : tie.Need-loop-holds Inv-loop μ-loop
 loop-holds c = (search needs, search keepings)

@@ -7,8 +7,8 @@ use Rattle.schemes.proofs.reply.note.Tie as tie
 returns : tie.Need-returns
 returns c = search (needs, notes)
 
-cast-b : tie.Need-cast-b
-cast-b c = search needs
+cast-place : tie.Need-cast-place
+cast-place c = search needs
 
 cast-count : tie.Need-cast-count
 cast-count c = search needs
@@ -39,7 +39,7 @@ note-spec =
     tie.close
     (tie.spec
     returns
-    cast-b
+    cast-place
     cast-count
     array-share-prefix-places
     slice-aggregate-has-place

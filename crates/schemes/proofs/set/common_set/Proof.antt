@@ -10,10 +10,10 @@ use Rattle.schemes.proofs.set.common_set.Statement.{statement}
 use Rattle.schemes.proofs.set.common_set.Tie as tie
 
 abbrev Inv-loop : tie.InvT-loop
-Inv-loop own n peer m set₀ k₀ set k = (k ≤ n) × (set ≡ commonSet (rest n own k) (idsOf peer))
+Inv-loop own n peer count set₀ k₀ set k = (k ≤ n) × (set ≡ commonSet (rest n own k) (idsOf peer))
 
 abbrev μ-loop : tie.MeasureT-loop
-μ-loop own n peer m set₀ k₀ set k = k
+μ-loop own n peer count set₀ k₀ set k = k
 
 loop-holds : tie.Need-loop-holds Inv-loop μ-loop
 loop-holds c = (search needs, search commons)
