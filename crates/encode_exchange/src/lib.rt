@@ -22,10 +22,15 @@ fn put_exchange(d: &mut [u8], at: usize, heading: Heading, scheme: [u8; 16], val
     ensures { λ r. ⌜ Written (now (d .entry)) at (64 + length (now (value .entry))) (encoded heading (exchangeOf scheme (now (value .entry))))
         (now (d .exit)) r ⌝ }
 {
-    let n = value.len();
-    let scheme_at = put_head(d, at, heading, (Kind::EXCHANGE_HEADER_LEN + n) as u32);
+    let length = value.len();
+    let scheme_at = put_head(d, at, heading, (Kind::EXCHANGE_HEADER_LEN + length) as u32);
     let vector_at = put_octets(d, scheme_at, &scheme);
-    let value_at = put_octet_vector(d, vector_at, MessageOffset(Kind::EXCHANGE_HEADER), n as u32);
+    let value_at = put_octet_vector(
+        d,
+        vector_at,
+        MessageOffset(Kind::EXCHANGE_HEADER),
+        length as u32,
+    );
     put_octets(d, value_at, value)
 }
 
@@ -39,11 +44,11 @@ pub fn write(d: &mut [u8], at: usize, heading: Heading, scheme: [u8; 16], value:
     if Kind::AP_REQUEST < heading.kind.0 {
         return Stored::Nothing;
     }
-    let n = value.len();
-    if MOST < n {
+    let length = value.len();
+    if MOST < length {
         return Stored::Nothing;
     }
-    if has_room(d.len(), at, Kind::EXCHANGE_HEADER_LEN + n) {
+    if has_room(d.len(), at, Kind::EXCHANGE_HEADER_LEN + length) {
         Stored::Next(put_exchange(d, at, heading, scheme, value))
     } else {
         Stored::Nothing

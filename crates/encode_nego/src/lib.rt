@@ -63,10 +63,10 @@ fn put_nego(
     ensures { λ r. ⌜ Written (now (d .entry)) at (96 + length (now (schemes .entry)) + (12 * extensions .count + length (now (values .entry))))
         (encoded heading (negoOf random (now (schemes .entry)) (itemsOf extensions (now (values .entry))))) (now (d .exit)) r ⌝ }
 {
-    let n = schemes.len();
+    let length = schemes.len();
     let count = extensions.count;
-    let array = MessageOffset((Kind::NEGO_HEADER_LEN + n) as u32);
-    let size = (Kind::NEGO_HEADER_LEN + n + (field::ELEMENT * count + values.len())) as u32;
+    let array = MessageOffset((Kind::NEGO_HEADER_LEN + length) as u32);
+    let size = (Kind::NEGO_HEADER_LEN + length + (field::ELEMENT * count + values.len())) as u32;
     let offset = offset_of(count, array);
     let schemes_at = put_header(
         d,
@@ -74,7 +74,7 @@ fn put_nego(
         heading,
         random,
         size,
-        (n / field::ID) as u16,
+        (length / field::ID) as u16,
         offset,
         count as u16,
     );
@@ -99,18 +99,18 @@ pub fn write(
     if Kind::ACCEPTOR_NEGO < heading.kind.0 {
         return Stored::Nothing;
     }
-    let n = schemes.len();
-    if n % field::ID != 0 {
+    let length = schemes.len();
+    if length % field::ID != 0 {
         return Stored::Nothing;
     }
-    if MOST < n {
+    if MOST < length {
         return Stored::Nothing;
     }
     if fits(extensions, values) {
         if has_room(
             d.len(),
             at,
-            Kind::NEGO_HEADER_LEN + n + (field::ELEMENT * extensions.count + values.len()),
+            Kind::NEGO_HEADER_LEN + length + (field::ELEMENT * extensions.count + values.len()),
         ) {
             Stored::Next(put_nego(d, at, heading, random, schemes, extensions, values))
         } else {

@@ -32,13 +32,18 @@ fn put_verify(
     ensures { λ r. ⌜ Written (now (d .entry)) at (80 + length (now (value .entry))) (encoded heading (verifyOf scheme checksum (now (value .entry))))
         (now (d .exit)) r ⌝ }
 {
-    let n = value.len();
-    let scheme_at = put_head(d, at, heading, (Kind::VERIFY_HEADER_LEN + n) as u32);
+    let length = value.len();
+    let scheme_at = put_head(d, at, heading, (Kind::VERIFY_HEADER_LEN + length) as u32);
     let header_length_at = put_octets(d, scheme_at, &scheme);
     let checksum_scheme_at = put_u32(d, header_length_at, verify::CHECKSUM_HEADER);
     let type_at = put_u32(d, checksum_scheme_at, verify::RFC_3961);
     let vector_at = put_i32(d, type_at, checksum);
-    let pad_at = put_octet_vector(d, vector_at, MessageOffset(Kind::VERIFY_HEADER), n as u32);
+    let pad_at = put_octet_vector(
+        d,
+        vector_at,
+        MessageOffset(Kind::VERIFY_HEADER),
+        length as u32,
+    );
     let value_at = put_u32(d, pad_at, 0);
     put_octets(d, value_at, value)
 }
@@ -57,11 +62,11 @@ pub fn write(
     if heading.kind.0 != Kind::VERIFY {
         return Stored::Nothing;
     }
-    let n = value.len();
-    if MOST < n {
+    let length = value.len();
+    if MOST < length {
         return Stored::Nothing;
     }
-    if has_room(d.len(), at, Kind::VERIFY_HEADER_LEN + n) {
+    if has_room(d.len(), at, Kind::VERIFY_HEADER_LEN + length) {
         Stored::Next(put_verify(d, at, heading, scheme, checksum, value))
     } else {
         Stored::Nothing
