@@ -48,18 +48,18 @@ fn read_ordered(rest: &[u8], sequence: u64, conversation: &[u8], h: Header) -> R
 pub fn read_next(rest: &[u8], sequence: u64, conversation: &[u8]) -> Read
     ensures { λ r. ⌜ said r ≡ nextVerdict (now (rest .entry)) sequence (now (conversation .entry)) ⌝ }
 {
-    let r = read_header(rest);
-    let Read::Message(h) = r else {
-        return r;
+    let reading = read_header(rest);
+    let Read::Message(h) = reading else {
+        return reading;
     };
     read_ordered(rest, sequence, conversation, h)
 }
 
 // A message's refusal, at its place.
-fn refused_at(r: Read, place: TokenPlace) -> Answer
-    ensures { λ a. ⌜ told a ≡ refusedAt (said r) (place .0) ⌝ }
+fn refused_at(reading: Read, place: TokenPlace) -> Answer
+    ensures { λ a. ⌜ told a ≡ refusedAt (said reading) (place .0) ⌝ }
 {
-    match r {
+    match reading {
         Read::Refused(n) => Answer::Refused(n, place),
         Read::Message(_) => Answer::Refused(0, place),
     }
@@ -73,19 +73,19 @@ fn read_messages(token: &[u8], first: u64, conversation: &[u8]) -> Answer
     let mut rest = token;
     let mut place = TokenPlace(0);
     let mut sequence = first;
-    let mut n: u32 = 0;
+    let mut count: u32 = 0;
     while 0 < rest.len() {
-        let r = read_step(rest, sequence, conversation);
-        let Read::Message(h) = r else {
-            return refused_at(r, place);
+        let reading = read_step(rest, sequence, conversation);
+        let Read::Message(h) = reading else {
+            return refused_at(reading, place);
         };
         let length = h.length as usize;
         rest = &rest[length..];
         place = in_token(place, MessageOffset(h.length));
         sequence += 1;
-        n += 1;
+        count += 1;
     }
-    Answer::Messages(n)
+    Answer::Messages(count)
 }
 
 // The structural reading: checks 1 to 13, with the first message's sequence number and conversation as start.
@@ -110,8 +110,8 @@ pub fn read_token(token: &[u8]) -> Answer
 pub fn has_message(token: &[u8], k: usize) -> bool
     ensures { λ r. ⌜ r ≡ hasMessage (now (token .entry)) k ⌝ }
 {
-    let r = read_token(token);
-    let Answer::Messages(n) = r else {
+    let reading = read_token(token);
+    let Answer::Messages(n) = reading else {
         return false;
     };
     k < n as usize

@@ -64,9 +64,9 @@ pub(crate) fn read_step(rest: &[u8], sequence: u64, conversation: &[u8]) -> Read
     requires { ⌜ length (now conversation) ≡ 16 ⌝ }
     ensures { λ r. ⌜ said r ≡ nextVerdict (now (rest .entry)) sequence (now (conversation .entry)) ⌝ }
 {
-    let r = read_header(rest);
-    let Read::Message(h) = r else {
-        return r;
+    let reading = read_header(rest);
+    let Read::Message(h) = reading else {
+        return reading;
     };
     step_ordered(rest, sequence, conversation, h)
 }

@@ -7,8 +7,8 @@ use Rattle.token.proofs.has_message.Tie as tie
 read-token-requires : tie.Need-read-token-requires
 read-token-requires c κs = search needs
 
-enum-known-r : tie.Need-enum-known-r
-enum-known-r c = search needs
+enum-known-reading : tie.Need-enum-known-reading
+enum-known-reading c = search needs
 
 enum-told : tie.Need-enum-told
 enum-told c = search needs
@@ -24,4 +24,4 @@ returns-2 c = search walks
 
 pub has-message-spec : {M : Type 1} → statement M
 has-message-spec =
-    tie.close (tie.spec read-token-requires enum-known-r enum-told returns cast-result returns-2)
+    tie.close (tie.spec read-token-requires enum-known-reading enum-told returns cast-result returns-2)

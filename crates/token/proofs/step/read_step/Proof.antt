@@ -7,8 +7,8 @@ use Rattle.token.proofs.step.read_step.Tie as tie
 read-header-requires : tie.Need-read-header-requires
 read-header-requires c κs = search needs
 
-enum-known-r : tie.Need-enum-known-r
-enum-known-r c = search needs
+enum-known-reading : tie.Need-enum-known-reading
+enum-known-reading c = search needs
 
 enum-told : tie.Need-enum-told
 enum-told c = search needs
@@ -25,4 +25,4 @@ returns-2 c = search orders
 pub read-step-spec : {M : Type 1} → statement M
 read-step-spec =
     tie.close
-    (tie.spec read-header-requires enum-known-r enum-told returns step-ordered-requires returns-2)
+    (tie.spec read-header-requires enum-known-reading enum-told returns step-ordered-requires returns-2)
