@@ -135,14 +135,14 @@ fn swept(map: &[u32], start: u32) -> u32
     let mut at: usize = 0;
     let mut left = map.len();
     let mut far = start;
-    let mut n: u32 = 0;
+    let mut count: u32 = 0;
     while 0 < left {
         far = greatest(far, map[at]);
-        n += one_before(at, far);
+        count += one_before(at, far);
         at += 1;
         left -= 1;
     }
-    n
+    count
 }
 
 // Empties the map.

@@ -22,13 +22,13 @@ fn nego_line(d: &mut [u8], m: &[u8], index: usize) -> usize
     ensures { λ r. ⌜ text (now (d .exit)) r ≡ written (getD (linesIn nego (now (m .entry))) index []) (text (now (d .entry)) 0) ⌝ }
 {
     let ids = schemes(m);
-    let n = ids.len() / field::ID;
-    if index < n {
+    let count = ids.len() / field::ID;
+    if index < count {
         let at = field::ID * index;
         return line::scheme(d, index, &ids[at..at + field::ID]);
     }
     let array = extensions(m);
-    let k = index - n;
+    let k = index - count;
     if k < array.len() / field::ELEMENT {
         return line::extension(d, k, array, field::ELEMENT * k);
     }

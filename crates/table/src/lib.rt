@@ -69,10 +69,10 @@ fn put_spans(d: &mut [u8], at: usize, place: TokenPlace, m: &[u8]) -> usize
     ensures { λ r. ⌜ Written (now (d .entry)) at (8 * length (vectorsIn (now (m .entry)))) (numbers (spansIn (place .0) (vectorsIn (now (m .entry)))))
         (now (d .exit)) r ⌝ }
 {
-    let n = vector_count(m);
+    let count = vector_count(m);
     let mut next = at;
     let mut k: usize = 0;
-    while k < n {
+    while k < count {
         next = put_span(d, next, place, vector_of(m, k));
         k += 1;
     }
@@ -109,14 +109,14 @@ pub fn table_size(token: &[u8]) -> usize
     ensures { λ r. ⌜ r ≡ length (tableOf (messagesOf (tokenOf (now (token .entry))))) ⌝ }
 {
     let mut rest = token;
-    let mut n: usize = 0;
+    let mut size: usize = 0;
     while 0 < rest.len() {
         let m = first(rest);
         let length = m.len();
-        n += 24 + 8 * vector_count(m);
+        size += 24 + 8 * vector_count(m);
         rest = &rest[length..];
     }
-    n
+    size
 }
 
 // The table of an accepted token, at the buffer's front.

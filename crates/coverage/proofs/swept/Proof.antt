@@ -10,11 +10,11 @@ use Rattle.coverage.proofs.swept.Statement.{statement}
 use Rattle.coverage.proofs.swept.Tie as tie
 
 abbrev Inv-loop : tie.InvT-loop
-Inv-loop map start at₀ left₀ far₀ n₀ at left far n =
-    (at + left ≡ length map) × (n ≤ at) × (sweep map start (length map) 0 ≡ n + sweep map far left at)
+Inv-loop map start at₀ left₀ far₀ count₀ at left far count =
+    (at + left ≡ length map) × (count ≤ at) × (sweep map start (length map) 0 ≡ count + sweep map far left at)
 
 abbrev μ-loop : tie.MeasureT-loop
-μ-loop map start at₀ left₀ far₀ n₀ at left far n = left
+μ-loop map start at₀ left₀ far₀ count₀ at left far count = left
 
 loop-holds : tie.Need-loop-holds Inv-loop μ-loop
 loop-holds c = (omega arith, omega arith, omega arith)
@@ -31,8 +31,8 @@ greatest-requires c κs = search needs
 one-before-requires : tie.Need-one-before-requires Inv-loop μ-loop
 one-before-requires c κs = search needs
 
-add-n : tie.Need-add-n Inv-loop μ-loop
-add-n c = let l = one-le _ _ (c .one-before .ensures) in omega arith
+add-count : tie.Need-add-count Inv-loop μ-loop
+add-count c = let l = one-le _ _ (c .one-before .ensures) in omega arith
 
 add-at : tie.Need-add-at Inv-loop μ-loop
 add-at c = search needs
@@ -60,7 +60,7 @@ swept-spec =
     shared-slice-read-greatest
     greatest-requires
     one-before-requires
-    add-n
+    add-count
     add-at
     sub-left
     loop-less

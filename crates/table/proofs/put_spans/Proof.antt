@@ -11,11 +11,12 @@ use Rattle.table.proofs.put_spans.Statement.{statement}
 use Rattle.table.proofs.put_spans.Tie as tie
 
 abbrev Inv-loop : tie.InvT-loop
-Inv-loop d₀ at place m n next₀ k₀ d next k =
-    (k ≤ n) × (n ≡ length (vectorsIn m)) × (length d ≡ length d₀) × Written d₀ at (8 * k) (numbers (spansIn (place .0) (take k (vectorsIn m)))) d next
+Inv-loop d₀ at place m count next₀ k₀ d next k =
+    (k ≤ count) × (count ≡ length (vectorsIn m)) × (length d ≡ length d₀)
+    × Written d₀ at (8 * k) (numbers (spansIn (place .0) (take k (vectorsIn m)))) d next
 
 abbrev μ-loop : tie.MeasureT-loop
-μ-loop d₀ at place m n next₀ k₀ d next k = n - k
+μ-loop d₀ at place m count next₀ k₀ d next k = count - k
 
 vector-count-requires : tie.Need-vector-count-requires Inv-loop μ-loop
 vector-count-requires c κs = search needs

@@ -9,10 +9,10 @@ use Rattle.table.proofs.table_size.Statement.{statement}
 use Rattle.table.proofs.table_size.Tie as tie
 
 abbrev Inv-loop : tie.InvT-loop
-Inv-loop token rest₀ n₀ rest n = Sized (tableOf (messagesOf (tokenOf token))) rest n
+Inv-loop token rest₀ size₀ rest size = Sized (tableOf (messagesOf (tokenOf token))) rest size
 
 abbrev μ-loop : tie.MeasureT-loop
-μ-loop token rest₀ n₀ rest n = length rest
+μ-loop token rest₀ size₀ rest size = length rest
 
 loop-holds : tie.Need-loop-holds Inv-loop μ-loop
 loop-holds c = search sizes
@@ -23,14 +23,14 @@ first-requires c κs = search needs
 vector-count-requires : tie.Need-vector-count-requires Inv-loop μ-loop
 vector-count-requires c κs = search needs
 
-mul-n : tie.Need-mul-n Inv-loop μ-loop
-mul-n c = record { fits = search sizes }
+mul-size : tie.Need-mul-size Inv-loop μ-loop
+mul-size c = record { fits = search sizes }
 
-add-n : tie.Need-add-n Inv-loop μ-loop
-add-n c = record { fits = search sizes }
+add-size : tie.Need-add-size Inv-loop μ-loop
+add-size c = record { fits = search sizes }
 
-add-n-2 : tie.Need-add-n-2 Inv-loop μ-loop
-add-n-2 c = record { fits = search sizes }
+add-size-2 : tie.Need-add-size-2 Inv-loop μ-loop
+add-size-2 c = record { fits = search sizes }
 
 sub-rest : tie.Need-sub-rest Inv-loop μ-loop
 sub-rest c = search sizes
@@ -59,9 +59,9 @@ table-size-spec =
     loop-holds
     first-requires
     vector-count-requires
-    mul-n
-    add-n
-    add-n-2
+    mul-size
+    add-size
+    add-size-2
     sub-rest
     part-rest-start
     part-rest-end
