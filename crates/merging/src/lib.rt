@@ -53,9 +53,9 @@ fn cut_messages(file: &[u8]) -> Cut
     let mut place = TokenPlace(0);
     let mut messages: u32 = 0;
     while 0 < rest.len() {
-        let m = read_header(rest);
-        let Read::Message(h) = m else {
-            let number = number_of(m);
+        let reading = read_header(rest);
+        let Read::Message(h) = reading else {
+            let number = number_of(reading);
             return Cut {
                 number,
                 place,
@@ -97,8 +97,8 @@ fn run_at(rest: &[u8], first: u32) -> Run
     let mut octets: usize = 0;
     let mut messages: u32 = 0;
     while 0 < left.len() {
-        let m = read_header(left);
-        let Read::Message(h) = m else {
+        let reading = read_header(left);
+        let Read::Message(h) = reading else {
             return Run { octets, messages };
         };
         if h.sequence as u64 != first as u64 + messages as u64 {
@@ -117,21 +117,21 @@ pub fn next_turn(i: &[u8], a: &[u8], first: u32) -> Next
     requires { ⌜ (length (now i) ≤ 65535) × (length (now a) ≤ 65535) ⌝ }
     ensures { λ r. ⌜ r ≡ nextIn first (now (i .entry)) (now (a .entry)) ⌝ }
 {
-    let r = run_at(i, first);
-    if 0 < r.messages {
+    let irun = run_at(i, first);
+    if 0 < irun.messages {
         return Next {
             acceptors: false,
-            initiator: r.octets,
+            initiator: irun.octets,
             acceptor: 0,
-            messages: r.messages,
+            messages: irun.messages,
         };
     }
-    let s = run_at(a, first);
+    let arun = run_at(a, first);
     Next {
         acceptors: true,
         initiator: 0,
-        acceptor: s.octets,
-        messages: s.messages,
+        acceptor: arun.octets,
+        messages: arun.messages,
     }
 }
 
@@ -144,14 +144,14 @@ pub fn in_row(i: &[u8], a: &[u8], all: u32) -> bool
     let mut a_left = a;
     let mut number: u32 = 0;
     loop {
-        let n = next_turn(i_left, a_left, number);
-        if n.messages == 0 {
+        let turn = next_turn(i_left, a_left, number);
+        if turn.messages == 0 {
             return number == all;
         }
-        let from_i = n.initiator;
-        let from_a = n.acceptor;
+        let from_i = turn.initiator;
+        let from_a = turn.acceptor;
         i_left = &i_left[from_i..];
         a_left = &a_left[from_a..];
-        number += n.messages;
+        number += turn.messages;
     }
 }

@@ -19,8 +19,8 @@ loop-holds c = search (needs, cuts)
 read-header-requires : tie.Need-read-header-requires Inv-loop μ-loop
 read-header-requires c κs = search (needs, cuts)
 
-enum-known-m : tie.Need-enum-known-m Inv-loop μ-loop
-enum-known-m c = search (needs, cuts)
+enum-known-reading : tie.Need-enum-known-reading Inv-loop μ-loop
+enum-known-reading c = search (needs, cuts)
 
 enum-told : tie.Need-enum-told Inv-loop μ-loop
 enum-told c = search (needs, cuts)
@@ -66,7 +66,7 @@ cut-messages-spec =
     μ-loop
     loop-holds
     read-header-requires
-    enum-known-m
+    enum-known-reading
     enum-told
     number-of-requires
     returns

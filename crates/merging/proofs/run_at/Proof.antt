@@ -18,8 +18,8 @@ loop-holds c = search (needs, runs, header-within, header-less)
 read-header-requires : tie.Need-read-header-requires Inv-loop μ-loop
 read-header-requires c κs = search (needs, runs, header-within, header-less)
 
-enum-known-m : tie.Need-enum-known-m Inv-loop μ-loop
-enum-known-m c = search (needs, runs, header-within, header-less)
+enum-known-reading : tie.Need-enum-known-reading Inv-loop μ-loop
+enum-known-reading c = search (needs, runs, header-within, header-less)
 
 enum-told : tie.Need-enum-told Inv-loop μ-loop
 enum-told c = search (needs, runs, header-within, header-less)
@@ -74,7 +74,7 @@ run-at-spec =
     μ-loop
     loop-holds
     read-header-requires
-    enum-known-m
+    enum-known-reading
     enum-told
     returns
     cast-if1
