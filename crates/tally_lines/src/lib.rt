@@ -17,17 +17,17 @@ use text::wide_field;
 fn total_line(d: &mut [u8], at: usize, word: &[u8], n: u64) -> usize
     ensures { λ r. ⌜ text (now (d .exit)) r ≡ written (totalLine (now (word .entry)) n) (text (now (d .entry)) at) ⌝ }
 {
-    let a = wide_field(d, at, word, n as usize);
-    append(d, a, b"\n")
+    let number_end = wide_field(d, at, word, n as usize);
+    append(d, number_end, b"\n")
 }
 
 // A word, the number that is counted, and its count.
 fn number_line(d: &mut [u8], at: usize, word: &[u8], k: usize, n: u64) -> usize
     ensures { λ r. ⌜ text (now (d .exit)) r ≡ written (numberLine (now (word .entry)) k n) (text (now (d .entry)) at) ⌝ }
 {
-    let a = wide_field(d, at, word, k);
-    let b = wide_field(d, a, b" count=", n as usize);
-    append(d, b, b"\n")
+    let number_end = wide_field(d, at, word, k);
+    let count_end = wide_field(d, number_end, b" count=", n as usize);
+    append(d, count_end, b"\n")
 }
 
 // The counts of the types.
@@ -73,10 +73,10 @@ fn refused_lines(d: &mut [u8], at: usize, answers: &[u64]) -> usize
 fn scheme_line(d: &mut [u8], at: usize, scheme: &[u8], n: u64) -> usize
     ensures { λ r. ⌜ text (now (d .exit)) r ≡ written (schemeLine (now (scheme .entry)) n) (text (now (d .entry)) at) ⌝ }
 {
-    let a = append(d, at, b"scheme ");
-    let b = id(d, a, scheme);
-    let e = wide_field(d, b, b" count=", n as usize);
-    append(d, e, b"\n")
+    let id_start = append(d, at, b"scheme ");
+    let id_end = id(d, id_start, scheme);
+    let count_end = wide_field(d, id_end, b" count=", n as usize);
+    append(d, count_end, b"\n")
 }
 
 // The counts of the first n schemes.
@@ -106,17 +106,17 @@ fn table_lines(d: &mut [u8], at: usize, table: Table) -> usize
 {
     let ids = table.ids;
     let counts = table.counts;
-    let n = table.count as usize;
-    scheme_lines(d, at, &ids, &counts, n)
+    let count = table.count as usize;
+    scheme_lines(d, at, &ids, &counts, count)
 }
 
 // The totals of octets.
 fn octet_lines(d: &mut [u8], at: usize, t: Tally) -> usize
     ensures { λ r. ⌜ text (now (d .exit)) r ≡ written (octetLines (totalsIn t)) (text (now (d .entry)) at) ⌝ }
 {
-    let a = total_line(d, at, b"headers=", t.headers);
-    let b = total_line(d, a, b"vectors=", t.vectors);
-    total_line(d, b, b"bare=", t.bare)
+    let headers_end = total_line(d, at, b"headers=", t.headers);
+    let vectors_end = total_line(d, headers_end, b"vectors=", t.vectors);
+    total_line(d, vectors_end, b"bare=", t.bare)
 }
 
 // The count of the messages that list other schemes, and that of the names which aren't opened.
@@ -124,8 +124,8 @@ fn last_lines(d: &mut [u8], at: usize, t: Tally, unopened: u64) -> usize
     ensures { λ r. ⌜ text (now (d .exit)) r ≡ written (lastLines (totalsIn t) unopened) (text (now (d .entry)) at) ⌝ }
 {
     let table = t.table;
-    let a = total_line(d, at, b"others count=", table.others);
-    total_line(d, a, b"unopened count=", unopened)
+    let others_end = total_line(d, at, b"others count=", table.others);
+    total_line(d, others_end, b"unopened count=", unopened)
 }
 
 // The text of a tally from the front of the slice on; nothing of one with more than 64 schemes.
@@ -138,9 +138,9 @@ pub fn tally_text(d: &mut [u8], t: Tally, unopened: u64) -> usize
     if 64 < table.count {
         return 0;
     }
-    let a = type_lines(d, 0, &types);
-    let b = octet_lines(d, a, t);
-    let e = refused_lines(d, b, &answers);
-    let f = table_lines(d, e, table);
-    last_lines(d, f, t, unopened)
+    let types_end = type_lines(d, 0, &types);
+    let octets_end = octet_lines(d, types_end, t);
+    let refusals_end = refused_lines(d, octets_end, &answers);
+    let schemes_end = table_lines(d, refusals_end, table);
+    last_lines(d, schemes_end, t, unopened)
 }

@@ -6,8 +6,8 @@ use borrow.Author.Needs.{needs}
 use Rattle.tally_lines.proofs.table_lines.Statement.{statement}
 use Rattle.tally_lines.proofs.table_lines.Tie as tie
 
-cast-n : tie.Need-cast-n
-cast-n c = search needs
+cast-count : tie.Need-cast-count
+cast-count c = search needs
 
 slice-aggregate-scheme-lines : tie.Need-slice-aggregate-scheme-lines
 slice-aggregate-scheme-lines c = search needs
@@ -32,7 +32,7 @@ pub table-lines-spec : {M : Type 1} → statement M
 table-lines-spec =
     tie.close
     (tie.spec
-    cast-n
+    cast-count
     slice-aggregate-scheme-lines
     slice-aggregate-scheme-lines-2
     scheme-lines-requires
