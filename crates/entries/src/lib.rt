@@ -66,9 +66,9 @@ fn put_message(
     requires { ⌜ Held (place .0) (now m) × (at ≤ length (now d)) ⌝ }
     ensures { λ r. ⌜ Filled (now (d .entry)) at (drop from (entriesIn (place .0) message (now (m .entry)))) (now (d .exit)) r ⌝ }
 {
-    let n = entry_count(m);
-    let begin = least(from, n);
-    let count = least(n - begin, (d.len() - at) / SIZE);
+    let all = entry_count(m);
+    let begin = least(from, all);
+    let count = least(all - begin, (d.len() - at) / SIZE);
     let mut next = at;
     let mut k: usize = 0;
     while k < count {
@@ -84,14 +84,14 @@ pub fn count_entries(token: &[u8]) -> usize
     ensures { λ r. ⌜ r ≡ length (entriesOf (messagesOf (tokenOf (now (token .entry))))) ⌝ }
 {
     let mut rest = token;
-    let mut n: usize = 0;
+    let mut count: usize = 0;
     while 0 < rest.len() {
         let m = first(rest);
         let length = m.len();
-        n += entry_count(m);
+        count += entry_count(m);
         rest = &rest[length..];
     }
-    n
+    count
 }
 
 // The entries of an accepted token from number `from` on, as many as there is room for, at the buffer's front.

@@ -166,15 +166,15 @@ fn vector_entry(kind: Kind, place: TokenPlace, message: u32, m: &[u8], k: usize)
     requires { ⌜ Holds (place .0) (now m) (kind .0) × (k < length (vectorsIn (now m))) ⌝ }
     ensures { λ r. ⌜ r ≡ vectorEntry (place .0) message (now (m .entry)) (shapeOf (kind .0)) k ⌝ }
 {
-    let v = vector_of(m, k);
-    let from = vector_place(place, v);
+    let vector = vector_of(m, k);
+    let from = vector_place(place, vector);
     Entry {
         what: vector_what(kind, k),
         message,
         number: vector_number(kind, k) as u32,
-        value: v.offset.0,
+        value: vector.offset.0,
         place: from.0 as u32,
-        length: vector_length(v) as u32,
+        length: vector_length(vector) as u32,
     }
 }
 
@@ -251,9 +251,9 @@ fn element_entry(kind: Kind, place: TokenPlace, message: u32, m: &[u8], k: usize
         let at = MessageOffset(array.offset.0 + 12 * k as u32);
         return field_entry(place, message, m, type_what(kind), k as u32, at, 4);
     }
-    let e = (k - count) as u32;
-    let at = MessageOffset(array.offset.0 + 12 * e + 4);
-    field_entry(place, message, m, value_what(kind), e, at, 8)
+    let element = (k - count) as u32;
+    let at = MessageOffset(array.offset.0 + 12 * element + 4);
+    field_entry(place, message, m, value_what(kind), element, at, 8)
 }
 
 // Entry k of those of a message's schemes, and of what follows them.

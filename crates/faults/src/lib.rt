@@ -57,9 +57,9 @@ fn broken_vector(m: &[u8]) -> usize
     ensures { λ r. ⌜ r ≡ brokenIn (now (m .entry)) ⌝ }
 {
     let header = Kind(le_u32(m, field::TYPE)).header();
-    let n = vector_count(m);
+    let count = vector_count(m);
     let mut k: usize = 0;
-    while k < n {
+    while k < count {
         if keeps_rule(header, m.len(), vector_of(m, k)) {} else {
             return k;
         }
@@ -127,24 +127,24 @@ fn broken_spot(m: &[u8]) -> Spot
     requires { ⌜ length (now m) ≤ 65535 ⌝ }
     ensures { λ r. ⌜ r ≡ brokenSpot (now (m .entry)) ⌝ }
 {
-    let n = vector_count(m);
-    if n == 0 {
+    let count = vector_count(m);
+    if count == 0 {
         return single(0, 0, 0);
     }
-    let k = broken_vector(m);
-    if n <= k {
+    let broken = broken_vector(m);
+    if count <= broken {
         return single(0, 0, 0);
     }
-    vector_spot(Kind(le_u32(m, field::TYPE)), m, k)
+    vector_spot(Kind(le_u32(m, field::TYPE)), m, broken)
 }
 
 // The number of the first critical element of an array; that of all of them where none is.
 fn critical_element(array: &[u8]) -> usize
     ensures { λ r. ⌜ r ≡ firstCritical (elementsOf (now (array .entry))) 0 ⌝ }
 {
-    let n = array.len() / field::ELEMENT;
+    let count = array.len() / field::ELEMENT;
     let mut k: usize = 0;
-    while k < n {
+    while k < count {
         if is_negative(array, field::ELEMENT * k) {
             return k;
         }
@@ -161,12 +161,12 @@ fn critical_spot(m: &[u8]) -> Spot
     if m.len() < Kind::NEGO_HEADER_LEN {
         return single(0, 0, 0);
     }
-    let k = critical_element(extensions(m));
+    let critical = critical_element(extensions(m));
     let array = extension_vector(m);
     Spot {
         what: name::EXTENSION_TYPE,
-        number: k as u32,
-        at: array.offset.0 as usize + field::ELEMENT * k,
+        number: critical as u32,
+        at: array.offset.0 as usize + field::ELEMENT * critical,
         size: 4,
     }
 }
@@ -256,8 +256,8 @@ fn count_before(token: &[u8], place: usize) -> u32
     requires { ⌜ place ≤ length (now token) ⌝ }
     ensures { λ r. ⌜ r ≡ length (messagesOf (tokenOf (take place (now (token .entry))))) ⌝ }
 {
-    let r = read_token(&token[..place]);
-    match r {
+    let reading = read_token(&token[..place]);
+    match reading {
         Answer::Messages(n) => n,
         Answer::Refused(_, _) => 0,
     }
@@ -285,8 +285,8 @@ pub fn fault(token: &[u8]) -> Entry
     if 65535 < token.len() {
         return rest_entry(65535, 0, 1);
     }
-    let r = read_token(token);
-    match r {
+    let reading = read_token(token);
+    match reading {
         Answer::Messages(_) => no_entry(),
         Answer::Refused(n, place) => fault_at(token, n, place),
     }

@@ -9,10 +9,10 @@ use Rattle.entries.proofs.count_entries.Statement.{statement}
 use Rattle.entries.proofs.count_entries.Tie as tie
 
 abbrev Inv-loop : tie.InvT-loop
-Inv-loop token rest₀ n₀ rest n = Counted (entriesOf (messagesOf (tokenOf token))) rest n
+Inv-loop token rest₀ count₀ rest count = Counted (entriesOf (messagesOf (tokenOf token))) rest count
 
 abbrev μ-loop : tie.MeasureT-loop
-μ-loop token rest₀ n₀ rest n = length rest
+μ-loop token rest₀ count₀ rest count = length rest
 
 loop-holds : tie.Need-loop-holds Inv-loop μ-loop
 loop-holds c = search counting
@@ -23,8 +23,8 @@ first-requires c κs = search needs
 entry-count-requires : tie.Need-entry-count-requires Inv-loop μ-loop
 entry-count-requires c κs = search counting
 
-add-n : tie.Need-add-n Inv-loop μ-loop
-add-n c = record { fits = search counting }
+add-count : tie.Need-add-count Inv-loop μ-loop
+add-count c = record { fits = search counting }
 
 sub-rest : tie.Need-sub-rest Inv-loop μ-loop
 sub-rest c = search counting
@@ -53,7 +53,7 @@ count-entries-spec =
     loop-holds
     first-requires
     entry-count-requires
-    add-n
+    add-count
     sub-rest
     part-rest-start
     part-rest-end

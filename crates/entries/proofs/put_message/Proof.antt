@@ -12,12 +12,12 @@ use Rattle.entries.proofs.put_message.Statement.{statement}
 use Rattle.entries.proofs.put_message.Tie as tie
 
 abbrev Inv-loop : tie.InvT-loop
-Inv-loop d₀ at place message m from n begin count next₀ k₀ d next k =
-    (k ≤ count) × (n ≡ countIn m) × (begin ≡ min from n) × (count ≡ min (n - begin) ((length d₀ - at) / 24)) × (length d ≡ length d₀)
+Inv-loop d₀ at place message m from all begin count next₀ k₀ d next k =
+    (k ≤ count) × (all ≡ countIn m) × (begin ≡ min from all) × (count ≡ min (all - begin) ((length d₀ - at) / 24)) × (length d ≡ length d₀)
     × Written d₀ at (24 * k) (entryOctets (take k (drop begin (entriesIn (place .0) message m)))) d next
 
 abbrev μ-loop : tie.MeasureT-loop
-μ-loop d₀ at place message m from n begin count next₀ k₀ d next k = count - k
+μ-loop d₀ at place message m from all begin count next₀ k₀ d next k = count - k
 
 entry-count-requires : tie.Need-entry-count-requires Inv-loop μ-loop
 entry-count-requires c κs = search held-zero

@@ -10,10 +10,10 @@ use Rattle.faults.proofs.broken_vector.Statement.{statement}
 use Rattle.faults.proofs.broken_vector.Tie as tie
 
 abbrev Inv-loop : tie.InvT-loop
-Inv-loop m header n k₀ k = (k ≤ n) × (n ≡ length (vectorsIn m)) × (brokenIn m ≡ firstBroken header (length m) (drop k (vectorsIn m)) k)
+Inv-loop m header count k₀ k = (k ≤ count) × (count ≡ length (vectorsIn m)) × (brokenIn m ≡ firstBroken header (length m) (drop k (vectorsIn m)) k)
 
 abbrev μ-loop : tie.MeasureT-loop
-μ-loop m header n k₀ k = n - k
+μ-loop m header count k₀ k = count - k
 
 le-u32-requires : tie.Need-le-u32-requires Inv-loop μ-loop
 le-u32-requires c κs = search type-room

@@ -10,8 +10,8 @@ slice-aggregate-read-token c = search before
 read-token-requires : tie.Need-read-token-requires
 read-token-requires c κs = search needs
 
-enum-known-r : tie.Need-enum-known-r
-enum-known-r c = search needs
+enum-known-reading : tie.Need-enum-known-reading
+enum-known-reading c = search needs
 
 enum-told : tie.Need-enum-told
 enum-told c = search needs
@@ -28,7 +28,7 @@ count-before-spec =
     (tie.spec
     slice-aggregate-read-token
     read-token-requires
-    enum-known-r
+    enum-known-reading
     enum-told
     returns
     returns-2)

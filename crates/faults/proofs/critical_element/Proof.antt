@@ -10,10 +10,11 @@ use Rattle.faults.proofs.critical_element.Statement.{statement}
 use Rattle.faults.proofs.critical_element.Tie as tie
 
 abbrev Inv-loop : tie.InvT-loop
-Inv-loop array n k₀ k = (k ≤ n) × (n ≡ length array / 12) × (firstCritical (elementsOf array) 0 ≡ firstCritical (elementsAt (n - k) array (12 * k)) k)
+Inv-loop array count k₀ k =
+    (k ≤ count) × (count ≡ length array / 12) × (firstCritical (elementsOf array) 0 ≡ firstCritical (elementsAt (count - k) array (12 * k)) k)
 
 abbrev μ-loop : tie.MeasureT-loop
-μ-loop array n k₀ k = n - k
+μ-loop array count k₀ k = count - k
 
 loop-holds : tie.Need-loop-holds Inv-loop μ-loop
 loop-holds c = (search needs, search needs, search critical)

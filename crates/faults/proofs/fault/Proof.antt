@@ -19,8 +19,8 @@ enum-told c = search needs
 no-entry-requires : tie.Need-no-entry-requires
 no-entry-requires c κs = search needs
 
-enum-known-r : tie.Need-enum-known-r
-enum-known-r c = search needs
+enum-known-reading : tie.Need-enum-known-reading
+enum-known-reading c = search needs
 
 fault-at-requires : tie.Need-fault-at-requires
 fault-at-requires c κs = search faults
@@ -40,7 +40,7 @@ fault-spec =
     read-token-requires
     enum-told
     no-entry-requires
-    enum-known-r
+    enum-known-reading
     fault-at-requires
     returns-2
     returns-3)

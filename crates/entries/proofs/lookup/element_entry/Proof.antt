@@ -32,8 +32,8 @@ field-entry-requires c κs = (search elements-lie, search elements-lie, search n
 returns : tie.Need-returns
 returns c = search elements
 
-cast-e : tie.Need-cast-e
-cast-e c = record { fits = search (elements-lie, element-few) }
+cast-element : tie.Need-cast-element
+cast-element c = record { fits = search (elements-lie, element-few) }
 
 mul-t16 : tie.Need-mul-t16
 mul-t16 c = record { fits = search (elements-lie, element-few) }
@@ -66,7 +66,7 @@ element-entry-spec =
     cast-field-entry-2
     field-entry-requires
     returns
-    cast-e
+    cast-element
     mul-t16
     add-t17
     add-t18
