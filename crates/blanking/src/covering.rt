@@ -60,8 +60,8 @@ pub fn cover(token: &[u8], mask: &mut [u8]) -> Answer
     ensures { λ a. ⌜ _≡_ {A = Blanking} (record { outcome = told a; octets = now (mask .exit) })
         (maskingOf (now (token .entry)) (now (mask .entry))) ⌝ }
 {
-    let r = read_token(token);
-    match r {
+    let reading = read_token(token);
+    match reading {
         Answer::Messages(n) => {
             if mask.len() != token.len() {
                 return Answer::Messages(n);

@@ -131,8 +131,8 @@ fn blank_messages(map: &mut [u32], token: &mut [u8])
 pub fn blank(token: &mut [u8]) -> Answer
     ensures { λ a. ⌜ _≡_ {A = Blanking} (record { outcome = told a; octets = now (token .exit) }) (blankingOf (now (token .entry))) ⌝ }
 {
-    let r = read_token(&token[..]);
-    match r {
+    let reading = read_token(&token[..]);
+    match reading {
         Answer::Messages(n) => {
             let mut map = [0u32; 65536];
             blank_messages(&mut map, token);

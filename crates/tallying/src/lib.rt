@@ -235,8 +235,8 @@ pub fn tallied(t: Tally, file: &[u8]) -> Counted
             tally: t,
         };
     }
-    let r = read_token(file);
-    match r {
+    let reading = read_token(file);
+    match reading {
         Answer::Messages(_) => {
             let counted = with_file(t, file);
             Counted {

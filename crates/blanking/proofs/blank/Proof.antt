@@ -7,8 +7,8 @@ use Rattle.blanking.proofs.blank.Tie as tie
 read-token-requires : tie.Need-read-token-requires
 read-token-requires c κs = search needs
 
-enum-known-r : tie.Need-enum-known-r
-enum-known-r c = search needs
+enum-known-reading : tie.Need-enum-known-reading
+enum-known-reading c = search needs
 
 slice-aggregate-blank-messages : tie.Need-slice-aggregate-blank-messages
 slice-aggregate-blank-messages c = search needs
@@ -16,8 +16,8 @@ slice-aggregate-blank-messages c = search needs
 blank-messages-requires : tie.Need-blank-messages-requires
 blank-messages-requires c κs = (search answers, search needs)
 
-enum-known-r-2 : tie.Need-enum-known-r-2
-enum-known-r-2 c = search needs
+enum-known-reading-2 : tie.Need-enum-known-reading-2
+enum-known-reading-2 c = search needs
 
 same-length : tie.Need-same-length
 same-length c = search needs
@@ -36,10 +36,10 @@ blank-spec =
     tie.close
     (tie.spec
     read-token-requires
-    enum-known-r
+    enum-known-reading
     slice-aggregate-blank-messages
     blank-messages-requires
-    enum-known-r-2
+    enum-known-reading-2
     same-length
     returns
     same-length-2

@@ -22,8 +22,8 @@ with-file-requires c κs = search counteds
 with-answer-requires : tie.Need-with-answer-requires
 with-answer-requires c κs = search counteds
 
-enum-known-r : tie.Need-enum-known-r
-enum-known-r c = search needs
+enum-known-reading : tie.Need-enum-known-reading
+enum-known-reading c = search needs
 
 with-answer-requires-2 : tie.Need-with-answer-requires-2
 with-answer-requires-2 c κs = search counteds
@@ -44,7 +44,7 @@ tallied-spec =
     enum-told
     with-file-requires
     with-answer-requires
-    enum-known-r
+    enum-known-reading
     with-answer-requires-2
     returns-2
     returns-3)

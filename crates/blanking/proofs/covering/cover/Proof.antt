@@ -7,8 +7,8 @@ use Rattle.blanking.proofs.covering.cover.Tie as tie
 read-token-requires : tie.Need-read-token-requires
 read-token-requires c κs = search needs
 
-enum-known-r : tie.Need-enum-known-r
-enum-known-r c = search needs
+enum-known-reading : tie.Need-enum-known-reading
+enum-known-reading c = search needs
 
 returns : tie.Need-returns
 returns c = search covering
@@ -19,8 +19,8 @@ slice-aggregate-cover-messages c = search needs
 cover-messages-requires : tie.Need-cover-messages-requires
 cover-messages-requires c κs = (search covering, search needs, search needs)
 
-enum-known-r-2 : tie.Need-enum-known-r-2
-enum-known-r-2 c = search needs
+enum-known-reading-2 : tie.Need-enum-known-reading-2
+enum-known-reading-2 c = search needs
 
 same-length : tie.Need-same-length
 same-length c = search needs
@@ -36,11 +36,11 @@ cover-spec =
     tie.close
     (tie.spec
     read-token-requires
-    enum-known-r
+    enum-known-reading
     returns
     slice-aggregate-cover-messages
     cover-messages-requires
-    enum-known-r-2
+    enum-known-reading-2
     same-length
     returns-2
     returns-3)
