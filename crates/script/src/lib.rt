@@ -169,19 +169,19 @@ fn with_items(c: Command, line: &[u8], from: usize, start: usize, lent: &mut [u8
 {
     let mut elements = Elements::none();
     let mut at = from;
-    let mut n = start;
+    let mut filled = start;
     while at <= line.len() {
-        let next = item(field_at(line, at), &mut lent[n..]);
+        let next = item(field_at(line, at), &mut lent[filled..]);
         if next.ok {} else {
             return bad();
         }
         elements = added(elements, next.kind, next.size);
-        n += next.size;
+        filled += next.size;
         at = behind(line, at);
     }
     let mut given = c;
     given.elements = elements;
-    given.length = n;
+    given.length = filled;
     given
 }
 
@@ -266,12 +266,12 @@ fn with_number(
     ensures { λ r. ⌜ lineAs r (now (lent .exit)) ≡ numbered verb acceptor marks (fieldsFrom (now (line .entry)) from) (length (now (lent .entry))) ⌝ }
 {
     let kind = octet(&NUMBERS, verb);
-    let n = number_in(line, from, kind);
-    let Number::Is(number) = n else {
+    let numeral = number_in(line, from, kind);
+    let Number::Is(number) = numeral else {
         return bad();
     };
     let elements = Elements::none();
-    let c = Command {
+    let command = Command {
         verb,
         acceptor,
         marks,
@@ -281,7 +281,7 @@ fn with_number(
         elements,
         length: 0,
     };
-    with_id(c, line, past(line, from, kind != NONE), lent)
+    with_id(command, line, past(line, from, kind != NONE), lent)
 }
 
 // A command of a verb at an end, by their places: 0 is none, and the acceptor is 2.
@@ -301,17 +301,17 @@ fn call(verb: usize, end: usize, marks: u32, line: &[u8], from: usize, lent: &mu
 fn verb(word: &[u8], line: &[u8], from: usize) -> usize
     ensures { λ r. ⌜ r ≡ verbOf (placeOf (now (word .entry)) verbs) (fieldsFrom (now (line .entry)) from) ⌝ }
 {
-    let v = place(
+    let named = place(
         word,
         b"offer reply metadata exchange verify alert read choose",
     );
     if from <= line.len() {
-        return v;
+        return named;
     }
-    if v == Command::READ {
+    if named == Command::READ {
         return Command::TURN;
     }
-    v
+    named
 }
 
 // The place of an end's letter: 1 for the initiator, 2 for the acceptor, 0 for any other word.
@@ -325,14 +325,14 @@ fn end_place(word: &[u8]) -> usize
 fn speech(word: &[u8]) -> usize
     ensures { λ r. ⌜ r ≡ speechVerb (placeOf (now (word .entry)) speeches) ⌝ }
 {
-    let k = place(word, b"exchange verify alert");
-    if k == 1 {
+    let named = place(word, b"exchange verify alert");
+    if named == 1 {
         return Command::CHOOSE_EXCHANGE;
     }
-    if k == 2 {
+    if named == 2 {
         return Command::CHOOSE_VERIFY;
     }
-    if k == 3 {
+    if named == 3 {
         return Command::CHOOSE_ALERT;
     }
     Command::BAD
@@ -342,13 +342,13 @@ fn speech(word: &[u8]) -> usize
 fn choice(end: usize, line: &[u8], from: usize, lent: &mut [u8]) -> Command
     ensures { λ r. ⌜ lineAs r (now (lent .exit)) ≡ chosen end (fieldsFrom (now (line .entry)) from) (length (now (lent .entry))) ⌝ }
 {
-    let n = number_in(line, from, MARKS);
-    let Number::Is(marks) = n else {
+    let numeral = number_in(line, from, MARKS);
+    let Number::Is(marks) = numeral else {
         return bad();
     };
     let at = behind(line, from);
-    let v = speech(field_at(line, at));
-    call(v, end, marks, line, behind(line, at), lent)
+    let verb = speech(field_at(line, at));
+    call(verb, end, marks, line, behind(line, at), lent)
 }
 
 // The command of a line. Its octets are put at the front of the lent slice; what then stands behind them, or in the slice of a bad line, is left open.
@@ -362,9 +362,9 @@ pub fn read_command(line: &[u8], lent: &mut [u8]) -> Command
     if is_word(word, b"open") {
         return call(Command::OPEN, end_place(next), 0, line, from, lent);
     }
-    let v = verb(next, line, from);
-    if v == Command::CHOOSE {
+    let verb = verb(next, line, from);
+    if verb == Command::CHOOSE {
         return choice(end_place(word), line, from, lent);
     }
-    call(v, end_place(word), 0, line, from, lent)
+    call(verb, end_place(word), 0, line, from, lent)
 }

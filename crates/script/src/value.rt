@@ -28,14 +28,14 @@ pub fn number_in(line: &[u8], from: usize, kind: u8) -> Number
     if kind == NONE {
         return Number::Is(0);
     }
-    let s = field(line, from);
+    let text = field(line, from);
     if kind == ROOM {
-        return room(s);
+        return room(text);
     }
     if kind == MARKS {
-        return hexadecimal(s, 4, 65535);
+        return hexadecimal(text, 4, 65535);
     }
-    hexadecimal(s, 8, 4294967295)
+    hexadecimal(text, 8, 4294967295)
 }
 
 // A line's id, in the field that starts at `from`, where there is one.
@@ -56,20 +56,20 @@ fn ids(line: &[u8], from: usize, d: &mut [u8]) -> Decoded
     ensures { λ r. ⌜ decodedAs r (now (d .exit)) ≡ fit (length (now (d .entry))) (idsOf (fieldsFrom (now (line .entry)) from)) ⌝ }
 {
     let mut at = from;
-    let mut n = 0;
+    let mut filled = 0;
     while at <= line.len() {
         let next = id(field(line, at));
         if next.ok {} else {
             return Decoded::Bad;
         }
-        if d.len() - n < 16 {
+        if d.len() - filled < 16 {
             return Decoded::Bad;
         }
         let octets = next.octets;
-        n = put_octets(d, n, &octets);
+        filled = put_octets(d, filled, &octets);
         at = behind(line, at);
     }
-    Decoded::Octets(n)
+    Decoded::Octets(filled)
 }
 
 // The rest of a line that is octets alone, from the field that starts at `from`: they are put at the front of d.
@@ -79,9 +79,9 @@ pub fn rest_in(line: &[u8], from: usize, kind: u8, d: &mut [u8]) -> Decoded
     if kind == IDS {
         return ids(line, from, d);
     }
-    let s = last(line, from);
+    let text = last(line, from);
     if kind == OCTETS {
-        return octets(s, d);
+        return octets(text, d);
     }
     if from <= line.len() {
         return Decoded::Bad;

@@ -7,8 +7,8 @@ use Rattle.script.proofs.choice.Tie as tie
 number-in-requires : tie.Need-number-in-requires
 number-in-requires c κs = search needs
 
-enum-known-n : tie.Need-enum-known-n
-enum-known-n c = search needs
+enum-known-numeral : tie.Need-enum-known-numeral
+enum-known-numeral c = search needs
 
 enum-told : tie.Need-enum-told
 enum-told c = search needs
@@ -45,7 +45,7 @@ choice-spec =
     tie.close
     (tie.spec
     number-in-requires
-    enum-known-n
+    enum-known-numeral
     enum-told
     bad-requires
     returns

@@ -8,10 +8,10 @@ use Rattle.script.proofs.with_items.Statement.{statement}
 use Rattle.script.proofs.with_items.Tie as tie
 
 abbrev Inv-loop : tie.InvT-loop
-Inv-loop c line from start lent₀ elements₀ at₀ n₀ lent elements at n = Read line from start lent₀ lent elements at n
+Inv-loop c line from start lent₀ elements₀ at₀ filled₀ lent elements at filled = Read line from start lent₀ lent elements at filled
 
 abbrev μ-loop : tie.MeasureT-loop
-μ-loop c line from start lent₀ elements₀ at₀ n₀ lent elements at n = length line + 1 - at
+μ-loop c line from start lent₀ elements₀ at₀ filled₀ lent elements at filled = length line + 1 - at
 
 none-requires : tie.Need-none-requires Inv-loop μ-loop
 none-requires c κs = search needs
@@ -46,15 +46,15 @@ returns c = search item-lists
 added-requires : tie.Need-added-requires Inv-loop μ-loop
 added-requires c κs = let h = c .before .before .before .before .before .before .before .loop .inv .few in omega arith
 
-add-n : tie.Need-add-n Inv-loop μ-loop
-add-n c =
+add-filled : tie.Need-add-filled Inv-loop μ-loop
+add-filled c =
     let r = c .before .before .before .before .before .before .before .before .before .loop .inv in
     let a = r .inside in
     let q = r .room in
     let b = c .before .before .before .before .before .item .ensures .inside in
     let e = (let back9 = c .before .before .before .before .before .before .before .before .before in
-    behind-size (back9 .loop .lent) (back9 .loop .n)) in
-    let z : c .before .before .before .before .before .before .before .before .before .loop .n
+    behind-size (back9 .loop .lent) (back9 .loop .filled)) in
+    let z : c .before .before .before .before .before .before .before .before .before .loop .filled
     + c .before .before .before .before .before .item .result .size
     ≤ length (c .before .before .before .before .before .before .before .before .before .before .before .before .before .args .lent .now) = omega arith in
     let y = c .before .before .before .before .before .before .before .before .before .before .before .before .before .good .1 .1 .1 .1 .0 .0 in
@@ -98,7 +98,7 @@ with-items-spec =
     same-length
     returns
     added-requires
-    add-n
+    add-filled
     behind-requires
     loop-less
     loop-again

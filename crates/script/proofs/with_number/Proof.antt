@@ -13,8 +13,8 @@ octet-requires c κs = search needs
 number-in-requires : tie.Need-number-in-requires
 number-in-requires c κs = search needs
 
-enum-known-n : tie.Need-enum-known-n
-enum-known-n c = search needs
+enum-known-numeral : tie.Need-enum-known-numeral
+enum-known-numeral c = search needs
 
 enum-told : tie.Need-enum-told
 enum-told c = search needs
@@ -47,7 +47,7 @@ with-number-spec =
     slice-aggregate-octet
     octet-requires
     number-in-requires
-    enum-known-n
+    enum-known-numeral
     enum-told
     bad-requires
     returns

@@ -12,11 +12,11 @@ use Rattle.script.proofs.value.ids.Statement.{statement}
 use Rattle.script.proofs.value.ids.Tie as tie
 
 abbrev Inv-loop : tie.InvT-loop
-Inv-loop line from d₀ at₀ n₀ d at n = (n ≤ length d) × (length d ≡ length d₀)
-    × (idsOf (fieldsFrom line from) ≡ behindAll (take n d) (idsOf (fieldsFrom line at)))
+Inv-loop line from d₀ at₀ filled₀ d at filled = (filled ≤ length d) × (length d ≡ length d₀)
+    × (idsOf (fieldsFrom line from) ≡ behindAll (take filled d) (idsOf (fieldsFrom line at)))
 
 abbrev μ-loop : tie.MeasureT-loop
-μ-loop line from d₀ at₀ n₀ d at n = length line + 1 - at
+μ-loop line from d₀ at₀ filled₀ d at filled = length line + 1 - at
 
 loop-holds : tie.Need-loop-holds Inv-loop μ-loop
 loop-holds c = (search needs, refl, search id-lists)
