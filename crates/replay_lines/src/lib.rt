@@ -29,11 +29,11 @@ fn side(d: &mut [u8], at: usize, whose: u8) -> usize
 pub fn turn_line(d: &mut [u8], k: u32, acceptor: bool) -> usize
     ensures { λ r. ⌜ text (now (d .exit)) r ≡ written (turnLine k acceptor) (text (now (d .entry)) 0) ⌝ }
 {
-    let a = field(d, 0, b"turn ", k);
+    let number_end = field(d, 0, b"turn ", k);
     if acceptor {
-        return side(d, a, Fault::ACCEPTOR);
+        return side(d, number_end, Fault::ACCEPTOR);
     }
-    side(d, a, Fault::INITIATOR)
+    side(d, number_end, Fault::INITIATOR)
 }
 
 // The line of a choice, or of none.
@@ -43,18 +43,18 @@ pub fn choice_line(d: &mut [u8], chosen: bool, scheme: [u8; 16]) -> usize
     if chosen {} else {
         return append(d, 0, b"choice none\n");
     }
-    let a = append(d, 0, b"choice ");
-    let b = id(d, a, &scheme);
-    append(d, b, b"\n")
+    let id_start = append(d, 0, b"choice ");
+    let id_end = id(d, id_start, &scheme);
+    append(d, id_end, b"\n")
 }
 
 // The line of a refusal that ends a replay.
 fn refusal(d: &mut [u8], n: u32, place: usize, whose: u8) -> usize
     ensures { λ r. ⌜ text (now (d .exit)) r ≡ written (refusedLine n place (whoseAs whose)) (text (now (d .entry)) 0) ⌝ }
 {
-    let a = field(d, 0, b"refused ", n);
-    let b = wide_field(d, a, b" at=", place);
-    side(d, b, whose)
+    let number_end = field(d, 0, b"refused ", n);
+    let place_end = wide_field(d, number_end, b" at=", place);
+    side(d, place_end, whose)
 }
 
 // The line of how a replay ended: none at the last turn.

@@ -14,28 +14,28 @@ use text::wide_field;
 fn numbers(d: &mut [u8], words: &[u8], n: u32, further: &[u8], k: usize) -> usize
     ensures { λ r. ⌜ text (now (d .exit)) r ≡ written (numbersLine (now (words .entry)) n (now (further .entry)) k) (text (now (d .entry)) 0) ⌝ }
 {
-    let a = field(d, 0, words, n);
-    let b = wide_field(d, a, further, k);
-    append(d, b, b"\n")
+    let first_end = field(d, 0, words, n);
+    let second_end = wide_field(d, first_end, further, k);
+    append(d, second_end, b"\n")
 }
 
 // The id chosen, how many were left, and the line's end.
 fn choice(d: &mut [u8], at: usize, chosen: [u8; 16], left: u32) -> usize
     ensures { λ r. ⌜ text (now (d .exit)) r ≡ written (choiceText chosen left) (text (now (d .entry)) at) ⌝ }
 {
-    let a = append(d, at, b" choice=");
-    let b = id(d, a, &chosen);
-    let e = field(d, b, b" left=", left);
-    append(d, e, b"\n")
+    let id_start = append(d, at, b" choice=");
+    let id_end = id(d, id_start, &chosen);
+    let left_end = field(d, id_end, b" left=", left);
+    append(d, left_end, b"\n")
 }
 
 // The length and the octets of a written message; its line is still open.
 fn wrote(d: &mut [u8], message: &[u8]) -> usize
     ensures { λ r. ⌜ text (now (d .exit)) r ≡ written (wroteText (now (message .entry))) (text (now (d .entry)) 0) ⌝ }
 {
-    let a = wide_field(d, 0, b"wrote ", message.len());
-    let b = append(d, a, b" ");
-    hex_all(d, b, message)
+    let length_end = wide_field(d, 0, b"wrote ", message.len());
+    let octets_start = append(d, length_end, b" ");
+    hex_all(d, octets_start, message)
 }
 
 // Whether a verb is that of a call that answers a choice: a reply, and those that choose.
@@ -79,7 +79,7 @@ pub fn report(d: &mut [u8], c: Command, a: Answer, message: &[u8]) -> usize
 pub fn used(d: &mut [u8], initiator: usize, acceptor: usize) -> usize
     ensures { λ r. ⌜ text (now (d .exit)) r ≡ written (usedLine initiator acceptor) (text (now (d .entry)) 0) ⌝ }
 {
-    let a = wide_field(d, 0, b"used i=", initiator);
-    let b = wide_field(d, a, b" a=", acceptor);
-    append(d, b, b"\n")
+    let initiator_end = wide_field(d, 0, b"used i=", initiator);
+    let acceptor_end = wide_field(d, initiator_end, b" a=", acceptor);
+    append(d, acceptor_end, b"\n")
 }
