@@ -135,14 +135,14 @@ fn message_lines(token: &[u8]) -> usize
     ensures { λ r. ⌜ r ≡ length (allLines (messagesOf (tokenOf (now (token .entry))))) ⌝ }
 {
     let mut rest = token;
-    let mut n: usize = 0;
+    let mut lines: usize = 0;
     while 0 < rest.len() {
         let m = first(rest);
         let length = m.len();
-        n += count(m);
+        lines += count(m);
         rest = &rest[length..];
     }
-    n
+    lines
 }
 
 // A window of the listing of an accepted token.
@@ -154,9 +154,9 @@ fn show_window(token: &[u8], from: usize, end: usize, buffer: &mut [u8]) -> i64
     if message_lines(token) < from {
         return refusal(19);
     }
-    let w = window(token, from, end, buffer);
-    if w.lines != 0 {
-        return wide_number(w.octets);
+    let shown = window(token, from, end, buffer);
+    if shown.lines != 0 {
+        return wide_number(shown.octets);
     }
     if from < end {
         return refusal(16);
@@ -169,8 +169,8 @@ fn show_window(token: &[u8], from: usize, end: usize, buffer: &mut [u8]) -> i64
 pub extern "C" fn negoex_lines(token: &[u8]) -> i64
     ensures { λ r. ⌜ r ≡ linesAnswer (now (token .entry)) ⌝ }
 {
-    let r = read_token(token);
-    match r {
+    let reading = read_token(token);
+    match reading {
         Answer::Messages(_) => wide_number(message_lines(token) + 1),
         Answer::Refused(n, _) => refusal(n),
     }
@@ -181,8 +181,8 @@ pub extern "C" fn negoex_lines(token: &[u8]) -> i64
 pub extern "C" fn negoex_window(token: &[u8], first: usize, end: usize, buffer: &mut [u8]) -> i64
     ensures { λ r. ⌜ lent r (now (buffer .exit)) ≡ windowAnswer (now (token .entry)) first end (now (buffer .entry)) ⌝ }
 {
-    let r = read_token(token);
-    match r {
+    let reading = read_token(token);
+    match reading {
         Answer::Messages(_) => show_window(token, first, end, buffer),
         Answer::Refused(n, _) => refusal(n),
     }

@@ -47,8 +47,8 @@ pub fn refusal(n: u32) -> i64
 pub fn count_messages(token: &[u8]) -> i64
     ensures { λ r. ⌜ r ≡ messagesAnswer (now (token .entry)) ⌝ }
 {
-    let r = read_token(token);
-    match r {
+    let reading = read_token(token);
+    match reading {
         Answer::Messages(count) => number(count),
         Answer::Refused(reason, _) => refusal(reason),
     }
@@ -58,8 +58,8 @@ pub fn count_messages(token: &[u8]) -> i64
 pub fn fault_place(token: &[u8]) -> i64
     ensures { λ r. ⌜ r ≡ placeAnswer (now (token .entry)) ⌝ }
 {
-    let r = read_token(token);
-    match r {
+    let reading = read_token(token);
+    match reading {
         Answer::Messages(_) => number(0),
         Answer::Refused(_, place) => wide_number(place.0),
     }
@@ -69,8 +69,8 @@ pub fn fault_place(token: &[u8]) -> i64
 fn lack(token: &[u8]) -> u32
     ensures { λ r. ⌜ r ≡ lackOf (tokenOf (now (token .entry))) ⌝ }
 {
-    let r = read_token(token);
-    match r {
+    let reading = read_token(token);
+    match reading {
         Answer::Messages(_) => 19,
         Answer::Refused(n, _) => n,
     }
@@ -113,8 +113,8 @@ pub fn count_vectors(token: &[u8], message: usize) -> i64
     if m.len() == 0 {
         return refusal(lack(token));
     }
-    let n = vector_count(m);
-    wide_number(n)
+    let count = vector_count(m);
+    wide_number(count)
 }
 
 // The token place of a message's vector; an empty one's is its message's.
@@ -161,8 +161,8 @@ fn fill_table(token: &[u8], buffer: &mut [u8]) -> i64
 pub fn write_table(token: &[u8], buffer: &mut [u8]) -> i64
     ensures { λ r. ⌜ lent r (now (buffer .exit)) ≡ tableAnswer (now (token .entry)) (now (buffer .entry)) ⌝ }
 {
-    let r = read_token(token);
-    match r {
+    let reading = read_token(token);
+    match reading {
         Answer::Messages(_) => fill_table(token, buffer),
         Answer::Refused(n, _) => refusal(n),
     }

@@ -26,8 +26,8 @@ use token::read_token;
 pub fn entry_count(token: &[u8]) -> i64
     ensures { λ r. ⌜ r ≡ entryCountAnswer (now (token .entry)) ⌝ }
 {
-    let r = read_token(token);
-    match r {
+    let reading = read_token(token);
+    match reading {
         Answer::Messages(_) => wide_number(count_entries(token)),
         Answer::Refused(n, _) => refusal(n),
     }
@@ -51,8 +51,8 @@ fn fill_entries(token: &[u8], first: usize, buffer: &mut [u8]) -> i64
 pub fn write_entries(token: &[u8], first: usize, buffer: &mut [u8]) -> i64
     ensures { λ r. ⌜ lent r (now (buffer .exit)) ≡ entriesAnswer (now (token .entry)) first (now (buffer .entry)) ⌝ }
 {
-    let r = read_token(token);
-    match r {
+    let reading = read_token(token);
+    match reading {
         Answer::Messages(_) => fill_entries(token, first, buffer),
         Answer::Refused(n, _) => refusal(n),
     }
@@ -73,8 +73,8 @@ fn fill_fault(token: &[u8], buffer: &mut [u8]) -> i64
 pub fn write_fault(token: &[u8], buffer: &mut [u8]) -> i64
     ensures { λ r. ⌜ lent r (now (buffer .exit)) ≡ faultAnswer (now (token .entry)) (now (buffer .entry)) ⌝ }
 {
-    let r = read_token(token);
-    match r {
+    let reading = read_token(token);
+    match reading {
         Answer::Messages(_) => number(0),
         Answer::Refused(_, _) => fill_fault(token, buffer),
     }
@@ -105,20 +105,20 @@ fn fill_coverage(token: &[u8], buffer: &mut [u8]) -> i64
     requires { ⌜ Accepts (now token) ⌝ }
     ensures { λ r. ⌜ lent r (now (buffer .exit)) ≡ coverageAnswer (now (token .entry)) (now (buffer .entry)) ⌝ }
 {
-    let n = token.len();
-    if buffer.len() < n {
+    let length = token.len();
+    if buffer.len() < length {
         return refusal(16);
     }
-    mask_token(token, &mut buffer[..n]);
-    wide_number(n)
+    mask_token(token, &mut buffer[..length]);
+    wide_number(length)
 }
 
 // An octet for each of the token's: 1 where it is covered, 0 where nothing covers it.
 pub fn write_coverage(token: &[u8], buffer: &mut [u8]) -> i64
     ensures { λ r. ⌜ lent r (now (buffer .exit)) ≡ coverageAnswer (now (token .entry)) (now (buffer .entry)) ⌝ }
 {
-    let r = read_token(token);
-    match r {
+    let reading = read_token(token);
+    match reading {
         Answer::Messages(_) => fill_coverage(token, buffer),
         Answer::Refused(n, _) => refusal(n),
     }
@@ -128,8 +128,8 @@ pub fn write_coverage(token: &[u8], buffer: &mut [u8]) -> i64
 pub fn envelope_place(envelope: &[u8]) -> i64
     ensures { λ r. ⌜ r ≡ envelopePlaceAnswer (now (envelope .entry)) ⌝ }
 {
-    let r = find_token(envelope);
-    match r {
+    let carried = find_token(envelope);
+    match carried {
         Carried::At(place, _) => number(place),
         Carried::Refused(n) => refusal(n),
     }
@@ -139,8 +139,8 @@ pub fn envelope_place(envelope: &[u8]) -> i64
 pub fn envelope_length(envelope: &[u8]) -> i64
     ensures { λ r. ⌜ r ≡ envelopeLengthAnswer (now (envelope .entry)) ⌝ }
 {
-    let r = find_token(envelope);
-    match r {
+    let carried = find_token(envelope);
+    match carried {
         Carried::At(_, length) => number(length),
         Carried::Refused(n) => refusal(n),
     }

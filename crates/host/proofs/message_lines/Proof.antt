@@ -9,10 +9,10 @@ use Rattle.host.proofs.message_lines.Statement.{statement}
 use Rattle.host.proofs.message_lines.Tie as tie
 
 abbrev Inv-loop : tie.InvT-loop
-Inv-loop token rest₀ n₀ rest n = Counted (length (allLines (messagesOf (tokenOf token)))) rest n
+Inv-loop token rest₀ lines₀ rest lines = Counted (length (allLines (messagesOf (tokenOf token)))) rest lines
 
 abbrev μ-loop : tie.MeasureT-loop
-μ-loop token rest₀ n₀ rest n = length rest
+μ-loop token rest₀ lines₀ rest lines = length rest
 
 loop-holds : tie.Need-loop-holds Inv-loop μ-loop
 loop-holds c = search counting
@@ -23,8 +23,8 @@ first-requires c κs = search needs
 count-requires : tie.Need-count-requires Inv-loop μ-loop
 count-requires c κs = search counting
 
-add-n : tie.Need-add-n Inv-loop μ-loop
-add-n c = record { fits = search counting }
+add-lines : tie.Need-add-lines Inv-loop μ-loop
+add-lines c = record { fits = search counting }
 
 sub-rest : tie.Need-sub-rest Inv-loop μ-loop
 sub-rest c = search counting
@@ -53,7 +53,7 @@ message-lines-spec =
     loop-holds
     first-requires
     count-requires
-    add-n
+    add-lines
     sub-rest
     part-rest-start
     part-rest-end

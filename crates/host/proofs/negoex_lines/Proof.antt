@@ -20,8 +20,8 @@ add-wide-number c = record { fits = search (totals, answers) }
 wide-number-requires : tie.Need-wide-number-requires
 wide-number-requires c κs = search (totals, answers)
 
-enum-known-r : tie.Need-enum-known-r
-enum-known-r c = search needs
+enum-known-reading : tie.Need-enum-known-reading
+enum-known-reading c = search needs
 
 refusal-requires : tie.Need-refusal-requires
 refusal-requires c κs = search needs
@@ -41,7 +41,7 @@ negoex-lines-spec =
     message-lines-requires
     add-wide-number
     wide-number-requires
-    enum-known-r
+    enum-known-reading
     refusal-requires
     returns
     returns-2)

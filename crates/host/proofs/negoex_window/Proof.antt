@@ -13,8 +13,8 @@ enum-told c = search needs
 show-window-requires : tie.Need-show-window-requires
 show-window-requires c κs = search answers
 
-enum-known-r : tie.Need-enum-known-r
-enum-known-r c = search needs
+enum-known-reading : tie.Need-enum-known-reading
+enum-known-reading c = search needs
 
 refusal-requires : tie.Need-refusal-requires
 refusal-requires c κs = search needs
@@ -35,7 +35,7 @@ negoex-window-spec =
     read-token-requires
     enum-told
     show-window-requires
-    enum-known-r
+    enum-known-reading
     refusal-requires
     same-length
     returns

@@ -7,14 +7,14 @@ use Rattle.replies.proofs.count_messages.Tie as tie
 read-token-requires : tie.Need-read-token-requires
 read-token-requires c κs = search needs
 
-enum-known-r : tie.Need-enum-known-r
-enum-known-r c = search needs
+enum-known-reading : tie.Need-enum-known-reading
+enum-known-reading c = search needs
 
 number-requires : tie.Need-number-requires
 number-requires c κs = search needs
 
-enum-known-r-2 : tie.Need-enum-known-r-2
-enum-known-r-2 c = search needs
+enum-known-reading-2 : tie.Need-enum-known-reading-2
+enum-known-reading-2 c = search needs
 
 refusal-requires : tie.Need-refusal-requires
 refusal-requires c κs = search needs
@@ -30,9 +30,9 @@ count-messages-spec =
     tie.close
     (tie.spec
     read-token-requires
-    enum-known-r
+    enum-known-reading
     number-requires
-    enum-known-r-2
+    enum-known-reading-2
     refusal-requires
     returns
     returns-2)

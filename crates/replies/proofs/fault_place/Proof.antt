@@ -13,8 +13,8 @@ enum-told c = search needs
 number-requires : tie.Need-number-requires
 number-requires c κs = search needs
 
-enum-known-r : tie.Need-enum-known-r
-enum-known-r c = search needs
+enum-known-reading : tie.Need-enum-known-reading
+enum-known-reading c = search needs
 
 wide-number-requires : tie.Need-wide-number-requires
 wide-number-requires c κs = search answers
@@ -32,7 +32,7 @@ fault-place-spec =
     read-token-requires
     enum-told
     number-requires
-    enum-known-r
+    enum-known-reading
     wide-number-requires
     returns
     returns-2)

@@ -10,8 +10,8 @@ read-token-requires c κs = search needs
 enum-told : tie.Need-enum-told
 enum-told c = search needs
 
-enum-known-r : tie.Need-enum-known-r
-enum-known-r c = search needs
+enum-known-reading : tie.Need-enum-known-reading
+enum-known-reading c = search needs
 
 returns : tie.Need-returns
 returns c = search lacks
@@ -20,4 +20,4 @@ returns-2 : tie.Need-returns-2
 returns-2 c = search lacks
 
 pub lack-spec : {M : Type 1} → statement M
-lack-spec = tie.close (tie.spec read-token-requires enum-told enum-known-r returns returns-2)
+lack-spec = tie.close (tie.spec read-token-requires enum-told enum-known-reading returns returns-2)

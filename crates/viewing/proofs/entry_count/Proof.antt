@@ -17,8 +17,8 @@ count-entries-requires c κs = search answers
 wide-number-requires : tie.Need-wide-number-requires
 wide-number-requires c κs = search (windows, answers)
 
-enum-known-r : tie.Need-enum-known-r
-enum-known-r c = search needs
+enum-known-reading : tie.Need-enum-known-reading
+enum-known-reading c = search needs
 
 refusal-requires : tie.Need-refusal-requires
 refusal-requires c κs = search needs
@@ -37,7 +37,7 @@ entry-count-spec =
     enum-told
     count-entries-requires
     wide-number-requires
-    enum-known-r
+    enum-known-reading
     refusal-requires
     returns
     returns-2)

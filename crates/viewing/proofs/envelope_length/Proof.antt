@@ -7,14 +7,14 @@ use Rattle.viewing.proofs.envelope_length.Tie as tie
 find-token-requires : tie.Need-find-token-requires
 find-token-requires c κs = search needs
 
-enum-known-r : tie.Need-enum-known-r
-enum-known-r c = search needs
+enum-known-carried : tie.Need-enum-known-carried
+enum-known-carried c = search needs
 
 number-requires : tie.Need-number-requires
 number-requires c κs = search needs
 
-enum-known-r-2 : tie.Need-enum-known-r-2
-enum-known-r-2 c = search needs
+enum-known-carried-2 : tie.Need-enum-known-carried-2
+enum-known-carried-2 c = search needs
 
 refusal-requires : tie.Need-refusal-requires
 refusal-requires c κs = search needs
@@ -30,9 +30,9 @@ envelope-length-spec =
     tie.close
     (tie.spec
     find-token-requires
-    enum-known-r
+    enum-known-carried
     number-requires
-    enum-known-r-2
+    enum-known-carried-2
     refusal-requires
     returns
     returns-2)
