@@ -14,19 +14,19 @@ pub enum Loaded {
 fn fill(fd: i32, buf: &mut [u8]) -> Loaded
     ensures { λ r. ⌜ holds r (now (buf .exit)) ⌝ }
 {
-    let mut n = 0;
-    while n < buf.len() {
-        let got = libc::read(fd, &mut buf[n..]);
+    let mut count = 0;
+    while count < buf.len() {
+        let got = libc::read(fd, &mut buf[count..]);
         if got < 0 {
             return Loaded::Nothing;
         }
-        let more = io::count(got, &buf[n..]);
+        let more = io::count(got, &buf[count..]);
         if more == 0 {
-            return Loaded::Octets(n);
+            return Loaded::Octets(count);
         }
-        n += more;
+        count += more;
     }
-    Loaded::Octets(n)
+    Loaded::Octets(count)
 }
 
 // The octets of the file with a name, from its first on, as many as the buffer has room for. What is read is the system's to say.
@@ -37,9 +37,9 @@ pub fn load(name: &[u8], buf: &mut [u8]) -> Loaded
     if fd < 0 {
         return Loaded::Nothing;
     }
-    let r = fill(fd, buf);
+    let loaded = fill(fd, buf);
     libc::close(fd);
-    r
+    loaded
 }
 
 // Writes the listing of a token, window by window, and answers the number of its lines.
@@ -49,13 +49,13 @@ pub fn print(fd: i32, token: &[u8]) -> usize
     let mut text = [0u8; 65536];
     let mut first: usize = 0;
     loop {
-        let w = listing::window(token, first, 18446744073709551615, &mut text);
-        if w.lines == 0 {
+        let window = listing::window(token, first, 18446744073709551615, &mut text);
+        if window.lines == 0 {
             return first;
         }
-        let octets = w.octets;
+        let octets = window.octets;
         io::write_all(fd, &text[..octets]);
-        first += w.lines;
+        first += window.lines;
     }
 }
 

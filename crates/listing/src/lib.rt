@@ -35,8 +35,8 @@ fn show_line(p: Progress, d: &mut [u8], place: TokenPlace, m: &[u8], index: usiz
         (joined (getD (messageLines (place .0) (now (m .entry))) index [])) ⌝ }
 {
     let mut text = [0u8; 128];
-    let k = message_text(&mut text, place, m, index);
-    put_line(p, d, &text[..k])
+    let end = message_text(&mut text, place, m, index);
+    put_line(p, d, &text[..end])
 }
 
 // The last line of an accepted token.
@@ -45,8 +45,8 @@ pub fn show_end(p: Progress, d: &mut [u8], n: u32, octets: usize) -> Progress
     ensures { λ r. ⌜ within r (now (d .exit)) ≡ step (within p (now (d .entry))) (joined (endLine n octets)) ⌝ }
 {
     let mut text = [0u8; 128];
-    let k = end_text(&mut text, n, octets);
-    put_line(p, d, &text[..k])
+    let end = end_text(&mut text, n, octets);
+    put_line(p, d, &text[..end])
 }
 
 // The only line of a refused token.
@@ -55,8 +55,8 @@ pub fn show_refusal(p: Progress, d: &mut [u8], n: u32, place: TokenPlace) -> Pro
     ensures { λ r. ⌜ within r (now (d .exit)) ≡ step (within p (now (d .entry))) (joined (refusedLine n (place .0))) ⌝ }
 {
     let mut text = [0u8; 128];
-    let k = refused_text(&mut text, n, place);
-    put_line(p, d, &text[..k])
+    let end = refused_text(&mut text, n, place);
+    put_line(p, d, &text[..end])
 }
 
 // The lines of the message m from an index on.
@@ -66,16 +66,16 @@ fn show_lines(p: Progress, d: &mut [u8], place: TokenPlace, m: &[u8], first: usi
     ensures { λ r. ⌜ within r (now (d .exit)) ≡ steps (drop first (texts (messageLines (place .0) (now (m .entry))))) (within p (now (d .entry))) ⌝ }
 {
     let count = count(m);
-    let mut q = p;
+    let mut progress = p;
     let mut index = first;
     while index < count {
-        if q.left == 0 {
-            return q;
+        if progress.left == 0 {
+            return progress;
         }
-        q = show_line(q, d, place, m, index);
+        progress = show_line(progress, d, place, m, index);
         index += 1;
     }
-    q
+    progress
 }
 
 // All lines of the message m at a place. A message that lies before the window costs one count.
@@ -111,31 +111,31 @@ fn show_messages(p: Progress, d: &mut [u8], token: &[u8]) -> Progress
     requires { ⌜ Going p (length (now d)) ⌝ }
     ensures { λ r. ⌜ within r (now (d .exit)) ≡ steps (texts (allLines (messagesOf (tokenOf (now (token .entry)))))) (within p (now (d .entry))) ⌝ }
 {
-    let mut q = p;
+    let mut progress = p;
     let mut rest = token;
     let mut place = TokenPlace(0);
     while 0 < rest.len() {
         let m = first(rest);
         let length = m.len();
         let end = length as u32;
-        q = show_message(q, d, place, m);
+        progress = show_message(progress, d, place, m);
         place = in_token(place, MessageOffset(end));
         rest = &rest[length..];
     }
-    q
+    progress
 }
 
 // A window of the listing: as many whole lines from `from` up to, not including, `end` as fit stand at the buffer's front.
 pub fn window(token: &[u8], from: usize, end: usize, d: &mut [u8]) -> Shown
     ensures { λ r. ⌜ asWindow r (now (d .exit)) ≡ windowOf (linesOf (now (token .entry))) from end (now (d .entry)) ⌝ }
 {
-    let p = start(from, end);
-    let r = read_token(token);
-    match r {
+    let progress = start(from, end);
+    let reading = read_token(token);
+    match reading {
         Answer::Messages(n) => {
-            let q = show_messages(p, d, token);
-            finish(show_end(q, d, n, token.len()))
+            let listed = show_messages(progress, d, token);
+            finish(show_end(listed, d, n, token.len()))
         }
-        Answer::Refused(n, place) => finish(show_refusal(p, d, n, place)),
+        Answer::Refused(n, place) => finish(show_refusal(progress, d, n, place)),
     }
 }

@@ -12,13 +12,13 @@ pub fn print(fd: i32, file: &[u8]) -> usize
     let mut text = [0u8; 65536];
     let mut first: usize = 0;
     loop {
-        let w = recovery::window(file, first, 18446744073709551615, &mut text);
-        if w.lines == 0 {
+        let window = recovery::window(file, first, 18446744073709551615, &mut text);
+        if window.lines == 0 {
             return first;
         }
-        let octets = w.octets;
+        let octets = window.octets;
         io::write_all(fd, &text[..octets]);
-        first += w.lines;
+        first += window.lines;
     }
 }
 

@@ -49,8 +49,8 @@ fn show_stretch(p: Progress, d: &mut [u8], from: TokenPlace, to: TokenPlace) -> 
         return p;
     }
     let mut line = [0u8; 128];
-    let k = skipped_text(&mut line, from, to.0 - from.0);
-    put_line(p, d, &line[..k])
+    let end = skipped_text(&mut line, from, to.0 - from.0);
+    put_line(p, d, &line[..end])
 }
 
 // One turn: the message at the front of `rest` is taken, or else one octet is skipped.
@@ -59,8 +59,8 @@ fn advance(s: Scan, d: &mut [u8], rest: &[u8]) -> Scan
     requires { ⌜ Going (s .progress) (length (now d)) ⌝ }
     ensures { λ r. ⌜ scanned r (now (d .exit)) ≡ advanced (now (rest .entry)) s (now (d .entry)) ⌝ }
 {
-    let r = read_message(rest);
-    let Read::Message(h) = r else {
+    let reading = read_message(rest);
+    let Read::Message(h) = reading else {
         let progress = s.progress;
         let end = s.end;
         let next = s.place.0 + 1;
@@ -90,23 +90,23 @@ fn show_pieces(p: Progress, d: &mut [u8], file: &[u8]) -> Scan
     requires { ⌜ Going p (length (now d)) ⌝ }
     ensures { λ r. ⌜ ShowsPieces (now (file .entry)) (within p (now (d .entry))) r (now (d .exit)) ⌝ }
 {
-    let mut s = Scan {
+    let mut scan = Scan {
         progress: p,
         place: TokenPlace(0),
         end: TokenPlace(0),
         taken: 0,
     };
-    while s.place.0 < file.len() {
-        let at = s.place.0;
-        s = advance(s, d, &file[at..]);
+    while scan.place.0 < file.len() {
+        let at = scan.place.0;
+        scan = advance(scan, d, &file[at..]);
     }
-    let progress = show_stretch(s.progress, d, s.end, s.place);
-    let place = s.place;
+    let progress = show_stretch(scan.progress, d, scan.end, scan.place);
+    let place = scan.place;
     Scan {
         progress,
         place,
         end: place,
-        taken: s.taken,
+        taken: scan.taken,
     }
 }
 
@@ -114,10 +114,10 @@ fn show_pieces(p: Progress, d: &mut [u8], file: &[u8]) -> Scan
 pub fn window(file: &[u8], from: usize, end: usize, d: &mut [u8]) -> Shown
     ensures { λ r. ⌜ asWindow r (now (d .exit)) ≡ windowOf (recoveredLines (now (file .entry))) from end (now (d .entry)) ⌝ }
 {
-    let p = start(from, end);
+    let progress = start(from, end);
     if 65535 < file.len() {
-        return finish(show_refusal(p, d, 1, TokenPlace(0)));
+        return finish(show_refusal(progress, d, 1, TokenPlace(0)));
     }
-    let s = show_pieces(p, d, file);
-    finish(show_end(s.progress, d, s.taken, file.len()))
+    let scan = show_pieces(progress, d, file);
+    finish(show_end(scan.progress, d, scan.taken, file.len()))
 }

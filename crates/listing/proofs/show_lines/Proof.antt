@@ -12,12 +12,13 @@ use Rattle.listing.proofs.show_lines.Statement.{statement}
 use Rattle.listing.proofs.show_lines.Tie as tie
 
 abbrev Inv-loop : tie.InvT-loop
-Inv-loop d₀ place m first count q₀ index₀ d q index =
-    (length d ≡ length d₀) × (Going q (length d₀))
-    × (steps (drop index₀ (texts (messageLines (place .0) m))) (within q₀ d₀) ≡ steps (drop index (texts (messageLines (place .0) m))) (within q d))
+Inv-loop d₀ place m first count progress₀ index₀ d progress index =
+    (length d ≡ length d₀) × (Going progress (length d₀))
+    × (steps (drop index₀ (texts (messageLines (place .0) m))) (within progress₀ d₀)
+    ≡ steps (drop index (texts (messageLines (place .0) m))) (within progress d))
 
 abbrev μ-loop : tie.MeasureT-loop
-μ-loop d₀ place m first count q₀ index₀ d q index = count - index
+μ-loop d₀ place m first count progress₀ index₀ d progress index = count - index
 
 count-requires : tie.Need-count-requires Inv-loop μ-loop
 count-requires c κs = search needs

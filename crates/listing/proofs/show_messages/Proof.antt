@@ -14,12 +14,12 @@ use Rattle.listing.proofs.show_messages.Statement.{statement}
 use Rattle.listing.proofs.show_messages.Tie as tie
 
 abbrev Inv-loop : tie.InvT-loop
-Inv-loop d₀ token q₀ rest₀ place₀ d q rest place =
-    (length token ≤ 65535) × (length d ≡ length d₀) × (Going q (length d₀)) × (place .0 + length rest ≡ length token)
-    × Going-on (steps (texts (allLines (messagesOf (tokenOf token)))) (within q₀ d₀)) rest (place .0) (within q d)
+Inv-loop d₀ token progress₀ rest₀ place₀ d progress rest place =
+    (length token ≤ 65535) × (length d ≡ length d₀) × (Going progress (length d₀)) × (place .0 + length rest ≡ length token)
+    × Going-on (steps (texts (allLines (messagesOf (tokenOf token)))) (within progress₀ d₀)) rest (place .0) (within progress d)
 
 abbrev μ-loop : tie.MeasureT-loop
-μ-loop d₀ token q₀ rest₀ place₀ d q rest place = length rest
+μ-loop d₀ token progress₀ rest₀ place₀ d progress rest place = length rest
 
 loop-holds : tie.Need-loop-holds Inv-loop μ-loop
 loop-holds c = (search turns, refl, search needs, search needs, search turns)

@@ -12,8 +12,8 @@ start-requires c κs = search needs
 read-token-requires : tie.Need-read-token-requires
 read-token-requires c κs = search needs
 
-enum-known-r : tie.Need-enum-known-r
-enum-known-r c = search needs
+enum-known-reading : tie.Need-enum-known-reading
+enum-known-reading c = search needs
 
 show-messages-requires : tie.Need-show-messages-requires
 show-messages-requires c κs = (
@@ -31,8 +31,8 @@ show-end-requires c κs =
 finish-requires : tie.Need-finish-requires
 finish-requires c κs = search needs
 
-enum-known-r-2 : tie.Need-enum-known-r-2
-enum-known-r-2 c = search needs
+enum-known-reading-2 : tie.Need-enum-known-reading-2
+enum-known-reading-2 c = search needs
 
 show-refusal-requires : tie.Need-show-refusal-requires
 show-refusal-requires c κs =
@@ -60,11 +60,11 @@ window-spec =
     (tie.spec
     start-requires
     read-token-requires
-    enum-known-r
+    enum-known-reading
     show-messages-requires
     show-end-requires
     finish-requires
-    enum-known-r-2
+    enum-known-reading-2
     show-refusal-requires
     finish-requires-2
     same-length

@@ -8,8 +8,8 @@ use Rattle.recovery.proofs.advance.Tie as tie
 read-message-requires : tie.Need-read-message-requires
 read-message-requires c κs = search needs
 
-enum-known-r : tie.Need-enum-known-r
-enum-known-r c = search needs
+enum-known-reading : tie.Need-enum-known-reading
+enum-known-reading c = search needs
 
 enum-told : tie.Need-enum-told
 enum-told c = search needs
@@ -49,7 +49,7 @@ advance-spec =
     tie.close
     (tie.spec
     read-message-requires
-    enum-known-r
+    enum-known-reading
     enum-told
     add-next
     returns

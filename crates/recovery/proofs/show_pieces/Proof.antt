@@ -11,11 +11,11 @@ use Rattle.recovery.proofs.show_pieces.Statement.{statement}
 use Rattle.recovery.proofs.show_pieces.Tie as tie
 
 abbrev Inv-loop : tie.InvT-loop
-Inv-loop d₀ file s₀ d s =
-    (length d ≡ length d₀) × OnWay file (steps (texts (allPieceLines (piecesOf file))) (within (s₀ .progress) d₀)) (length (takenOf file)) s d
+Inv-loop d₀ file scan₀ d scan =
+    (length d ≡ length d₀) × OnWay file (steps (texts (allPieceLines (piecesOf file))) (within (scan₀ .progress) d₀)) (length (takenOf file)) scan d
 
 abbrev μ-loop : tie.MeasureT-loop
-μ-loop d₀ file s₀ d s = length file - s .place .0
+μ-loop d₀ file scan₀ d scan = length file - scan .place .0
 
 loop-holds : tie.Need-loop-holds Inv-loop μ-loop
 loop-holds c = (refl, search ways)
