@@ -69,9 +69,9 @@ pub fn has_room(used: usize, header: usize, n: usize, len: usize) -> bool
 pub fn stage_refusal(r: Record, class: u8) -> u32
     ensures { λ a. ⌜ a ≡ stageRefusal r class ⌝ }
 {
-    let n = outside(r);
-    if n != 0 {
-        return n;
+    let number = outside(r);
+    if number != 0 {
+        return number;
     }
     if own_place(r, class) == 0 {
         return 18;
@@ -93,14 +93,14 @@ pub fn in_reply(r: Record, id: &[u8]) -> bool
     requires { ⌜ Inside r ⌝ }
     ensures { λ a. ⌜ a ≡ mem (now (id .entry)) (replied r) ⌝ }
 {
-    let k = find_own(r, id);
-    if r.count <= k {
+    let place = find_own(r, id);
+    if r.count <= place {
         return false;
     }
-    if bit_of(r.common, k as u32) {} else {
+    if bit_of(r.common, place as u32) {} else {
         return false;
     }
-    if bit_of(r.marks, k as u32) {
+    if bit_of(r.marks, place as u32) {
         return false;
     }
     true
