@@ -85,14 +85,14 @@ fn is_named(s: &[u8], count: u32, id: &[u8]) -> bool
         if rest.len() < SCHEME_END {
             return false;
         }
-        let n = message_length(rest);
-        if names(rest, n, id) {
+        let length = message_length(rest);
+        if names(rest, length, id) {
             return true;
         }
-        if rest.len() < n {
+        if rest.len() < length {
             return false;
         }
-        rest = &rest[n..];
+        rest = &rest[length..];
         left -= 1;
     }
     false

@@ -27,20 +27,20 @@ use vector::TokenPlace;
 use vector::in_token;
 
 // A message that 2 to 13 refuse, at its place.
-fn cut_at(m: Read, place: TokenPlace) -> Judgement
-    ensures { λ a. ⌜ judgedAs a ≡ cutBy (said m) (place .0) ⌝ }
+fn cut_at(reading: Read, place: TokenPlace) -> Judgement
+    ensures { λ a. ⌜ judgedAs a ≡ cutBy (said reading) (place .0) ⌝ }
 {
-    match m {
+    match reading {
         Read::Refused(n) => Judgement::Halted(n, place),
         Read::Message(_) => Judgement::Halted(0, place),
     }
 }
 
 // A message that 14 or 15 stop, at its place.
-fn halted_at(a: Admission, place: TokenPlace) -> Judgement
-    ensures { λ j. ⌜ judgedAs j ≡ haltedBy (admitted a) (place .0) ⌝ }
+fn halted_at(admission: Admission, place: TokenPlace) -> Judgement
+    ensures { λ j. ⌜ judgedAs j ≡ haltedBy (admitted admission) (place .0) ⌝ }
 {
-    match a {
+    match admission {
         Admission::Stop(n) => Judgement::Halted(n, place),
         Admission::On(_) => Judgement::Halted(0, place),
     }
@@ -68,24 +68,24 @@ fn judge_messages(r: Record, t: &[u8], conversation: &[u8]) -> Judgement
     let mut place = TokenPlace(0);
     let mut sequence = r.sequence as u64;
     let mut scan = start_of(r);
-    let mut n: u32 = 0;
+    let mut count: u32 = 0;
     while 0 < rest.len() {
-        let m = read_next(rest, sequence, conversation);
-        let Read::Message(h) = m else {
-            return cut_at(m, place);
+        let reading = read_next(rest, sequence, conversation);
+        let Read::Message(h) = reading else {
+            return cut_at(reading, place);
         };
         let length = h.length as usize;
-        let a = admit_message(r, t, scan, &rest[..length]);
-        let Admission::On(next) = a else {
-            return halted_at(a, place);
+        let admission = admit_message(r, t, scan, &rest[..length]);
+        let Admission::On(next) = admission else {
+            return halted_at(admission, place);
         };
         rest = &rest[length..];
         place = in_token(place, MessageOffset(h.length));
         sequence += 1;
         scan = next;
-        n += 1;
+        count += 1;
     }
-    Judgement::Whole(n, scan)
+    Judgement::Whole(count, scan)
 }
 
 // The conversation that a token's messages must have: an acceptor takes it from the first.

@@ -57,26 +57,26 @@ fn closed_by(number: u32, r: Record) -> Record
 }
 
 // A token's refusal, at its place.
-fn refuse_halted(r: Record, j: Judgement) -> Answer
-    ensures { λ a. ⌜ a ≡ haltedAs r (judgedAs j) ⌝ }
+fn refuse_halted(r: Record, judgement: Judgement) -> Answer
+    ensures { λ a. ⌜ a ≡ haltedAs r (judgedAs judgement) ⌝ }
 {
-    match j {
+    match judgement {
         Judgement::Halted(number, place) => answer(number, place, closed_by(number, r)),
         Judgement::Whole(_, _) => answer(0, TokenPlace(0), r),
     }
 }
 
 // An accepted token: put at the transcript's end, and taken into the record.
-fn accept(r: Record, transcript: &mut [u8], t: &[u8], n: u32, c: Scan) -> Answer
-    requires { ⌜ Taking r (length (now t)) n × (r .used + length (now t) ≤ length (now transcript)) ⌝ }
-    ensures { λ a. ⌜ leaving a (now (transcript .exit)) ≡ accepted r (now (transcript .entry)) (now (t .entry)) n c ⌝ }
+fn accept(r: Record, transcript: &mut [u8], t: &[u8], messages: u32, scan: Scan) -> Answer
+    requires { ⌜ Taking r (length (now t)) messages × (r .used + length (now t) ≤ length (now transcript)) ⌝ }
+    ensures { λ a. ⌜ leaving a (now (transcript .exit)) ≡ accepted r (now (transcript .entry)) (now (t .entry)) messages scan ⌝ }
 {
     put_octets(transcript, r.used, t);
-    let next = taken_record(r, t, n, c);
+    let next = taken_record(r, t, messages, scan);
     Answer {
         refusal: 0,
         place: TokenPlace(0),
-        messages: n,
+        messages: messages,
         choice: [0u8; 16],
         left: 0,
         next,
@@ -84,17 +84,17 @@ fn accept(r: Record, transcript: &mut [u8], t: &[u8], n: u32, c: Scan) -> Answer
 }
 
 // 16, after all messages.
-fn finish_token(r: Record, transcript: &mut [u8], t: &[u8], j: Judgement) -> Answer
-    requires { ⌜ Judging r (now t) j ⌝ }
-    ensures { λ a. ⌜ leaving a (now (transcript .exit)) ≡ finish r (now (transcript .entry)) (now (t .entry)) (judgedAs j) ⌝ }
+fn finish_token(r: Record, transcript: &mut [u8], t: &[u8], judgement: Judgement) -> Answer
+    requires { ⌜ Judging r (now t) judgement ⌝ }
+    ensures { λ a. ⌜ leaving a (now (transcript .exit)) ≡ finish r (now (transcript .entry)) (now (t .entry)) (judgedAs judgement) ⌝ }
 {
-    let Judgement::Whole(n, c) = j else {
-        return refuse_halted(r, j);
+    let Judgement::Whole(messages, scan) = judgement else {
+        return refuse_halted(r, judgement);
     };
     if has_room(r.used, 0, t.len(), transcript.len()) {} else {
         return answer(16, TokenPlace(0), r);
     }
-    accept(r, transcript, t, n, c)
+    accept(r, transcript, t, messages, scan)
 }
 
 // A peer's token, read into the record and put at the transcript's end.
@@ -105,6 +105,6 @@ pub fn read(r: Record, transcript: &mut [u8], token: &[u8]) -> Answer
     if number != 0 {
         return answer(number, TokenPlace(0), r);
     }
-    let j = judge_token(r, token);
-    finish_token(r, transcript, token, j)
+    let judgement = judge_token(r, token);
+    finish_token(r, transcript, token, judgement)
 }

@@ -4,8 +4,8 @@ use borrow.Author.Needs.{needs}
 use Rattle.receiving.proofs.finish_token.Statement.{statement}
 use Rattle.receiving.proofs.finish_token.Tie as tie
 
-enum-known-j : tie.Need-enum-known-j
-enum-known-j c = search needs
+enum-known-judgement : tie.Need-enum-known-judgement
+enum-known-judgement c = search needs
 
 enum-told : tie.Need-enum-told
 enum-told c = search needs
@@ -38,7 +38,7 @@ pub finish-token-spec : {M : Type 1} → statement M
 finish-token-spec =
     tie.close
     (tie.spec
-    enum-known-j
+    enum-known-judgement
     enum-told
     refuse-halted-requires
     returns

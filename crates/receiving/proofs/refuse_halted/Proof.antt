@@ -4,8 +4,8 @@ use borrow.Author.Needs.{needs}
 use Rattle.receiving.proofs.refuse_halted.Statement.{statement}
 use Rattle.receiving.proofs.refuse_halted.Tie as tie
 
-enum-known-j : tie.Need-enum-known-j
-enum-known-j c = search needs
+enum-known-judgement : tie.Need-enum-known-judgement
+enum-known-judgement c = search needs
 
 closed-by-requires : tie.Need-closed-by-requires
 closed-by-requires c κs = search needs
@@ -27,4 +27,4 @@ returns-2 c = search finishes
 
 pub refuse-halted-spec : {M : Type 1} → statement M
 refuse-halted-spec =
-    tie.close (tie.spec enum-known-j closed-by-requires answer-requires enum-told answer-requires-2 returns returns-2)
+    tie.close (tie.spec enum-known-judgement closed-by-requires answer-requires enum-told answer-requires-2 returns returns-2)

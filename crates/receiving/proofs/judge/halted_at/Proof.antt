@@ -4,8 +4,8 @@ use borrow.Author.Needs.{needs}
 use Rattle.receiving.proofs.judge.halted_at.Statement.{statement}
 use Rattle.receiving.proofs.judge.halted_at.Tie as tie
 
-enum-known-a : tie.Need-enum-known-a
-enum-known-a c = search needs
+enum-known-admission : tie.Need-enum-known-admission
+enum-known-admission c = search needs
 
 enum-told : tie.Need-enum-told
 enum-told c = search needs
@@ -17,4 +17,4 @@ returns-2 : tie.Need-returns-2
 returns-2 c = search refusals
 
 pub halted-at-spec : {M : Type 1} → statement M
-halted-at-spec = tie.close (tie.spec enum-known-a enum-told returns returns-2)
+halted-at-spec = tie.close (tie.spec enum-known-admission enum-told returns returns-2)

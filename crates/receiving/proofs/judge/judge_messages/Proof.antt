@@ -11,12 +11,12 @@ use Rattle.receiving.proofs.judge.judge_messages.Statement.{statement}
 use Rattle.receiving.proofs.judge.judge_messages.Tie as tie
 
 abbrev Inv-loop : tie.InvT-loop
-Inv-loop r t conversation rest₀ place₀ sequence₀ scan₀ n₀ rest place sequence scan n =
-    (n + length rest ≤ length t) × (place .0 + length rest ≡ length t) × (sequence ≡ r .sequence + n) × (scan .named ≤ n)
-    × (judge r t 0 (startOf r) (chainOf t 0 0 (r .sequence) conversation) ≡ judge r t n scan (chainOf rest 0 (place .0) sequence conversation))
+Inv-loop r t conversation rest₀ place₀ sequence₀ scan₀ count₀ rest place sequence scan count =
+    (count + length rest ≤ length t) × (place .0 + length rest ≡ length t) × (sequence ≡ r .sequence + count) × (scan .named ≤ count)
+    × (judge r t 0 (startOf r) (chainOf t 0 0 (r .sequence) conversation) ≡ judge r t count scan (chainOf rest 0 (place .0) sequence conversation))
 
 abbrev μ-loop : tie.MeasureT-loop
-μ-loop r t conversation rest₀ place₀ sequence₀ scan₀ n₀ rest place sequence scan n = length rest
+μ-loop r t conversation rest₀ place₀ sequence₀ scan₀ count₀ rest place sequence scan count = length rest
 
 cast-sequence : tie.Need-cast-sequence Inv-loop μ-loop
 cast-sequence c = search needs
@@ -30,8 +30,8 @@ loop-holds c = (search needs, search needs, search needs, search judgings, searc
 read-next-requires : tie.Need-read-next-requires Inv-loop μ-loop
 read-next-requires c κs = search needs
 
-enum-known-m : tie.Need-enum-known-m Inv-loop μ-loop
-enum-known-m c = search needs
+enum-known-reading : tie.Need-enum-known-reading Inv-loop μ-loop
+enum-known-reading c = search needs
 
 enum-told : tie.Need-enum-told Inv-loop μ-loop
 enum-told c = search needs
@@ -47,13 +47,13 @@ cast-length c = search needs
 
 slice-aggregate-admit-message : tie.Need-slice-aggregate-admit-message Inv-loop μ-loop
 slice-aggregate-admit-message c =
-    whole-length _ _ _ _ (c .before .before .before .before .before .read-next .ensures) _ (c .before .before .before .m .given .1)
+    whole-length _ _ _ _ (c .before .before .before .before .before .read-next .ensures) _ (c .before .before .before .reading .given .1)
 
 admit-message-requires : tie.Need-admit-message-requires Inv-loop μ-loop
 admit-message-requires c κs = (search needs, search needs, search judgings)
 
-enum-known-a : tie.Need-enum-known-a Inv-loop μ-loop
-enum-known-a c = search needs
+enum-known-admission : tie.Need-enum-known-admission Inv-loop μ-loop
+enum-known-admission c = search needs
 
 enum-told-2 : tie.Need-enum-told-2 Inv-loop μ-loop
 enum-told-2 c = search needs
@@ -79,7 +79,7 @@ in-token-requires c κs =
     let back10 = back8 .before .before in
     let back12 = back10 .before .before in
     let back17 = back12 .before .before .before .before .before in
-    place-fits _ _ _ _ (back10 .read-next .ensures) _ (back8 .m .given .1) _ _ (back12 .loop .inv .1) (back17 .pre .1)
+    place-fits _ _ _ _ (back10 .read-next .ensures) _ (back8 .reading .given .1) _ _ (back12 .loop .inv .1) (back17 .pre .1)
 
 add-sequence : tie.Need-add-sequence Inv-loop μ-loop
 add-sequence c =
@@ -88,8 +88,8 @@ add-sequence c =
     let back18 = back13 .before .before .before .before .before in
     omega (arith, back13 .loop .inv, back18 .pre)
 
-add-n : tie.Need-add-n Inv-loop μ-loop
-add-n c =
+add-count : tie.Need-add-count Inv-loop μ-loop
+add-count c =
     let back10 = c .before .before .before .before .before .before .before .before .before .before in
     let back13 = back10 .before .before .before in
     let back18 = back13 .before .before .before .before .before in
@@ -114,14 +114,14 @@ judge-messages-spec =
     start-of-requires
     loop-holds
     read-next-requires
-    enum-known-m
+    enum-known-reading
     enum-told
     cut-at-requires
     returns
     cast-length
     slice-aggregate-admit-message
     admit-message-requires
-    enum-known-a
+    enum-known-admission
     enum-told-2
     halted-at-requires
     returns-2
@@ -130,7 +130,7 @@ judge-messages-spec =
     part-rest-end
     in-token-requires
     add-sequence
-    add-n
+    add-count
     loop-less
     loop-again
     returns-3)
