@@ -31,9 +31,9 @@ fn counts_for(early: bool, place: usize, requested: usize) -> bool
 pub fn choice_refusal(r: Record, class: u8, marks: u16, fit: bool) -> u32
     ensures { λ a. ⌜ a ≡ callRefusal r (choiceRows r marks fit class) ⌝ }
 {
-    let n = outside(r);
-    if n != 0 {
-        return n;
+    let number = outside(r);
+    if number != 0 {
+        return number;
     }
     if r.acceptor {
         return 18;

@@ -61,7 +61,7 @@ pub(crate) fn append_nego(
         (now (transcript .exit)) a ⌝ }
 {
     let heading = heading_of(r, Class::NEGO);
-    let n = schemes.len();
+    let length = schemes.len();
     let size = size_of(extensions, values);
     write(
         transcript,
@@ -72,5 +72,5 @@ pub(crate) fn append_nego(
         extensions,
         values,
     );
-    after_message(r, Class::NEGO, HEADER + n + size)
+    after_message(r, Class::NEGO, HEADER + length + size)
 }

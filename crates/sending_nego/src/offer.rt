@@ -25,16 +25,16 @@ fn offer_refusal(r: Record, test: bool, extensions: Elements, values: &[u8], len
     ensures { λ a. ⌜ a ≡ writeRefusal r NEGO (offerRows r (tested test extensions (now (values .entry))))
         (96 + 16 * r .count + handedSize extensions (now (values .entry))) len ⌝ }
 {
-    let n = stage_refusal(r, Class::NEGO);
-    if n != 0 {
-        return n;
+    let stage = stage_refusal(r, Class::NEGO);
+    if stage != 0 {
+        return stage;
     }
     if r.acceptor {
         return 18;
     }
-    let x = extension_refusal(test, extensions, values);
-    if x != 0 {
-        return x;
+    let extension = extension_refusal(test, extensions, values);
+    if extension != 0 {
+        return extension;
     }
     let size = size_of(extensions, values);
     if has_room(r.used, HEADER + field::ID * r.count, size, len) {} else {
@@ -55,9 +55,9 @@ pub fn write_offer(
     ensures { λ a. ⌜ leaving a (now (transcript .exit)) ≡ offering r (now (transcript .entry))
         (negoContent random test extensions (now (values .entry))) ⌝ }
 {
-    let n = offer_refusal(r, test, extensions, values, transcript.len());
-    if n != 0 {
-        return answer(n, TokenPlace(0), r);
+    let number = offer_refusal(r, test, extensions, values, transcript.len());
+    if number != 0 {
+        return answer(number, TokenPlace(0), r);
     }
     let list = r.list;
     let end = field::ID * r.count;

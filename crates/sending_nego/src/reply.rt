@@ -42,9 +42,9 @@ fn reply_refusal(
     ensures { λ a. ⌜ a ≡ writeRefusal r NEGO (replyRows r marks (tested test extensions (now (values .entry))))
         (96 + 16 * length (left (ownOf r) (r .common) marks) + handedSize extensions (now (values .entry))) len ⌝ }
 {
-    let n = stage_refusal(r, Class::NEGO);
-    if n != 0 {
-        return n;
+    let stage = stage_refusal(r, Class::NEGO);
+    if stage != 0 {
+        return stage;
     }
     if r.acceptor {} else {
         return 18;
@@ -52,9 +52,9 @@ fn reply_refusal(
     if within(marks, r.count as u32) {} else {
         return 19;
     }
-    let x = extension_refusal(test, extensions, values);
-    if x != 0 {
-        return x;
+    let extension = extension_refusal(test, extensions, values);
+    if extension != 0 {
+        return extension;
     }
     let left = choose_own(r.common, marks);
     if left.left == 0 {
@@ -83,9 +83,9 @@ fn reply_with(
         (marking marks r)) ⌝ }
 {
     let list = r.list;
-    let s = gather(list, r.count, r.common & !marks);
-    let end = field::ID * s.count as usize;
-    let octets = s.octets;
+    let schemes = gather(list, r.count, r.common & !marks);
+    let end = field::ID * schemes.count as usize;
+    let octets = schemes.octets;
     let mut next = append_nego(r, transcript, random, &octets[..end], extensions, values);
     next.marks = marks;
     let choice = choose_own(r.common, marks);
@@ -106,9 +106,9 @@ pub fn write_reply(
     ensures { λ a. ⌜ leaving a (now (transcript .exit)) ≡ replying r (now (transcript .entry)) marks
         (negoContent random test extensions (now (values .entry))) ⌝ }
 {
-    let n = reply_refusal(r, marks, test, extensions, values, transcript.len());
-    if n != 0 {
-        return answer(n, TokenPlace(0), r);
+    let number = reply_refusal(r, marks, test, extensions, values, transcript.len());
+    if number != 0 {
+        return answer(number, TokenPlace(0), r);
     }
     reply_with(r, transcript, marks, random, extensions, values)
 }
