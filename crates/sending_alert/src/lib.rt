@@ -61,9 +61,9 @@ pub fn write_alert(
 {
     let fit = fits(alerts, values);
     let size = size_of(alerts, values);
-    let n = named_refusal(r, Class::ALERT, fit, HEADER, size, transcript.len());
-    if n != 0 {
-        return answer(n, TokenPlace(0), r);
+    let number = named_refusal(r, Class::ALERT, fit, HEADER, size, transcript.len());
+    if number != 0 {
+        return answer(number, TokenPlace(0), r);
     }
     let id = scheme_id(r);
     let next = append_alert(r, transcript, id, code, alerts, values);
@@ -83,11 +83,11 @@ pub fn choose_alert(
         (alarm (alertContent code alerts (now (values .entry)))) ⌝ }
 {
     let fit = fits(alerts, values);
-    let n = choice_refusal(r, Class::ALERT, marks, fit);
-    if n != 0 {
-        return answer(n, TokenPlace(0), r);
+    let number = choice_refusal(r, Class::ALERT, marks, fit);
+    if number != 0 {
+        return answer(number, TokenPlace(0), r);
     }
     let next = chosen_record(r, marks);
-    let a = write_alert(next, transcript, code, alerts, values);
-    name_choice(r, marks, a)
+    let written = write_alert(next, transcript, code, alerts, values);
+    name_choice(r, marks, written)
 }

@@ -37,9 +37,9 @@ pub(crate) fn append_payload(
         (now (transcript .exit)) a ⌝ }
 {
     let heading = heading_of(r, class);
-    let n = value.len();
+    let length = value.len();
     write(transcript, r.used, heading, id, value);
-    after_message(r, class, HEADER + n)
+    after_message(r, class, HEADER + length)
 }
 
 // Where an initiator's AP_REQUEST of the first token is kept: it has named place 0.
@@ -56,7 +56,7 @@ fn requested_by(r: Record) -> usize
 pub fn write_exchange(r: Record, transcript: &mut [u8], value: &[u8]) -> Answer
     ensures { λ a. ⌜ leaving a (now (transcript .exit)) ≡ speaking r (now (transcript .entry)) (request (now (value .entry))) ⌝ }
 {
-    let n = named_refusal(
+    let number = named_refusal(
         r,
         Class::EXCHANGE,
         true,
@@ -64,8 +64,8 @@ pub fn write_exchange(r: Record, transcript: &mut [u8], value: &[u8]) -> Answer
         value.len(),
         transcript.len(),
     );
-    if n != 0 {
-        return answer(n, TokenPlace(0), r);
+    if number != 0 {
+        return answer(number, TokenPlace(0), r);
     }
     let id = scheme_id(r);
     let requested = requested_by(r);
@@ -78,11 +78,11 @@ pub fn write_exchange(r: Record, transcript: &mut [u8], value: &[u8]) -> Answer
 pub fn choose_exchange(r: Record, transcript: &mut [u8], marks: u16, value: &[u8]) -> Answer
     ensures { λ a. ⌜ leaving a (now (transcript .exit)) ≡ choosing r (now (transcript .entry)) marks (request (now (value .entry))) ⌝ }
 {
-    let n = choice_refusal(r, Class::EXCHANGE, marks, true);
-    if n != 0 {
-        return answer(n, TokenPlace(0), r);
+    let number = choice_refusal(r, Class::EXCHANGE, marks, true);
+    if number != 0 {
+        return answer(number, TokenPlace(0), r);
     }
     let next = chosen_record(r, marks);
-    let a = write_exchange(next, transcript, value);
-    name_choice(r, marks, a)
+    let written = write_exchange(next, transcript, value);
+    name_choice(r, marks, written)
 }

@@ -57,9 +57,9 @@ fn metadata_refusal(r: Record, id: [u8; 16], n: usize, len: usize) -> u32
 pub fn write_metadata(r: Record, transcript: &mut [u8], id: [u8; 16], value: &[u8]) -> Answer
     ensures { λ a. ⌜ leaving a (now (transcript .exit)) ≡ writingMetadata r (now (transcript .entry)) id (now (value .entry)) ⌝ }
 {
-    let n = metadata_refusal(r, id, value.len(), transcript.len());
-    if n != 0 {
-        return answer(n, TokenPlace(0), r);
+    let number = metadata_refusal(r, id, value.len(), transcript.len());
+    if number != 0 {
+        return answer(number, TokenPlace(0), r);
     }
     let place = find_own(r, &id);
     let metadata = with_bit(r.metadata, place as u32);

@@ -37,16 +37,16 @@ fn append_verify(
         (now (transcript .exit)) a ⌝ }
 {
     let heading = heading_of(r, Class::VERIFY);
-    let n = value.len();
+    let length = value.len();
     write(transcript, r.used, heading, id, checksum, value);
-    after_message(r, Class::VERIFY, HEADER + n)
+    after_message(r, Class::VERIFY, HEADER + length)
 }
 
 // Writes a VERIFY of the chosen scheme: the checksum's type and its value.
 pub fn write_verify(r: Record, transcript: &mut [u8], checksum: i32, value: &[u8]) -> Answer
     ensures { λ a. ⌜ leaving a (now (transcript .exit)) ≡ speaking r (now (transcript .entry)) (Speech·checksum checksum (now (value .entry))) ⌝ }
 {
-    let n = named_refusal(
+    let number = named_refusal(
         r,
         Class::VERIFY,
         true,
@@ -54,8 +54,8 @@ pub fn write_verify(r: Record, transcript: &mut [u8], checksum: i32, value: &[u8
         value.len(),
         transcript.len(),
     );
-    if n != 0 {
-        return answer(n, TokenPlace(0), r);
+    if number != 0 {
+        return answer(number, TokenPlace(0), r);
     }
     let id = scheme_id(r);
     let mut next = append_verify(r, transcript, id, checksum, value);
@@ -74,11 +74,11 @@ pub fn choose_verify(
     ensures { λ a. ⌜ leaving a (now (transcript .exit)) ≡ choosing r (now (transcript .entry)) marks
         (Speech·checksum checksum (now (value .entry))) ⌝ }
 {
-    let n = choice_refusal(r, Class::VERIFY, marks, true);
-    if n != 0 {
-        return answer(n, TokenPlace(0), r);
+    let number = choice_refusal(r, Class::VERIFY, marks, true);
+    if number != 0 {
+        return answer(number, TokenPlace(0), r);
     }
     let next = chosen_record(r, marks);
-    let a = write_verify(next, transcript, checksum, value);
-    name_choice(r, marks, a)
+    let written = write_verify(next, transcript, checksum, value);
+    name_choice(r, marks, written)
 }
