@@ -26,8 +26,8 @@ fn given_ok(list: &[u8], marks: u16) -> bool
     if list_ok(list) {} else {
         return false;
     }
-    let n = list.len() / field::ID;
-    within(marks, n as u32)
+    let count = list.len() / field::ID;
+    within(marks, count as u32)
 }
 
 // A refusal, or none for the number 0.
@@ -43,46 +43,46 @@ fn refuse(number: u32, place: TokenPlace, whose: u8) -> Fault
 }
 
 // What ends a replay as a file is opened and cut up.
-fn file_fault(found: bool, c: Cut, whose: u8) -> Fault
-    ensures { λ r. ⌜ r ≡ record { missing = not found; refusal = c .number; place = c .place; whose = whose } ⌝ }
+fn file_fault(found: bool, cut: Cut, whose: u8) -> Fault
+    ensures { λ r. ⌜ r ≡ record { missing = not found; refusal = cut .number; place = cut .place; whose = whose } ⌝ }
 {
-    let place = c.place;
+    let place = cut.place;
     if found {
-        return refuse(c.number, place, whose);
+        return refuse(cut.number, place, whose);
     }
     Fault {
         missing: true,
-        refusal: c.number,
+        refusal: cut.number,
         place,
         whose,
     }
 }
 
 // Whether something ends it.
-pub(crate) fn is_fault(f: Fault) -> bool
-    ensures { λ r. ⌜ r ≡ (f .missing || not (eqb (f .refusal) 0)) ⌝ }
+pub(crate) fn is_fault(fault: Fault) -> bool
+    ensures { λ r. ⌜ r ≡ (fault .missing || not (eqb (fault .refusal) 0)) ⌝ }
 {
-    if f.missing {
+    if fault.missing {
         return true;
     }
-    f.refusal != 0
+    fault.refusal != 0
 }
 
 // The two files, and 24.
 fn files_fault(found: Found, ifile: &[u8], afile: &[u8]) -> Fault
     ensures { λ r. ⌜ endingAs r ≡ filesEnding found (now (ifile .entry)) (now (afile .entry)) ⌝ }
 {
-    let i = cut_file(ifile);
-    let f = file_fault(found.initiator, i, Fault::INITIATOR);
-    if is_fault(f) {
-        return f;
+    let icut = cut_file(ifile);
+    let ifault = file_fault(found.initiator, icut, Fault::INITIATOR);
+    if is_fault(ifault) {
+        return ifault;
     }
-    let a = cut_file(afile);
-    let g = file_fault(found.acceptor, a, Fault::ACCEPTOR);
-    if is_fault(g) {
-        return g;
+    let acut = cut_file(afile);
+    let afault = file_fault(found.acceptor, acut, Fault::ACCEPTOR);
+    if is_fault(afault) {
+        return afault;
     }
-    if in_row(ifile, afile, i.messages + a.messages) {
+    if in_row(ifile, afile, icut.messages + acut.messages) {
         return refuse(0, TokenPlace(0), Fault::NEITHER);
     }
     refuse(24, TokenPlace(0), Fault::NEITHER)

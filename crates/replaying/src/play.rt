@@ -28,11 +28,11 @@ fn first_conversation(ifile: &[u8], afile: &[u8]) -> [u8; 16]
     requires { ⌜ (length (now ifile) ≤ 65535) × (length (now afile) ≤ 65535) ⌝ }
     ensures { λ r. ⌜ r ≡ conversationIn (turnsOf (messagesOf (now (ifile .entry))) (messagesOf (now (afile .entry)))) ⌝ }
 {
-    let n = next_turn(ifile, afile, 0);
-    if n.messages == 0 {
+    let turn = next_turn(ifile, afile, 0);
+    if turn.messages == 0 {
         return [0u8; 16];
     }
-    if n.acceptors {
+    if turn.acceptors {
         return id_at(afile, field::CONVERSATION);
     }
     id_at(ifile, field::CONVERSATION)
@@ -48,10 +48,10 @@ fn begin_with(
 ) -> Replay
     ensures { λ r. ⌜ r ≡ begunWith (now (ilist .entry)) (now (alist .entry)) conversation fault more ⌝ }
 {
-    let i = open(false, ilist, conversation);
-    let a = open(true, alist, [0u8; 16]);
-    let initiator = i.next;
-    let acceptor = a.next;
+    let iopened = open(false, ilist, conversation);
+    let aopened = open(true, alist, [0u8; 16]);
+    let initiator = iopened.next;
+    let acceptor = aopened.next;
     Replay {
         initiator,
         acceptor,
@@ -77,12 +77,12 @@ pub fn start(
     ensures { λ r. ⌜ Begun (caseWith (now (ilist .entry)) (now (alist .entry)) marks found (now (ifile .entry)) (now (afile .entry))) marks
         (now (ifile .entry)) (now (afile .entry)) r ⌝ }
 {
-    let f = fault_before(ilist, alist, marks, found, ifile, afile);
-    if is_fault(f) {
-        return begin_with(ilist, alist, [0u8; 16], f, false);
+    let fault = fault_before(ilist, alist, marks, found, ifile, afile);
+    if is_fault(fault) {
+        return begin_with(ilist, alist, [0u8; 16], fault, false);
     }
     let conversation = first_conversation(ifile, afile);
-    begin_with(ilist, alist, conversation, f, true)
+    begin_with(ilist, alist, conversation, fault, true)
 }
 
 // The number of a role's side.
@@ -106,14 +106,15 @@ fn whose_in(acceptor: bool, number: u32) -> u8
 }
 
 // A replay that a turn's refusal ends.
-fn end_with(s: Replay, acceptor: bool, a: Answer) -> Replay
-    ensures { λ r. ⌜ r ≡ endedWith s (record { missing = false; refusal = a .refusal; place = a .place; whose = whoseIn acceptor (a .refusal) }) ⌝ }
+fn end_with(s: Replay, acceptor: bool, answer: Answer) -> Replay
+    ensures { λ r. ⌜ r ≡ endedWith s
+        (record { missing = false; refusal = answer .refusal; place = answer .place; whose = whoseIn acceptor (answer .refusal) }) ⌝ }
 {
-    let place = a.place;
-    let whose = whose_in(acceptor, a.refusal);
+    let place = answer.place;
+    let whose = whose_in(acceptor, answer.refusal);
     let fault = Fault {
         missing: false,
-        refusal: a.refusal,
+        refusal: answer.refusal,
         place,
         whose,
     };
@@ -173,11 +174,11 @@ fn play_side(s: Replay, acceptor: bool, marks: u16, t: &[u8], messages: u32, d: 
 {
     let writer = role_of(s, acceptor);
     let reader = role_of(s, !acceptor);
-    let a = hear(owes(writer, marks, t), reader, d, t);
-    if a.refusal != 0 {
-        return end_with(s, acceptor, a);
+    let answer = hear(owes(writer, marks, t), reader, d, t);
+    if answer.refusal != 0 {
+        return end_with(s, acceptor, answer);
     }
-    let heard = a.next;
+    let heard = answer.next;
     let spoken = speak(writer, marks, t);
     go_on(s, acceptor, spoken, heard, t.len(), messages)
 }
@@ -198,21 +199,28 @@ pub fn play_turn(s: Replay, marks: Marks, ifile: &[u8], afile: &[u8], d: &mut [u
 {
     let iplace = s.iplace;
     let aplace = s.aplace;
-    let n = next_turn(&ifile[iplace..], &afile[aplace..], s.number);
-    if n.messages == 0 {
+    let turn = next_turn(&ifile[iplace..], &afile[aplace..], s.number);
+    if turn.messages == 0 {
         return done(s);
     }
-    if n.acceptors {
-        let end = aplace + n.acceptor;
-        return play_side(s, true, marks.acceptor, &afile[aplace..end], n.messages, d);
+    if turn.acceptors {
+        let end = aplace + turn.acceptor;
+        return play_side(
+            s,
+            true,
+            marks.acceptor,
+            &afile[aplace..end],
+            turn.messages,
+            d,
+        );
     }
-    let end = iplace + n.initiator;
+    let end = iplace + turn.initiator;
     play_side(
         s,
         false,
         marks.initiator,
         &ifile[iplace..end],
-        n.messages,
+        turn.messages,
         d,
     )
 }
@@ -223,11 +231,11 @@ fn play_all(s: Replay, marks: Marks, ifile: &[u8], afile: &[u8], d: &mut [u8]) -
     ensures { λ r. ⌜ playedAs r (now (d .exit)) ≡ counted (s .turns)
         (summary (restOf marks (now (ifile .entry)) (now (afile .entry)) s (now (d .entry)))) ⌝ }
 {
-    let mut r = s;
-    while r.more {
-        r = play_turn(r, marks, ifile, afile, d);
+    let mut replay = s;
+    while replay.more {
+        replay = play_turn(replay, marks, ifile, afile, d);
     }
-    r
+    replay
 }
 
 // Two files, played to a record of each role that is opened with a list, 16 octets a scheme. The transcript is one for both.
@@ -244,9 +252,9 @@ pub fn play(
         (replayOf (caseWith (now (ilist .entry)) (now (alist .entry)) marks found (now (ifile .entry)) (now (afile .entry)))
         (now (transcript .entry))) ⌝ }
 {
-    let s = start(ilist, alist, marks, found, ifile, afile);
-    if s.more {} else {
-        return s;
+    let replay = start(ilist, alist, marks, found, ifile, afile);
+    if replay.more {} else {
+        return replay;
     }
-    play_all(s, marks, ifile, afile, transcript)
+    play_all(replay, marks, ifile, afile, transcript)
 }

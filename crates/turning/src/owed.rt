@@ -62,12 +62,12 @@ fn lists_reply(w: Record, marks: u16, t: &[u8]) -> bool
     ensures { λ r. ⌜ r ≡ (someLeft (replied (withMarks marks w)) && sameList (listedBy (now (t .entry))) (replied (withMarks marks w))) ⌝ }
 {
     let list = w.list;
-    let s = gather(list, w.count, w.common & !marks);
-    if s.count == 0 {
+    let schemes = gather(list, w.count, w.common & !marks);
+    if schemes.count == 0 {
         return false;
     }
-    let end = field::ID * s.count as usize;
-    let octets = s.octets;
+    let end = field::ID * schemes.count as usize;
+    let octets = schemes.octets;
     same_all(listed(t), &octets[..end])
 }
 

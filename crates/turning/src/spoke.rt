@@ -89,11 +89,11 @@ fn metadata_after(w: Record, class: u8, id: &[u8]) -> u16
     if class != Class::METADATA {
         return w.metadata;
     }
-    let k = find(&w.list, w.count, id);
-    if w.count <= k {
+    let place = find(&w.list, w.count, id);
+    if w.count <= place {
         return w.metadata;
     }
-    with_bit(w.metadata, k as u32)
+    with_bit(w.metadata, place as u32)
 }
 
 // The place of the first token's AP_REQUEST, where a message is it.
@@ -141,16 +141,16 @@ pub fn speak(w: Record, marks: u16, t: &[u8]) -> Record
     requires { ⌜ (w .count ≤ 16) × (64 * w .sequence ≤ w .used) × (w .used + length (now t) ≤ 65535) ⌝ }
     ensures { λ r. ⌜ r ≡ spoke marks w (messagesOf (now (t .entry))) ⌝ }
 {
-    let mut s = begin(w, marks);
+    let mut spoken = begin(w, marks);
     let mut rest = t;
     while 0 < rest.len() {
-        let m = read_header(rest);
-        let Read::Message(h) = m else {
-            return s;
+        let reading = read_header(rest);
+        let Read::Message(h) = reading else {
+            return spoken;
         };
         let length = h.length as usize;
-        s = say(s, &rest[..length]);
+        spoken = say(spoken, &rest[..length]);
         rest = &rest[length..];
     }
-    s
+    spoken
 }

@@ -8,11 +8,11 @@ use Rattle.replaying.proofs.play.play_all.Statement.{statement}
 use Rattle.replaying.proofs.play.play_all.Tie as tie
 
 abbrev Inv-loop : tie.InvT-loop
-Inv-loop marks ifile afile d₀ r₀ d r =
-    AllOn marks ifile afile (counted (r₀ .turns) (summary (restOf marks ifile afile r₀ d₀))) r d × (length d ≡ length d₀)
+Inv-loop marks ifile afile d₀ replay₀ d replay =
+    AllOn marks ifile afile (counted (replay₀ .turns) (summary (restOf marks ifile afile replay₀ d₀))) replay d × (length d ≡ length d₀)
 
 abbrev μ-loop : tie.MeasureT-loop
-μ-loop marks ifile afile d₀ r₀ d r = left ifile afile r
+μ-loop marks ifile afile d₀ replay₀ d replay = left ifile afile replay
 
 loop-holds : tie.Need-loop-holds Inv-loop μ-loop
 loop-holds c = search (needs, alls)

@@ -7,10 +7,10 @@ use Rattle.turning.proofs.spoke.speak.Statement.{statement}
 use Rattle.turning.proofs.spoke.speak.Tie as tie
 
 abbrev Inv-loop : tie.InvT-loop
-Inv-loop marks t s₀ rest₀ s rest = SpeakOn t s₀ s rest
+Inv-loop marks t spoken₀ rest₀ spoken rest = SpeakOn t spoken₀ spoken rest
 
 abbrev μ-loop : tie.MeasureT-loop
-μ-loop marks t s₀ rest₀ s rest = length rest
+μ-loop marks t spoken₀ rest₀ spoken rest = length rest
 
 begin-requires : tie.Need-begin-requires Inv-loop μ-loop
 begin-requires c κs = search (needs, sayings, header-within, header-less)
@@ -21,8 +21,8 @@ loop-holds c = search (needs, sayings, header-within, header-less)
 read-header-requires : tie.Need-read-header-requires Inv-loop μ-loop
 read-header-requires c κs = search (needs, sayings, header-within, header-less)
 
-enum-known-m : tie.Need-enum-known-m Inv-loop μ-loop
-enum-known-m c = search (needs, sayings, header-within, header-less)
+enum-known-reading : tie.Need-enum-known-reading Inv-loop μ-loop
+enum-known-reading c = search (needs, sayings, header-within, header-less)
 
 enum-told : tie.Need-enum-told Inv-loop μ-loop
 enum-told c = search (needs, sayings, header-within, header-less)
@@ -66,7 +66,7 @@ speak-spec =
     begin-requires
     loop-holds
     read-header-requires
-    enum-known-m
+    enum-known-reading
     enum-told
     returns
     cast-length
