@@ -55,13 +55,21 @@ fn write_nego(c: Command, r: Record, transcript: &mut [u8], octets: &[u8]) -> An
     ensures { λ a. ⌜ leaving a (now (transcript .exit)) ≡ negoOf c r (now (transcript .entry)) (now (octets .entry)) ⌝ }
 {
     let extensions = c.elements;
-    let v = values(octets);
+    let values = values(octets);
     if c.verb == Command::OFFER {
-        return write_offer(r, transcript, random(octets), c.test, extensions, v);
+        return write_offer(r, transcript, random(octets), c.test, extensions, values);
     }
     if c.verb == Command::REPLY {
         let marks = bits(c.number);
-        return write_reply(r, transcript, marks, random(octets), c.test, extensions, v);
+        return write_reply(
+            r,
+            transcript,
+            marks,
+            random(octets),
+            c.test,
+            extensions,
+            values,
+        );
     }
     answer(18, TokenPlace(0), r)
 }

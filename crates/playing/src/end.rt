@@ -23,8 +23,8 @@ pub(crate) struct Ends {
 // An end that is not open. Its record is the one that a refused opening answers.
 fn closed(acceptor: bool) -> End {
     let none = [0u8; 1];
-    let a = open(acceptor, &none[..0], [0u8; 16]);
-    let record = a.next;
+    let opened = open(acceptor, &none[..0], [0u8; 16]);
+    let record = opened.next;
     End {
         open: false,
         from: 0,

@@ -62,26 +62,31 @@ fn print(d: &[u8], n: usize) {
 
 // Makes the call of a command at the end e, and writes its line.
 fn called(c: Command, e: End, both: &mut [u8], lent: &mut [u8]) -> End {
-    let a = make(
+    let answer = make(
         c,
         e.record,
         span(both, e.from, e.to),
         part(lent, 0, c.length),
     );
-    let n = report(lent, c, a, held(both, e, e.record.used, a.next.used));
-    print(lent, n);
-    moved(c, e, a)
+    let line_end = report(
+        lent,
+        c,
+        answer,
+        held(both, e, e.record.used, answer.next.used),
+    );
+    print(lent, line_end);
+    moved(c, e, answer)
 }
 
 // Plays a command, and answers the ends after it.
 fn play_command(c: Command, ends: Ends, both: &mut [u8], lent: &mut [u8]) -> Ends {
-    let e = end_of(ends, c.acceptor);
-    if is_call(c, e) {} else {
+    let end = end_of(ends, c.acceptor);
+    if is_call(c, end) {} else {
         io::write_all(STDOUT_FILENO, b"bad line\n");
         return ends;
     }
     let call = given(c, end_of(ends, !c.acceptor), both, lent);
-    let next = called(call, e, both, lent);
+    let next = called(call, end, both, lent);
     with_end(ends, c.acceptor, next)
 }
 
@@ -93,8 +98,8 @@ fn play_line(line: &[u8], ends: Ends, both: &mut [u8], lent: &mut [u8]) -> Ends 
     if line[0] == b'#' {
         return ends;
     }
-    let c = read_command(line, lent);
-    play_command(c, ends, both, lent)
+    let command = read_command(line, lent);
+    play_command(command, ends, both, lent)
 }
 
 // The lines of a script in order, and last the octets used at each end.
@@ -107,8 +112,8 @@ fn play_lines(script: &[u8], both: &mut [u8], lent: &mut [u8]) {
         from = end + 1;
         ends = play_line(line, ends, both, lent);
     }
-    let n = reports::used(lent, used(ends.initiator), used(ends.acceptor));
-    print(lent, n);
+    let line_end = reports::used(lent, used(ends.initiator), used(ends.acceptor));
+    print(lent, line_end);
 }
 
 // Plays a script. The lent octets have room for half a script, which is all that its digits stand for, and for the digits of a whole transcript.
