@@ -40,11 +40,11 @@ fn marks_of(n: u32) -> u16 {
 fn replay_files(c: CaseText, text: &[u8], ilist: &[u8], alist: &[u8]) {
     let mut ibuf = [0u8; 65536];
     let mut abuf = [0u8; 65536];
-    let i = file_of(load(part(text, c.initiator.from, c.initiator.end), &mut ibuf));
-    let a = file_of(load(part(text, c.acceptor.from, c.acceptor.end), &mut abuf));
+    let iopened = file_of(load(part(text, c.initiator.from, c.initiator.end), &mut ibuf));
+    let aopened = file_of(load(part(text, c.acceptor.from, c.acceptor.end), &mut abuf));
     let found = Found {
-        initiator: i.found,
-        acceptor: a.found,
+        initiator: iopened.found,
+        acceptor: aopened.found,
     };
     let marks = Marks {
         initiator: marks_of(c.i.marks),
@@ -55,8 +55,8 @@ fn replay_files(c: CaseText, text: &[u8], ilist: &[u8], alist: &[u8]) {
         alist,
         marks,
         found,
-        part(&ibuf, 0, i.octets),
-        part(&abuf, 0, a.octets),
+        part(&ibuf, 0, iopened.octets),
+        part(&abuf, 0, aopened.octets),
     );
 }
 
@@ -64,14 +64,19 @@ fn replay_files(c: CaseText, text: &[u8], ilist: &[u8], alist: &[u8]) {
 fn replay_text(text: &[u8]) {
     let mut ilist = [0u8; 65536];
     let mut alist = [0u8; 65536];
-    let c = read_case(text, &mut ilist, &mut alist);
-    if c.ok {} else {
+    let case_text = read_case(text, &mut ilist, &mut alist);
+    if case_text.ok {} else {
         io::write_all(STDOUT_FILENO, b"bad case\n");
         return;
     }
-    let i = c.i.length;
-    let a = c.a.length;
-    replay_files(c, text, part(&ilist, 0, i), part(&alist, 0, a));
+    let ilength = case_text.i.length;
+    let alength = case_text.a.length;
+    replay_files(
+        case_text,
+        text,
+        part(&ilist, 0, ilength),
+        part(&alist, 0, alength),
+    );
 }
 
 // Replays the case in the first n octets of a buffer; one that fills it is too long.

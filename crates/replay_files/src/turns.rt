@@ -28,20 +28,20 @@ fn walk(token: &[u8], end: usize, shown: bool) -> usize {
     let mut text = [0u8; 65536];
     let mut first: usize = 0;
     loop {
-        let w = listing::window(token, first, end, &mut text);
-        if w.lines == 0 {
+        let window = listing::window(token, first, end, &mut text);
+        if window.lines == 0 {
             return first;
         }
-        print(&text, w.octets, shown);
-        first += w.lines;
+        print(&text, window.octets, shown);
+        first += window.lines;
     }
 }
 
 // Writes the listing of a turn without its last line.
 fn show_listing(token: &[u8]) {
-    let n = walk(token, 18446744073709551615, false);
-    if 0 < n {
-        walk(token, n - 1, true);
+    let lines = walk(token, 18446744073709551615, false);
+    if 0 < lines {
+        walk(token, lines - 1, true);
     }
 }
 
@@ -49,12 +49,12 @@ fn show_listing(token: &[u8]) {
 fn show_choice(r: Record, text: &mut [u8]) {
     if r.chosen < 16 {
         let list = r.list;
-        let n = choice_line(text, true, id_of(list, r.chosen as u32));
-        print(text, n, true);
+        let end = choice_line(text, true, id_of(list, r.chosen as u32));
+        print(text, end, true);
         return;
     }
-    let n = choice_line(text, false, [0u8; 16]);
-    print(text, n, true);
+    let end = choice_line(text, false, [0u8; 16]);
+    print(text, end, true);
 }
 
 // Writes what is to be seen of a turn, where one was accepted between two states of a replay.
@@ -62,8 +62,8 @@ fn show_turn(before: Replay, next: Replay, ifile: &[u8], afile: &[u8], text: &mu
     if next.turns == before.turns {
         return;
     }
-    let n = turn_line(text, before.turns, next.last);
-    print(text, n, true);
+    let end = turn_line(text, before.turns, next.last);
+    print(text, end, true);
     if next.last {
         show_listing(part(afile, before.aplace, next.aplace));
     } else {
@@ -85,19 +85,19 @@ fn show_turns(
     ensures { λ r. ⌜ playedAs r (now (d .exit)) ≡ counted (s .turns)
         (summary (restOf marks (now (ifile .entry)) (now (afile .entry)) s (now (d .entry)))) ⌝ }
 {
-    let mut r = s;
-    while r.more {
-        let next = play_turn(r, marks, ifile, afile, d);
-        show_turn(r, next, ifile, afile, text);
-        r = next;
+    let mut replay = s;
+    while replay.more {
+        let next = play_turn(replay, marks, ifile, afile, d);
+        show_turn(replay, next, ifile, afile, text);
+        replay = next;
     }
-    r
+    replay
 }
 
 // Writes how a replay ended.
 fn show_end(r: Replay, text: &mut [u8]) {
-    let n = end_line(text, r.fault);
-    print(text, n, true);
+    let end = end_line(text, r.fault);
+    print(text, end, true);
 }
 
 // Replays two files, and shows it. The transcript has all the room that a conversation has.
@@ -111,11 +111,11 @@ pub(crate) fn show_replay(
 ) {
     let mut transcript = [0u8; 65535];
     let mut text = [0u8; 128];
-    let s = start(ilist, alist, marks, found, ifile, afile);
-    if s.more {
-        let r = show_turns(s, marks, ifile, afile, &mut transcript, &mut text);
-        show_end(r, &mut text);
+    let replay = start(ilist, alist, marks, found, ifile, afile);
+    if replay.more {
+        let played = show_turns(replay, marks, ifile, afile, &mut transcript, &mut text);
+        show_end(played, &mut text);
         return;
     }
-    show_end(s, &mut text);
+    show_end(replay, &mut text);
 }

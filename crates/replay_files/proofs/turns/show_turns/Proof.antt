@@ -8,12 +8,12 @@ use Rattle.replay_files.proofs.turns.show_turns.Statement.{statement}
 use Rattle.replay_files.proofs.turns.show_turns.Tie as tie
 
 abbrev Inv-loop : tie.InvT-loop
-Inv-loop marks ifile afile d₀ text₀ r₀ d text r =
-    AllOn marks ifile afile (counted (r₀ .turns) (summary (restOf marks ifile afile r₀ d₀))) r d × (length d ≡ length d₀)
+Inv-loop marks ifile afile d₀ text₀ replay₀ d text replay =
+    AllOn marks ifile afile (counted (replay₀ .turns) (summary (restOf marks ifile afile replay₀ d₀))) replay d × (length d ≡ length d₀)
     × (length text ≡ length text₀)
 
 abbrev μ-loop : tie.MeasureT-loop
-μ-loop marks ifile afile d₀ text₀ r₀ d text r = left ifile afile r
+μ-loop marks ifile afile d₀ text₀ replay₀ d text replay = left ifile afile replay
 
 loop-holds : tie.Need-loop-holds Inv-loop μ-loop
 loop-holds c = search (needs, alls)
