@@ -12,8 +12,8 @@ use libc::STDOUT_FILENO;
 // Writes what an envelope says. There is room for the whole text: `text-fits` (proofs/Room.antt).
 fn show(s: &[u8]) {
     let mut text = [0u8; 262144];
-    let n = envelope_text(&mut text, s);
-    io::write_all(STDOUT_FILENO, part(&text, 0, n));
+    let end = envelope_text(&mut text, s);
+    io::write_all(STDOUT_FILENO, part(&text, 0, end));
     let t = token(s);
     if begun(t) {
         print(STDOUT_FILENO, t);

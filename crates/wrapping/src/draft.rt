@@ -133,13 +133,13 @@ fn follows(d: Draft, stage: u8) -> bool {
 
 // One mechanism more of an Init, whose octets end in the store at `to`.
 fn with_mechanism(d: Draft, n: usize, to: usize, sizes: &mut [usize]) -> Draft {
-    let k = d.count;
-    if k < sizes.len() {} else {
+    let count = d.count;
+    if count < sizes.len() {} else {
         return bad(d);
     }
-    sizes[k] = n;
+    sizes[count] = n;
     let mut next = d;
-    next.count = k + 1;
+    next.count = count + 1;
     next.list = to;
     next
 }

@@ -21,38 +21,38 @@ use libc::STDOUT_FILENO;
 
 // A line of the text: an empty one and a comment are passed over.
 fn with_line(
-    d: Draft,
+    draft: Draft,
     line: &[u8],
     store: &mut [u8],
     sizes: &mut [usize],
     lent: &mut [u8],
 ) -> Draft {
     if line.len() == 0 {
-        return d;
+        return draft;
     }
     if line[0] == b'#' {
-        return d;
+        return draft;
     }
     match read_line(line, lent) {
-        Line::Bad => bad(d),
-        Line::Init => started(d, Draft::INIT),
-        Line::Resp => started(d, Draft::RESP),
-        Line::State(n) => with_state(d, n),
-        Line::Octets(field, n) => with_octets(d, field, part(lent, 0, n), store, sizes),
+        Line::Bad => bad(draft),
+        Line::Init => started(draft, Draft::INIT),
+        Line::Resp => started(draft, Draft::RESP),
+        Line::State(n) => with_state(draft, n),
+        Line::Octets(field, n) => with_octets(draft, field, part(lent, 0, n), store, sizes),
     }
 }
 
 // The lines of the text in order.
 fn with_lines(text: &[u8], store: &mut [u8], sizes: &mut [usize], lent: &mut [u8]) -> Draft {
-    let mut d = empty();
+    let mut draft = empty();
     let mut from = 0;
     while from < text.len() {
         let end = find(text, from, text.len(), b'\n');
         let line = part(text, from, end);
         from = end + 1;
-        d = with_line(d, line, store, sizes, lent);
+        draft = with_line(draft, line, store, sizes, lent);
     }
-    d
+    draft
 }
 
 // The first n sizes, or as many as there are.
@@ -63,67 +63,67 @@ fn first_sizes(sizes: &[usize], n: usize) -> &[usize] {
     &sizes[..n]
 }
 
-fn write_draft(out: &mut [u8], d: Draft, store: &[u8], sizes: &[usize]) -> Stored {
-    let second = d.second;
-    let token = d.token;
-    let checksum = d.checksum;
-    let a = part(store, second.from, second.to);
-    let b = part(store, token.from, token.to);
-    let c = part(store, checksum.from, checksum.to);
-    if d.kind == Draft::INIT {
+fn write_draft(out: &mut [u8], draft: Draft, store: &[u8], sizes: &[usize]) -> Stored {
+    let second = draft.second;
+    let token = draft.token;
+    let checksum = draft.checksum;
+    let second_octets = part(store, second.from, second.to);
+    let token_octets = part(store, token.from, token.to);
+    let checksum_octets = part(store, checksum.from, checksum.to);
+    if draft.kind == Draft::INIT {
         return write_init(
             out,
-            first_sizes(sizes, d.count),
-            part(store, 0, d.list),
+            first_sizes(sizes, draft.count),
+            part(store, 0, draft.list),
             second.there,
-            a,
+            second_octets,
             token.there,
-            b,
+            token_octets,
             checksum.there,
-            c,
+            checksum_octets,
         );
     }
     write_resp(
         out,
-        d.stated,
-        d.state,
+        draft.stated,
+        draft.state,
         second.there,
-        a,
+        second_octets,
         token.there,
-        b,
+        token_octets,
         checksum.there,
-        c,
+        checksum_octets,
     )
 }
 
 // Writes the answer of the writer.
-fn report(r: Stored, out: &[u8]) {
+fn report(stored: Stored, out: &[u8]) {
     let mut text = [0u8; 131328];
-    match r {
+    match stored {
         Stored::Size(n) => {
-            let k = wrote_line(&mut text, part(out, 0, n));
-            io::write_all(STDOUT_FILENO, part(&text, 0, k));
+            let end = wrote_line(&mut text, part(out, 0, n));
+            io::write_all(STDOUT_FILENO, part(&text, 0, end));
         }
         Stored::Refused(n) => {
-            let k = refused_line(&mut text, n);
-            io::write_all(STDOUT_FILENO, part(&text, 0, k));
+            let end = refused_line(&mut text, n);
+            io::write_all(STDOUT_FILENO, part(&text, 0, end));
         }
     }
 }
 
 // Writes the envelope of a draft, or that a line was bad.
-fn finish(d: Draft, store: &[u8], sizes: &[usize]) {
-    if d.kind == Draft::EMPTY {
+fn finish(draft: Draft, store: &[u8], sizes: &[usize]) {
+    if draft.kind == Draft::EMPTY {
         io::write_all(STDOUT_FILENO, b"bad line\n");
         return;
     }
-    if d.kind == Draft::BAD {
+    if draft.kind == Draft::BAD {
         io::write_all(STDOUT_FILENO, b"bad line\n");
         return;
     }
     let mut out = [0u8; 65536];
-    let r = write_draft(&mut out, d, store, sizes);
-    report(r, &out);
+    let stored = write_draft(&mut out, draft, store, sizes);
+    report(stored, &out);
 }
 
 // Wraps a text. The store and the lent octets have room for half of it, which is all that its digits stand for; the sizes for its mechanisms, whose
@@ -132,8 +132,8 @@ fn wrap(text: &[u8]) {
     let mut store = [0u8; 131072];
     let mut lent = [0u8; 131072];
     let mut sizes = [0usize; 32768];
-    let d = with_lines(text, &mut store, &mut sizes, &mut lent);
-    finish(d, &store, &sizes);
+    let draft = with_lines(text, &mut store, &mut sizes, &mut lent);
+    finish(draft, &store, &sizes);
 }
 
 // Wraps the first n octets of a buffer; a text that fills it is too long.

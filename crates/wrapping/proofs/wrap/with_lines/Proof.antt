@@ -13,11 +13,11 @@ use Rattle.wrapping.proofs.draft.empty.Reads as empty-reads
 use Rattle.wrapping.proofs.wrap.with_line.Reads as with-line-reads
 
 abbrev Inv-loop : tie.InvT-loop
-Inv-loop text store₀ sizes₀ lent₀ d₀ from₀ store sizes lent d from =
+Inv-loop text store₀ sizes₀ lent₀ draft₀ from₀ store sizes lent draft from =
     (length store ≡ length store₀) × (length sizes ≡ length sizes₀) × (length lent ≡ length lent₀)
 
 abbrev μ-loop : tie.MeasureT-loop
-μ-loop text store₀ sizes₀ lent₀ d₀ from₀ store sizes lent d from = length text - from
+μ-loop text store₀ sizes₀ lent₀ draft₀ from₀ store sizes lent draft from = length text - from
 
 empty-requires : tie.Need-empty-requires Inv-loop μ-loop
 empty-requires c κs = search needs
