@@ -19,8 +19,8 @@ fn write_refusal(n: u32, place: TokenPlace) {
 
 // A token, blanked; of a refused one only what it is refused with.
 fn write_blanked(token: &mut [u8]) {
-    let r = blank(token);
-    match r {
+    let answer = blank(token);
+    match answer {
         Answer::Messages(_) => {
             io::write_all(STDOUT_FILENO, &token[..]);
         }
@@ -45,8 +45,8 @@ fn blank_file(name: &[u8], buf: &mut [u8]) {
 
 fn main() {
     let mut input = io::buffer();
-    let n = io::read_full(STDIN_FILENO, &mut input);
-    let end = find(&input, 0, n, b'\n');
+    let length = io::read_full(STDIN_FILENO, &mut input);
+    let end = find(&input, 0, length, b'\n');
     // A file of 65,536 octets or more fills the array, which is one octet too many for a token.
     let mut token = [0u8; 65536];
     blank_file(&input[..end], &mut token);

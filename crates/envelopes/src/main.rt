@@ -12,8 +12,8 @@ use libc::STDOUT_FILENO;
 // What an envelope says, without the listing of a token in it.
 fn say(s: &[u8]) {
     let mut text = [0u8; 262144];
-    let n = envelope_text(&mut text, s);
-    io::write_all(STDOUT_FILENO, part(&text, 0, n));
+    let end = envelope_text(&mut text, s);
+    io::write_all(STDOUT_FILENO, part(&text, 0, end));
 }
 
 // The name of a file, and what the envelope in it says.
@@ -52,6 +52,6 @@ fn show_all(names: &[u8]) {
 
 fn main() {
     let mut input = io::large_buffer();
-    let n = io::read_full(STDIN_FILENO, &mut input);
-    show_all(&input[..n]);
+    let length = io::read_full(STDIN_FILENO, &mut input);
+    show_all(&input[..length]);
 }

@@ -52,8 +52,8 @@ fn listed(m: &[u8]) -> usize
 
 // The structural reading of a token, and the schemes of its first message.
 fn say_token(token: &[u8]) {
-    let r = read_token(token);
-    match r {
+    let reading = read_token(token);
+    match reading {
         TokenAnswer::Messages(n) => {
             say(b"token: messages", n as u64);
             say(b"  schemes", listed(token) as u64);

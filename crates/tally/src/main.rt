@@ -83,8 +83,8 @@ fn held_name(w: Week, name: &[u8]) -> Week {
     if name.len() < w.held {
         return next_name(w, name);
     }
-    let n = w.held;
-    next_name(w, &name[..n])
+    let held = w.held;
+    next_name(w, &name[..held])
 }
 
 // A part of a name behind what is held of it. A name that has no room is longer than any path, and stays so.
@@ -128,11 +128,11 @@ fn read_names(w: Week, name: &mut [u8]) -> Week {
     let mut week = w;
     let mut left: u64 = 18446744073709551615;
     while 0 < left {
-        let n = io::read_full(STDIN_FILENO, &mut chunk);
-        if n == 0 {
+        let length = io::read_full(STDIN_FILENO, &mut chunk);
+        if length == 0 {
             return week;
         }
-        week = take_chunk(week, name, &chunk[..n]);
+        week = take_chunk(week, name, &chunk[..length]);
         left -= 1;
     }
     week
@@ -164,6 +164,6 @@ fn main() {
     }
     let mut text = [0u8; 8192];
     let tally = week.tally;
-    let n = tally_text(&mut text, tally, unopened);
-    print(&text, n);
+    let end = tally_text(&mut text, tally, unopened);
+    print(&text, end);
 }
