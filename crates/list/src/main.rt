@@ -5,8 +5,8 @@ use libc::STDOUT_FILENO;
 
 fn main() {
     let mut input = io::buffer();
-    let n = io::read_full(STDIN_FILENO, &mut input);
-    let end = find(&input, 0, n, b'\n');
+    let length = io::read_full(STDIN_FILENO, &mut input);
+    let end = find(&input, 0, length, b'\n');
     // A file of 65,536 octets or more fills the array, which is one octet too many for a token.
     let mut token = [0u8; 65536];
     console::list_file(STDOUT_FILENO, &input[..end], &mut token);
