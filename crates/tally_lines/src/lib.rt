@@ -14,19 +14,19 @@ use text::id;
 use text::wide_field;
 
 // A word and a number.
-fn total_line(d: &mut [u8], at: usize, word: &[u8], n: u64) -> usize
-    ensures { λ r. ⌜ text (now (d .exit)) r ≡ written (totalLine (now (word .entry)) n) (text (now (d .entry)) at) ⌝ }
+fn total_line(d: &mut [u8], at: usize, word: &[u8], number: u64) -> usize
+    ensures { λ r. ⌜ text (now (d .exit)) r ≡ written (totalLine (now (word .entry)) number) (text (now (d .entry)) at) ⌝ }
 {
-    let number_end = wide_field(d, at, word, n as usize);
+    let number_end = wide_field(d, at, word, number as usize);
     append(d, number_end, b"\n")
 }
 
 // A word, the number that is counted, and its count.
-fn number_line(d: &mut [u8], at: usize, word: &[u8], k: usize, n: u64) -> usize
-    ensures { λ r. ⌜ text (now (d .exit)) r ≡ written (numberLine (now (word .entry)) k n) (text (now (d .entry)) at) ⌝ }
+fn number_line(d: &mut [u8], at: usize, word: &[u8], number: usize, count: u64) -> usize
+    ensures { λ r. ⌜ text (now (d .exit)) r ≡ written (numberLine (now (word .entry)) number count) (text (now (d .entry)) at) ⌝ }
 {
-    let number_end = wide_field(d, at, word, k);
-    let count_end = wide_field(d, number_end, b" count=", n as usize);
+    let number_end = wide_field(d, at, word, number);
+    let count_end = wide_field(d, number_end, b" count=", count as usize);
     append(d, count_end, b"\n")
 }
 
@@ -44,16 +44,16 @@ fn type_lines(d: &mut [u8], at: usize, types: &[u64]) -> usize
 }
 
 // The count of a refusal; nothing for 0, which is accepted, and nothing where it was not given.
-fn refused_line(d: &mut [u8], at: usize, k: usize, n: u64) -> usize
-    ensures { λ r. ⌜ text (now (d .exit)) r ≡ written (answerLine k n) (text (now (d .entry)) at) ⌝ }
+fn refused_line(d: &mut [u8], at: usize, number: usize, count: u64) -> usize
+    ensures { λ r. ⌜ text (now (d .exit)) r ≡ written (answerLine number count) (text (now (d .entry)) at) ⌝ }
 {
-    if k == 0 {
+    if number == 0 {
         return at;
     }
-    if n == 0 {
+    if count == 0 {
         return at;
     }
-    number_line(d, at, b"refused ", k, n)
+    number_line(d, at, b"refused ", number, count)
 }
 
 // The counts of the refusals.
@@ -70,24 +70,24 @@ fn refused_lines(d: &mut [u8], at: usize, answers: &[u64]) -> usize
 }
 
 // A scheme and its count.
-fn scheme_line(d: &mut [u8], at: usize, scheme: &[u8], n: u64) -> usize
-    ensures { λ r. ⌜ text (now (d .exit)) r ≡ written (schemeLine (now (scheme .entry)) n) (text (now (d .entry)) at) ⌝ }
+fn scheme_line(d: &mut [u8], at: usize, scheme: &[u8], count: u64) -> usize
+    ensures { λ r. ⌜ text (now (d .exit)) r ≡ written (schemeLine (now (scheme .entry)) count) (text (now (d .entry)) at) ⌝ }
 {
     let id_start = append(d, at, b"scheme ");
     let id_end = id(d, id_start, scheme);
-    let count_end = wide_field(d, id_end, b" count=", n as usize);
+    let count_end = wide_field(d, id_end, b" count=", count as usize);
     append(d, count_end, b"\n")
 }
 
-// The counts of the first n schemes.
-fn scheme_lines(d: &mut [u8], at: usize, ids: &[u8], counts: &[u64], n: usize) -> usize
-    requires { ⌜ (n * 16 ≤ length (now ids)) × (n ≤ length (now counts)) ⌝ }
-    ensures { λ r. ⌜ text (now (d .exit)) r ≡ written (schemeLines (idsAt n (now (ids .entry))) (take n (now (counts .entry))))
+// The counts of the first schemes, `count` of them.
+fn scheme_lines(d: &mut [u8], at: usize, ids: &[u8], counts: &[u64], count: usize) -> usize
+    requires { ⌜ (count * 16 ≤ length (now ids)) × (count ≤ length (now counts)) ⌝ }
+    ensures { λ r. ⌜ text (now (d .exit)) r ≡ written (schemeLines (idsAt count (now (ids .entry))) (take count (now (counts .entry))))
         (text (now (d .entry)) at) ⌝ }
 {
     let mut next = at;
     let mut k: usize = 0;
-    let mut left = n;
+    let mut left = count;
     while 0 < left {
         let from = k * field::ID;
         let end = from + field::ID;

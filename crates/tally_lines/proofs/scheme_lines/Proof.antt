@@ -12,13 +12,13 @@ use Rattle.tally_lines.proofs.scheme_lines.Statement.{statement}
 use Rattle.tally_lines.proofs.scheme_lines.Tie as tie
 
 abbrev Inv-loop : tie.InvT-loop
-Inv-loop d₀ at ids counts n next₀ k₀ left₀ d next k left =
-    (k + left ≡ n) × (length d ≡ length d₀)
-    × (written (schemeLines (idsAt n ids) (take n counts)) (text d₀ at)
+Inv-loop d₀ at ids counts count next₀ k₀ left₀ d next k left =
+    (k + left ≡ count) × (length d ≡ length d₀)
+    × (written (schemeLines (idsAt count ids) (take count counts)) (text d₀ at)
     ≡ written (schemeLines (idsAt left (drop (k * 16) ids)) (take left (drop k counts))) (text d next))
 
 abbrev μ-loop : tie.MeasureT-loop
-μ-loop d₀ at ids counts n next₀ k₀ left₀ d next k left = left
+μ-loop d₀ at ids counts count next₀ k₀ left₀ d next k left = left
 
 loop-holds : tie.Need-loop-holds Inv-loop μ-loop
 loop-holds c = (omega arith, refl, refl)
