@@ -49,10 +49,10 @@ pub fn choice_line(d: &mut [u8], chosen: bool, scheme: [u8; 16]) -> usize
 }
 
 // The line of a refusal that ends a replay.
-fn refusal(d: &mut [u8], n: u32, place: usize, whose: u8) -> usize
-    ensures { λ r. ⌜ text (now (d .exit)) r ≡ written (refusedLine n place (whoseAs whose)) (text (now (d .entry)) 0) ⌝ }
+fn refusal(d: &mut [u8], number: u32, place: usize, whose: u8) -> usize
+    ensures { λ r. ⌜ text (now (d .exit)) r ≡ written (refusedLine number place (whoseAs whose)) (text (now (d .entry)) 0) ⌝ }
 {
-    let number_end = field(d, 0, b"refused ", n);
+    let number_end = field(d, 0, b"refused ", number);
     let place_end = wide_field(d, number_end, b" at=", place);
     side(d, place_end, whose)
 }

@@ -11,11 +11,11 @@ use text::id;
 use text::wide_field;
 
 // Two numbers, each after its words, and the line's end.
-fn numbers(d: &mut [u8], words: &[u8], n: u32, further: &[u8], k: usize) -> usize
-    ensures { λ r. ⌜ text (now (d .exit)) r ≡ written (numbersLine (now (words .entry)) n (now (further .entry)) k) (text (now (d .entry)) 0) ⌝ }
+fn numbers(d: &mut [u8], words: &[u8], first: u32, further: &[u8], second: usize) -> usize
+    ensures { λ r. ⌜ text (now (d .exit)) r ≡ written (numbersLine (now (words .entry)) first (now (further .entry)) second) (text (now (d .entry)) 0) ⌝ }
 {
-    let first_end = field(d, 0, words, n);
-    let second_end = wide_field(d, first_end, further, k);
+    let first_end = field(d, 0, words, first);
+    let second_end = wide_field(d, first_end, further, second);
     append(d, second_end, b"\n")
 }
 
