@@ -32,10 +32,10 @@ fn octets_text(d: &mut [u8], at: usize, v: &[u8]) -> usize
 }
 
 // A mechanism's line.
-fn mechanism_line(d: &mut [u8], at: usize, k: usize, v: &[u8]) -> usize
-    ensures { λ r. ⌜ text (now (d .exit)) r ≡ written (mechanismLine k (now (v .entry))) (text (now (d .entry)) at) ⌝ }
+fn mechanism_line(d: &mut [u8], at: usize, index: usize, v: &[u8]) -> usize
+    ensures { λ r. ⌜ text (now (d .exit)) r ≡ written (mechanismLine index (now (v .entry))) (text (now (d .entry)) at) ⌝ }
 {
-    let index_end = wide_field(d, at, b"mechanism ", k);
+    let index_end = wide_field(d, at, b"mechanism ", index);
     let octets_start = append(d, index_end, b" ");
     let octets_end = octets_text(d, octets_start, v);
     if is_negoex(v) {
@@ -87,12 +87,12 @@ fn field_line(d: &mut [u8], at: usize, word: &[u8], s: &[u8], f: Field) -> usize
 }
 
 // The line of a Resp's mechanism, where it is there.
-fn named_line(d: &mut [u8], at: usize, s: &[u8], f: Field) -> usize
-    ensures { λ r. ⌜ text (now (d .exit)) r ≡ written (namedLines (shown (now (s .entry)) f)) (text (now (d .entry)) at) ⌝ }
+fn named_line(d: &mut [u8], at: usize, s: &[u8], mechanism: Field) -> usize
+    ensures { λ r. ⌜ text (now (d .exit)) r ≡ written (namedLines (shown (now (s .entry)) mechanism)) (text (now (d .entry)) at) ⌝ }
 {
-    match f {
+    match mechanism {
         Field::Absent => at,
-        Field::At(_, _) => mechanism_line(d, at, 0, octets(s, f)),
+        Field::At(_, _) => mechanism_line(d, at, 0, octets(s, mechanism)),
     }
 }
 
@@ -113,25 +113,25 @@ fn first(v: &[u8]) -> u32
 }
 
 // The line of a state, where it is there.
-fn state_line(d: &mut [u8], at: usize, s: &[u8], f: Field) -> usize
-    ensures { λ r. ⌜ text (now (d .exit)) r ≡ written (stateLine (shown (now (s .entry)) f)) (text (now (d .entry)) at) ⌝ }
+fn state_line(d: &mut [u8], at: usize, s: &[u8], state: Field) -> usize
+    ensures { λ r. ⌜ text (now (d .exit)) r ≡ written (stateLine (shown (now (s .entry)) state)) (text (now (d .entry)) at) ⌝ }
 {
-    match f {
+    match state {
         Field::Absent => at,
         Field::At(_, _) => {
-            let state_end = field(d, at, b"state ", first(octets(s, f)));
+            let state_end = field(d, at, b"state ", first(octets(s, state)));
             append(d, state_end, b"\n")
         }
     }
 }
 
 // The token's line, where it is there: its place in the buffer and its length.
-fn token_line(d: &mut [u8], at: usize, s: &[u8], f: Field, k: Field) -> usize
-    requires { ⌜ TokenAt (now s) f k ⌝ }
-    ensures { λ r. ⌜ text (now (d .exit)) r ≡ written (tokenLine (now (s .entry)) (shown (now (s .entry)) f) (shown (now (s .entry)) k))
+fn token_line(d: &mut [u8], at: usize, s: &[u8], token: Field, checksum: Field) -> usize
+    requires { ⌜ TokenAt (now s) token checksum ⌝ }
+    ensures { λ r. ⌜ text (now (d .exit)) r ≡ written (tokenLine (now (s .entry)) (shown (now (s .entry)) token) (shown (now (s .entry)) checksum))
         (text (now (d .entry)) at) ⌝ }
 {
-    match f {
+    match token {
         Field::Absent => at,
         Field::At(b, e) => {
             let place_end = wide_field(d, at, b"token at=", b);
@@ -142,13 +142,13 @@ fn token_line(d: &mut [u8], at: usize, s: &[u8], f: Field, k: Field) -> usize
 }
 
 // The lines of the token and the checksum.
-fn last_lines(d: &mut [u8], at: usize, s: &[u8], t: Field, k: Field) -> usize
-    requires { ⌜ TokenAt (now s) t k ⌝ }
-    ensures { λ r. ⌜ text (now (d .exit)) r ≡ written (lastLines (now (s .entry)) (shown (now (s .entry)) t) (shown (now (s .entry)) k))
+fn last_lines(d: &mut [u8], at: usize, s: &[u8], token: Field, checksum: Field) -> usize
+    requires { ⌜ TokenAt (now s) token checksum ⌝ }
+    ensures { λ r. ⌜ text (now (d .exit)) r ≡ written (lastLines (now (s .entry)) (shown (now (s .entry)) token) (shown (now (s .entry)) checksum))
         (text (now (d .entry)) at) ⌝ }
 {
-    let token_end = token_line(d, at, s, t, k);
-    field_line(d, token_end, b"checksum ", s, k)
+    let token_end = token_line(d, at, s, token, checksum);
+    field_line(d, token_end, b"checksum ", s, checksum)
 }
 
 // The first line: what the envelope is, and its length.

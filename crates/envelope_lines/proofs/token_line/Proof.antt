@@ -11,8 +11,8 @@ use Rattle.text.proofs.wide_field.Reads as wide-field-reads
 enum-told : tie.Need-enum-told
 enum-told c = search needs
 
-enum-known-f : tie.Need-enum-known-f
-enum-known-f c = search needs
+enum-known-token : tie.Need-enum-known-token
+enum-known-token c = search needs
 
 slice-aggregate-wide-field : tie.Need-slice-aggregate-wide-field
 slice-aggregate-wide-field c = search needs
@@ -49,7 +49,7 @@ token-line-spec =
     tie.close
     (tie.spec
     enum-told
-    enum-known-f
+    enum-known-token
     slice-aggregate-wide-field
     wide-field-requires
     slice-aggregate-wide-field-2
