@@ -12,12 +12,11 @@ use lib.Dec.{ltb}
 use borrow.Author.Tests.{le-leb, lt-leb, lt-ltb, le-ltb, ltb-true, ltb-false}
 use Rattle.octets.proofs.Bools.{which}
 use Rattle.token.specs.Token.{Placed, Reading, Accepted, Refused, tokenOf}
-use Rattle.token.specs.Split.{join, placedFrom}
+use Rattle.token.specs.Split.{placedFrom}
 use Rattle.token.specs.Walk.{messagesOf}
 use Rattle.coverage.specs.Coverage.{isCovered}
 use Rattle.blanking.specs.Covered.{liesAt, coveredIn, covered, Agree}
 use Rattle.blanking.specs.Blanked.{kept, blankedBy, blanked, KeepsCovered, ZerosOthers, BlankedDecode, BlankedTwice}
-use Rattle.blanking.specs.Wiped.{keptMessage}
 use Rattle.blanking.proofs.Views.{nothing-points-at, same-listing, same-covered}
 
 -- ---- place by place
@@ -76,10 +75,6 @@ kept-kept f (x ∷ s) at =
       go false = refl
 
 -- ---- message by message
-abbrev pub blankAll : List (List ℕ) → List ℕ
-blankAll [] = []
-blankAll (m ∷ ms) = keptMessage m ++ blankAll ms
-
 -- no message covers what stands before the first
 pub before-first : (p : ℕ) (ms : List (List ℕ)) (i : ℕ) → i < p → coveredIn (placedFrom p ms) i ≡ false
 unfolding coveredIn
@@ -106,17 +101,6 @@ module _ (p : ℕ) (m : List ℕ) (ms : List (List ℕ)) where
   pub behind-first : (i : ℕ) → coveredIn (placedFrom p (m ∷ ms)) (p + length m + i) ≡ coveredIn (placedFrom (p + length m) ms) (p + length m + i)
   unfolding coveredIn
   behind-first i = rw (le-leb p (p + length m + i) (omega arith), le-ltb (p + length m + i) (p + length m) (omega arith))
-
-pub kept-messages : (p : ℕ) (ms : List (List ℕ)) → kept (coveredIn (placedFrom p ms)) (join ms) p ≡ blankAll ms
-kept-messages p [] = unfold kept in refl
-kept-messages p (m ∷ ms) =
-    kept-append (coveredIn (placedFrom p (m ∷ ms))) m (join ms) p
-    ∙ ap (λ (l : List ℕ). l ++ kept (coveredIn (placedFrom p (m ∷ ms))) (join ms) (p + length m))
-    (kept-same (coveredIn (placedFrom p (m ∷ ms))) (isCovered m) m p 0 (in-first p m ms))
-    ∙ ap (λ (l : List ℕ). keptMessage m ++ l)
-    (kept-same (coveredIn (placedFrom p (m ∷ ms))) (coveredIn (placedFrom (p + length m) ms)) (join ms) (p + length m) (p + length m)
-    (λ i h. behind-first p m ms i)
-    ∙ kept-messages (p + length m) ms)
 
 -- ---- the token
 module _ (s : List ℕ) (ps : List Placed) (e : tokenOf s ≡ Accepted ps) where

@@ -16,9 +16,9 @@ use Rattle.token.specs.Token.{Placed, Reading, Outcome, tokenOf, outcomeOf, tol
 use Rattle.token.specs.Split.{join, placedFrom}
 use Rattle.token.specs.Walk.{Accepts}
 use Rattle.token.proofs.Walks.{Left, Turn, turn, whole, accepted-short, answer-accepts, answer-refuses}
-use Rattle.coverage.specs.Coverage.{headerIn, isCovered}
+use Rattle.coverage.specs.Coverage.{isCovered}
 use Rattle.blanking.specs.Covered.{coveredIn, covered}
-use Rattle.blanking.specs.Blanked.{kept, Blanking}
+use Rattle.blanking.specs.Blanked.{kept, blankedBy, blanked, Blanking}
 use Rattle.blanking.specs.Masked.{maskedBy, maskingOf}
 use Rattle.blanking.specs.Wiped.{Room}
 use Rattle.blanking.proofs.Sames.{message-room}
@@ -38,9 +38,7 @@ kept-first p m ms a b e =
 
 -- ---- `cover_messages`: x is what the walk comes to, d₀ the mask at the start, d the mask so far
 pub record Masking (x token d₀ d : List ℕ) (at : ℕ) : Type 0 where
-  pub rest : List ℕ
-  pub is : drop at token ≡ rest
-  pub left : Left rest
+  pub left : Left (drop at token)
   pub done : d ≡ take at x ++ drop at d₀
   pub come : drop at x ≡ kept (coveredIn (placedFrom at (left .ms))) (drop at d₀) at
   pub sized : length x ≡ length token
@@ -52,8 +50,6 @@ pub mask-start : (s d : List ℕ) → Accepts s → length d ≡ length s → Ma
 mask-start s d a e =
     let (w, places) = whole s a in
     record {
-      rest = s;
-      is = refl;
       left = w;
       done = refl;
       come = ap (λ (ps : List Placed). kept (coveredIn ps) d 0) (sym places);
@@ -63,10 +59,19 @@ mask-start s d a e =
       within = omega arith;
     }
 
-module _ (x token d₀ d : List ℕ) (at : ℕ) (on : Masking x token d₀ d at) where
-  left-length : length (on .rest) ≡ length token - at
-  left-length = ap length (sym (on .is)) ∙ length-drop at token
+-- `blank_messages`: a token is its own mask
+pub blank-start : (s : List ℕ) → Accepts s → Masking (blanked s) s s s 0
+blank-start s a = subst (λ (l : List ℕ). Masking l s s s 0) (sym (ap (λ (r : Reading). blankedBy r s) a)) (mask-start s s a refl)
 
+-- what is read of a token from a place on: itself, or what it has become where it is its own mask
+pub record Unread (token t : List ℕ) (at : ℕ) : Type 0 where
+  pub size : length t ≡ length token
+  pub rest : drop at t ≡ drop at token
+
+pub unread-token : (token : List ℕ) (at : ℕ) → Unread token token at
+unread-token token at = record { size = refl; rest = refl }
+
+module _ (x token d₀ d : List ℕ) (at : ℕ) (on : Masking x token d₀ d at) where
   front-length : length (take at x) ≡ at
   front-length = length-take-le at x (let a = on .sized in let b = on .within in omega arith)
 
@@ -79,9 +84,9 @@ module _ (x token d₀ d : List ℕ) (at : ℕ) (on : Masking x token d₀ d at)
   pub mask-length : length d ≡ length token
   mask-length = omega (arith, ap length (on .done), length-append (take at x) (drop at d₀), front-length, length-drop at d₀, on .beside, on .within)
 
-  pub mask-end : length token ≤ at → d ≡ x
-  mask-end h =
-      let a : at ≡ length token = omega (arith, on .within) in
+  pub mask-end : (t : List ℕ) → Unread token t at → length t ≤ at → d ≡ x
+  mask-end t u h =
+      let a : at ≡ length token = omega (arith, on .within, u .size) in
       on .done
       ∙ ap (λ (l : List ℕ). l ++ drop at d₀) (take-all at x (let b = on .sized in omega arith))
       ∙ ap (λ (l : List ℕ). x ++ l) (none (drop at d₀) (let b = on .beside in omega (arith, length-drop at d₀)))
@@ -90,60 +95,54 @@ module _ (x token d₀ d : List ℕ) (at : ℕ) (on : Masking x token d₀ d at)
         none [] e = refl
         none (y ∷ l) e = absurd (omega arith)
 
-  module _ (more : at < length token) (m : List ℕ) (m-is : m ≡ firstOf (take (length token - at) (drop at token))) where
-    own : m ≡ firstOf (on .rest)
-    own = m-is ∙ ap firstOf (tail-all token at ∙ on .is)
+  module _ (t m : List ℕ) (m-is : m ≡ firstOf (take (length t - at) (drop at t))) (more : at < length t) (u : Unread token t at) where
+    here : Turn (drop at token) (on .left) m
+    here = turn (drop at token) (on .left) (omega (arith, length-drop at token, u .size)) m (m-is ∙ ap firstOf (tail-all t at ∙ u .rest))
 
-    here : Turn (on .rest) (on .left)
-    here = turn (on .rest) (on .left) (omega (arith, left-length))
+    fits : at + length m ≤ length token
+    fits = omega (arith, here .fits, length-drop at token, on .within)
 
-    same : length m ≡ length (firstOf (on .rest))
-    same = ap length own
-
-    pub mask-fits : at + length m ≤ length token
-    mask-fits = omega (arith, here .fits, same, left-length)
+    pub mask-fits : at + length m ≤ length t
+    mask-fits = omega (arith, fits, u .size)
 
     pub mask-within : at + length m ≤ length d
-    mask-within = omega (arith, mask-fits, mask-length)
+    mask-within = omega (arith, fits, mask-length)
 
     pub mask-small : at + length m < 2 ^ 64
-    mask-small = omega (arith, mask-fits, on .short)
+    mask-small = omega (arith, fits, on .short)
 
     pub mask-less : length token - (at + length m) < length token - at
-    mask-less = omega (arith, here .some, same, mask-fits)
+    mask-less = omega (arith, here .some, fits)
 
     gone : at + length m - at ≡ length m
     gone = omega arith
 
-    -- the part of the token that is lent is the message
-    lent : take (at + length m - at) (drop at token) ≡ m
+    -- the part that is lent is the message
+    lent : take (at + length m - at) (drop at t) ≡ m
     lent =
-        ap (λ (n : ℕ). take n (drop at token)) gone
-        ∙ ap (take (length m)) (on .is ∙ sym (on .left .joins) ∙ ap join (here .messages) ∙ ap (λ (l : List ℕ). l ++ join (here .left .ms)) (sym own))
+        ap (λ (n : ℕ). take n (drop at t)) gone
+        ∙ ap (take (length m)) (u .rest ∙ sym (on .left .joins) ∙ ap join (here .messages))
         ∙ take-at m (join (here .left .ms)) (length m) refl
 
-    pub mask-room : (n k : ℕ) → 65535 ≤ k → n ≡ k → Room n (take (at + length m - at) (drop at token))
+    pub mask-room : (n k : ℕ) → 65535 ≤ k → n ≡ k → Room n (take (at + length m - at) (drop at t))
     mask-room n k h e =
         subst (Room n) (sym lent)
-        (record {
-          header = subst (λ (l : List ℕ). headerIn l ≤ length l) (sym own) (message-room _ _ (firstOf (on .rest)) (here .first));
-          few = omega (arith, mask-fits, on .short);
-          within = omega (arith, mask-fits, on .short);
-        })
+        (record { header = message-room _ _ m (here .first); few = omega (arith, fits, on .short); within = omega (arith, fits, on .short) })
 
-    pub mask-beside : length (take (at + length m - at) (drop at d)) ≡ length (take (at + length m - at) (drop at token))
+    pub mask-beside : length (take (at + length m - at) (drop at d)) ≡ length (take (at + length m - at) (drop at t))
     mask-beside =
         omega (
           arith,
           length-take (at + length m - at) (drop at d),
           length-take (at + length m - at)
-              (drop at token),
+              (drop at t),
           length-drop at d,
-          length-drop at token,
+          length-drop at t,
           mask-length,
+          u .size,
         )
 
-    module _ (y : List ℕ) (y-is : y ≡ kept (isCovered (take (at + length m - at) (drop at token))) (take (at + length m - at) (drop at d)) 0) where
+    module _ (y : List ℕ) (y-is : y ≡ kept (isCovered (take (at + length m - at) (drop at t))) (take (at + length m - at) (drop at d)) 0) where
       abbrev next : List ℕ
       next = take at d ++ (y ++ drop (at + length m - at) (drop at d))
 
@@ -155,7 +154,7 @@ module _ (x token d₀ d : List ℕ) (at : ℕ) (on : Masking x token d₀ d at)
 
       a-length : length a ≡ length m
       unfolding a
-      a-length = length-take-le (length m) (drop at d₀) (let z = on .beside in omega (arith, length-drop at d₀, mask-fits))
+      a-length = length-take-le (length m) (drop at d₀) (let z = on .beside in omega (arith, length-drop at d₀, fits))
 
       y-kept : y ≡ kept (isCovered m) a 0
       unfolding a
@@ -173,7 +172,6 @@ module _ (x token d₀ d : List ℕ) (at : ℕ) (on : Masking x token d₀ d at)
       split =
           on .come
           ∙ ap (λ (ms : List (List ℕ)). kept (coveredIn (placedFrom at ms)) (drop at d₀) at) (here .messages)
-          ∙ ap (λ (l : List ℕ). kept (coveredIn (placedFrom at (l ∷ here .left .ms))) (drop at d₀) at) (sym own)
           ∙ ap (λ (l : List ℕ). kept (coveredIn (placedFrom at (m ∷ here .left .ms))) l at) (sym (take-append-drop (length m) (drop at d₀)))
           ∙ kept-first at m (here .left .ms) a b a-length
           ∙ ap (λ (l : List ℕ). l ++ kept (coveredIn (placedFrom (at + length m) (here .left .ms))) b (at + length m)) (sym y-kept)
@@ -181,9 +179,13 @@ module _ (x token d₀ d : List ℕ) (at : ℕ) (on : Masking x token d₀ d at)
       pub mask-on : Masking x token d₀ next (at + length m)
       unfolding a b
       mask-on = record {
-        rest = drop (length (firstOf (on .rest))) (on .rest);
-        is = sym (drop-drop (length m) at token) ∙ ap (drop (length m)) (on .is) ∙ ap (λ (n : ℕ). drop n (on .rest)) same;
-        left = here .left;
+        left = record {
+          q = here .left .q;
+          v = here .left .v;
+          ms = here .left .ms;
+          joins = here .left .joins ∙ tail-all (drop at token) (length m) ∙ drop-drop (length m) at token;
+          numbered = here .left .numbered;
+        };
         done =
             ap (λ (l : List ℕ). l ++ (y ++ drop (at + length m - at) (drop at d))) mask-front
             ∙ ap (λ (l : List ℕ). take at x ++ (y ++ l))
@@ -201,10 +203,15 @@ module _ (x token d₀ d : List ℕ) (at : ℕ) (on : Masking x token d₀ d at)
         sized = on .sized;
         beside = on .beside;
         short = on .short;
-        within = mask-fits;
+        within = fits;
       }
 
-pub ruleset masks = (mask-start, mask-length, mask-end, mask-fits, mask-within, mask-small, mask-less, mask-room, mask-beside, mask-on)
+-- where the mask is the token, its rest is not written yet
+pub unread-mask : (x s d : List ℕ) (at : ℕ) → Masking x s s d at → Unread s d at
+unread-mask x s d at on = record { size = mask-length x s s d at on; rest = mask-rest x s s d at on }
+
+pub ruleset masks =
+    (mask-start, blank-start, unread-token, unread-mask, mask-length, mask-end, mask-fits, mask-within, mask-small, mask-less, mask-room, mask-beside, mask-on)
 
 -- ---- `cover`
 module _ (s : List ℕ) (r : Answer) (r-is : told r ≡ outcomeOf (tokenOf s)) (d : List ℕ) where

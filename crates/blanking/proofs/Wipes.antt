@@ -1,37 +1,30 @@
 -- The functions in the words of the code.
 -- Assumes nothing.
-use Prim.Native.Nat.{ℕ, suc, _+_, _-_, _<_, _≤_, _^_, max}
-use mathlib.Core.Path.{_≡_, refl, sym, ap, subst, _∙_}
+use Prim.Native.Nat.{ℕ, suc, _+_, _<_, _≤_, _^_, max}
+use mathlib.Core.Path.{_≡_, refl, sym, ap, _∙_}
 use mathlib.Core.Bool.{Bool, true, false, cond, _&&_, _||_}
-use mathlib.Core.List.{List, [], _∷_, _++_, append-nil, append-assoc}
+use mathlib.Core.List.{List, [], _∷_, _++_, append-nil}
 use native.Mathlib.Numerals.{add-one}
 use native.Mathlib.Omega.{arith}
-use lib.ListN.{length, take, drop, getD, set, length-append, length-drop, drop-of-length-le}
-use lib.Seq.{length-take-le, take-all, drop-cons, take-suc-set, drop-set-lt, append-snoc, take-at, drop-at}
+use lib.ListN.{length, take, drop, getD, set, drop-of-length-le}
+use lib.Seq.{length-take-le, take-all, drop-cons, take-suc-set, drop-set-lt, append-snoc}
 use lib.Dec.{leb, ltb}
 use borrow.Author.Tests.{le-leb, lt-leb, lt-ltb, le-ltb}
 use Rattle.octets.specs.Octets.{le}
-use Rattle.octets.proofs.Slices.{tail-all}
 use Rattle.vector.specs.declared.TokenPlace.{TokenPlace}
 use Rattle.vector.specs.declared.Vector.{Vector}
 use Rattle.message.specs.Layout.{headOf, shapeOf, headerOf, padsOf, contentOf, contentIn, vectorsOf}
-use Rattle.message.specs.Show.{firstOf}
 use Rattle.message.proofs.Shapes.{shape-nego, shape-exchange, shape-verify, shape-alert, header-least}
 use Rattle.token.specs.declared.Answer.{Answer}
 use Rattle.token.specs.declared.Answer.the-variants as answer
-use Rattle.token.specs.Token.{Placed, Reading, Outcome, tokenOf, outcomeOf, told}
-use Rattle.token.specs.Split.{Numbered, join, placedFrom}
-use Rattle.token.specs.Walk.{Accepts}
-use Rattle.token.proofs.Splits.{message-length}
-use Rattle.token.proofs.Walks.{Left, Turn, turn, whole, accepted-short, answer-accepts, answer-refuses}
+use Rattle.token.specs.Token.{Reading, Outcome, tokenOf, outcomeOf, told}
+use Rattle.token.proofs.Walks.{answer-accepts, answer-refuses}
 use Rattle.coverage.specs.Coverage.{headerIn, vectorsIn, liesInPad, liesInOne, isCovered}
 use Rattle.coverage.specs.Sweep.{Clear, markedAll}
 use Rattle.coverage.proofs.Sweeps.{endBefore, end-none, vectors-end, far-next}
-use Rattle.blanking.specs.Covered.{coveredIn}
 use Rattle.blanking.specs.Blanked.{kept, blankedBy, blanked, Blanking, blankingOf}
-use Rattle.blanking.specs.Wiped.{headed, wiped, keptMessage, Room}
-use Rattle.blanking.proofs.Sames.{or-r, message-room}
-use Rattle.blanking.proofs.Keeps.{length-kept, blankAll, kept-messages}
+use Rattle.blanking.specs.Wiped.{headed, wiped, Room}
+use Rattle.blanking.proofs.Sames.{or-r}
 
 -- ---- `lies`
 module _ (at from end : ℕ) where
@@ -134,7 +127,7 @@ module _ (f : ℕ → Bool) (map x m : List ℕ) (far at : ℕ) (inv : x ≡ tak
 
 pub ruleset wipes = (wipe-done, wipe-more)
 
--- ---- `blank_kind`: what a sweep with the farthest end keeps is what is covered
+-- ---- `blank_kind` and `cover_kind`: what a sweep with the farthest end keeps is what is covered
 module _ (f : ℕ → Bool) (map : List ℕ) (clear : Clear map) (vs : List Vector) where
   wiped-kept : (s : List ℕ) (at : ℕ) → at + length s ≤ length map
       → wiped f (markedAll map vs) (endBefore (length map) vs at) s at ≡ kept (λ p. f p || liesInOne vs p) s at
@@ -151,16 +144,6 @@ module _ (m : List ℕ) (kind : ℕ) (kind-is : kind ≡ headOf m .kind) (h : he
   unfolding vectorsIn
   all = let fits : headerIn m ≤ length m = rw kind-is at h in sym (rw (le-leb _ _ fits) refl)
 
-  pub blank-kept : (x : List ℕ) → x ≡ wiped (headed kind) map1 0 m 0 → x ≡ keptMessage m
-  blank-kept x x-is =
-      let vs = vectorsOf (contentOf (shapeOf kind) m) in
-      x-is ∙ ap (λ (l : List ℕ). wiped (headed kind) l 0 m 0) e
-      ∙ ap (λ (n : ℕ). wiped (headed kind) (markedAll map0 vs) n m 0) (sym (end-none (length map0) vs))
-      ∙ wiped-kept (headed kind) map0 clear vs m 0 (omega arith)
-      ∙ ap (λ (k : ℕ). kept (λ p. headed k p || liesInOne (vectorsOf (contentOf (shapeOf k) m)) p) m 0) kind-is
-      ∙ ap (λ (ws : List Vector). kept (λ p. headed (headOf m .kind) p || liesInOne ws p) m 0) all
-
-  -- a mask beside the message, likewise
   pub cover-kept : (d : List ℕ) → length d ≡ length m → (x : List ℕ) → x ≡ wiped (headed kind) map1 0 d 0 → x ≡ kept (isCovered m) d 0
   cover-kept d d-is x x-is =
       let vs = vectorsOf (contentOf (shapeOf kind) m) in
@@ -193,124 +176,6 @@ module _ (map m : List ℕ) (room : Room (length map) m) where
     room-header = rw room-own (room .header)
 
 pub ruleset rooms = (room-kind, room-cells, room-few, room-within, room-own, room-header)
-
--- ---- `blank_messages`: x is what the walk comes to, `rest` what is left of the token
-pub record On-way (x token : List ℕ) (at : ℕ) : Type 0 where
-  pub rest : List ℕ
-  pub is : drop at token ≡ rest
-  pub left : Left rest
-  pub come : x ≡ take at token ++ blankAll (left .ms)
-  pub short : length token ≤ 65535
-  pub within : at ≤ length token
-
-pub way-start : (s : List ℕ) → Accepts s → On-way (blanked s) s 0
-way-start s a =
-    let (w, places) = whole s a in
-    record {
-      rest = s;
-      is = refl;
-      left = w;
-      come =
-          ap (λ (r : Reading). blankedBy r s) a
-          ∙ ap (λ (ps : List Placed). kept (coveredIn ps) s 0) (sym places)
-          ∙ ap (λ (l : List ℕ). kept (coveredIn (placedFrom 0 (w .ms))) l 0) (sym (w .joins))
-          ∙ kept-messages 0 (w .ms);
-      short = accepted-short s a;
-      within = omega arith;
-    }
-
-module _ (x token : List ℕ) (at : ℕ) (on : On-way x token at) where
-  left-length : length (on .rest) ≡ length token - at
-  left-length = ap length (sym (on .is)) ∙ length-drop at token
-
-  pub way-end : length token ≤ at → token ≡ x
-  way-end h =
-      sym (on .come ∙ ap (λ (l : List ℕ). l ++ blankAll (on .left .ms)) (take-all at token h)
-      ∙ ap (λ (l : List ℕ). token ++ l) (go (on .left .ms) (on .left .joins) (on .left .numbered)) ∙ append-nil token) where
-        go : (ms : List (List ℕ)) → join ms ≡ on .rest → Numbered (on .left .q) (on .left .v) ms → blankAll ms ≡ []
-        go [] j e = refl
-        go (m ∷ ms) j e = absurd (omega (arith, ap length j, left-length, length-append m (join ms), message-length _ _ m (e .0)))
-
-  module _ (more : at < length token) (m : List ℕ) (m-is : m ≡ firstOf (take (length token - at) (drop at token))) where
-    own : m ≡ firstOf (on .rest)
-    own = m-is ∙ ap firstOf (tail-all token at ∙ on .is)
-
-    here : Turn (on .rest) (on .left)
-    here = turn (on .rest) (on .left) (omega (arith, left-length))
-
-    same : length m ≡ length (firstOf (on .rest))
-    same = ap length own
-
-    pub way-fits : at + length m ≤ length token
-    way-fits = omega (arith, here .fits, same, left-length)
-
-    pub way-small : at + length m < 2 ^ 64
-    way-small = omega (arith, way-fits, on .short)
-
-    pub way-less : (n : ℕ) → length token ≡ n → n - (at + length m) < n - at
-    way-less n e = omega (arith, here .some, same, way-fits)
-
-    gone : at + length m - at ≡ length m
-    gone = omega arith
-
-    -- the part that is lent is the message
-    split : on .rest ≡ m ++ join (here .left .ms)
-    split = sym (on .left .joins) ∙ ap join (here .messages) ∙ ap (λ (l : List ℕ). l ++ join (here .left .ms)) (sym own)
-
-    lent : take (at + length m - at) (drop at token) ≡ m
-    lent = ap (λ (n : ℕ). take n (drop at token)) gone ∙ ap (take (length m)) (on .is ∙ split) ∙ take-at m (join (here .left .ms)) (length m) refl
-
-    pub way-room : (n k : ℕ) → 65535 ≤ k → n ≡ k → Room n (take (at + length m - at) (drop at token))
-    way-room n k h e =
-        subst (Room n) (sym lent)
-        (record {
-          header = subst (λ (l : List ℕ). headerIn l ≤ length l) (sym own) (message-room _ _ (firstOf (on .rest)) (here .first));
-          few = omega (arith, way-fits, on .short);
-          within = omega (arith, way-fits, on .short);
-        })
-
-    module _ (y : List ℕ) (y-is : y ≡ keptMessage (take (at + length m - at) (drop at token))) where
-      abbrev next : List ℕ
-      next = take at token ++ (y ++ drop (at + length m - at) (drop at token))
-
-      kept-is : y ≡ keptMessage m
-      kept-is = y-is ∙ ap keptMessage lent
-
-      y-length : length y ≡ length m
-      y-length = ap length kept-is ∙ length-kept (isCovered m) m 0
-
-      done : length (take at token ++ y) ≡ at + length m
-      done = length-append (take at token) y ∙ omega (arith, length-take-le at token (on .within), y-length)
-
-      tail : drop (at + length m - at) (drop at token) ≡ drop (length (firstOf (on .rest))) (on .rest)
-      tail = ap (λ (n : ℕ). drop n (drop at token)) (gone ∙ same) ∙ ap (drop (length (firstOf (on .rest)))) (on .is)
-
-      seam : next ≡ (take at token ++ y) ++ drop (at + length m - at) (drop at token)
-      seam = sym (append-assoc (take at token) y (drop (at + length m - at) (drop at token)))
-
-      pub way-length : length next ≡ length token
-      way-length =
-          ap length seam ∙ length-append (take at token ++ y) (drop (at + length m - at) (drop at token))
-          ∙ omega (arith, done, length-drop (at + length m - at) (drop at token), length-drop at token, way-fits)
-
-      pub way-on : On-way x next (at + length m)
-      way-on = record {
-        rest = drop (length (firstOf (on .rest))) (on .rest);
-        is = ap (drop (at + length m)) seam ∙ drop-at (take at token ++ y) (drop (at + length m - at) (drop at token)) (at + length m) done ∙ tail;
-        left = here .left;
-        come =
-            on .come ∙ ap (λ (ms : List (List ℕ)). take at token ++ blankAll ms) (here .messages)
-            ∙ ap (λ (l : List ℕ). take at token ++ (keptMessage l ++ blankAll (here .left .ms))) (sym own)
-            ∙ ap (λ (l : List ℕ). take at token ++ (l ++ blankAll (here .left .ms))) (sym kept-is)
-            ∙ sym (append-assoc (take at token) y (blankAll (here .left .ms)))
-            ∙ ap (λ (l : List ℕ). l ++ blankAll (here .left .ms))
-            (sym (ap (take (at + length m)) seam ∙ take-at (take at token ++ y) (drop (at + length m - at) (drop at token))
-            (at + length m) done));
-        short = omega (arith, way-length, on .short);
-        within = omega (arith, way-length, way-fits);
-      }
-
-pub ruleset ways = (way-start, way-end, way-fits, way-small, way-less, way-room, way-length, way-on)
 
 -- ---- `blank`
 module _ (s : List ℕ) (r : Answer) (r-is : told r ≡ outcomeOf (tokenOf s)) where

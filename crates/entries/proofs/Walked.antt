@@ -11,14 +11,13 @@ use lib.Seq.{take-suc, getD-drop, take-nil, drop-nil, length-take-le}
 use lib.Dec.{eqb}
 use borrow.Author.Tests.{eqb-true, eqb-false}
 use Rattle.octets.proofs.Bools.{which}
-use Rattle.octets.proofs.Slices.{tail-all}
 use Rattle.message.specs.Layout.{headOf, shapeOf}
 use Rattle.message.specs.Show.{firstOf}
 use Rattle.token.specs.Token.{Placed, tokenOf}
-use Rattle.token.specs.Split.{Message, Numbered, join, placedFrom}
+use Rattle.token.specs.Split.{Numbered, join, placedFrom}
 use Rattle.token.specs.Walk.{messagesOf, Accepts}
-use Rattle.token.proofs.Splits.{message-length, accepted-splits}
-use Rattle.token.proofs.Walks.{Left, Turn, turn, whole, accepted-short}
+use Rattle.token.proofs.Splits.{accepted-splits}
+use Rattle.token.proofs.Walks.{Left, Turn, turn, behind, behind-length, turn-fits, turn-less, accepted-short, Walk, walk-begun, walk-ended, walk-passed}
 use Rattle.put.specs.Put.{Written}
 use Rattle.put.proofs.Laws.{put-none, length-put}
 use Rattle.table.specs.Table.{numbers, Held}
@@ -195,63 +194,43 @@ module _ (p : ℕ) (m : List ℕ) (held : Held p m) where
 
 -- ---- on the way through a token: `done` are the entries of the i messages passed
 pub record Walked (T : List Entry) (rest : List ℕ) (place i : ℕ) (done : List Entry) : Type 0 where
-  pub left : Left rest
+  pub walk : Walk T (λ ps. done ++ entriesFrom i ps) rest place
   pub ends : place + length rest ≤ 65535
-  pub come : T ≡ done ++ entriesFrom i (placedFrom place (left .ms))
   pub few : length done ≤ place
   pub early : i ≤ place
 
 walked-begin : (s : List ℕ) → Accepts s → Walked (entriesOf (messagesOf (tokenOf s))) s 0 0 []
 walked-begin s a =
-    let (w, places) = whole s a in
-    record { left = w; ends = omega (arith, accepted-short s a); come = ap entriesOf (sym places); few = omega arith; early = omega arith }
+    record { walk = walk-begun entriesOf s a; ends = omega (arith, accepted-short s a); few = omega arith; early = omega arith }
 
 module _ (T : List Entry) (rest : List ℕ) (place i : ℕ) (done : List Entry) (on : Walked T rest place i done) where
   walked-end : length rest ≤ 0 → done ≡ T
-  walked-end h = go (on .left .ms) (on .left .joins) (on .left .numbered) (on .come) where
-    go : (ms : List (List ℕ)) → join ms ≡ rest → Numbered (on .left .q) (on .left .v) ms → T ≡ done ++ entriesFrom i (placedFrom place ms) → done ≡ T
-    go [] j e c = sym (c ∙ (unfold entriesFrom in append-nil done))
-    go (m ∷ ms) j e c = absurd (omega (arith, ap length j, length-append m (join ms), message-length _ _ m (e .0)))
+  unfolding entriesFrom
+  walked-end h = sym (walk-ended T _ rest place (on .walk) h ∙ append-nil done)
 
   module _ (more : 0 < length rest) (m : List ℕ) (m-is : m ≡ firstOf rest) where
-    here : Turn rest (on .left)
-    here = turn rest (on .left) more
-
-    walked-fits : length m ≤ length rest
-    walked-fits = omega (arith, here .fits, ap length m-is)
+    here : Turn rest (on .walk .left) m
+    here = turn rest (on .walk .left) more m m-is
 
     walked-held : (p : ℕ) → p ≤ place → Held p m
-    walked-held p h =
-        let e : Message (here .number) (here .conversation) m = subst (Message (here .number) (here .conversation)) (sym m-is) (here .first) in
-        message-held p (here .number) (here .conversation) m e (let a = on .ends in omega (arith, walked-fits))
+    walked-held p h = message-held p _ _ m (here .first) (let a = on .ends in omega (arith, here .fits))
 
-    walked-less : length (take (length rest - length m) (drop (length m) rest)) < length rest
-    walked-less = omega (arith, ap length (tail-all rest (length m)), length-drop (length m) rest, here .some, here .fits, ap length m-is)
-
-    walked-on : Walked T (take (length rest - length m) (drop (length m) rest)) (place + length m) (i + 1) (done ++ entriesIn place i m)
-    walked-on =
-        subst (λ (l : List ℕ). Walked T l (place + length m) (i + 1) (done ++ entriesIn place i m)) (sym (tail-all rest (length m)))
-        (subst (λ (l : List ℕ). Walked T (drop (length l) rest) (place + length l) (i + 1) (done ++ entriesIn place i l)) (sym m-is)
-        (record {
-          left = here .left;
-          ends = let a = on .ends in omega (arith, length-drop (length (firstOf rest)) rest, here .fits);
-          come =
-              on .come
-              ∙ ap (λ (ms : List (List ℕ)). done ++ entriesFrom i (placedFrom place ms)) (here .messages)
-              ∙ (unfold entriesFrom in sym
-              (append-assoc done (entriesIn place i (firstOf rest))
-              (entriesFrom (i + 1) (placedFrom (place + length (firstOf rest)) (here .left .ms)))));
-          few =
-              let a = on .few in
-              omega (
-                arith,
-                length-append done (entriesIn place i (firstOf rest)),
-                count-is place i (firstOf rest),
-                few-entries place (firstOf rest)
-                    (subst (Held place) m-is (walked-held place (omega arith))),
-              );
-          early = let a = on .early in omega (arith, here .some);
-        }))
+    walked-on : Walked T (behind rest (length m)) (place + length m) (i + 1) (done ++ entriesIn place i m)
+    walked-on = record {
+      walk = walk-passed T _ rest place (on .walk) more m m-is (λ ps. done ++ entriesIn place i m ++ entriesFrom (i + 1) ps)
+          (λ ps. unfold entriesFrom in sym (append-assoc done (entriesIn place i m) (entriesFrom (i + 1) ps)));
+      ends = let a = on .ends in omega (arith, behind-length rest (length m), here .fits);
+      few =
+          let a = on .few in
+          omega (
+            arith,
+            length-append done (entriesIn place i m),
+            count-is place i m,
+            few-entries place m
+                (walked-held place (omega arith)),
+          );
+      early = let a = on .early in omega (arith, here .some);
+    }
 
 -- ---- the words of `count_entries`
 pub record Counted (T : List Entry) (rest : List ℕ) (n : ℕ) : Type 0 where
@@ -265,24 +244,21 @@ pub counted-begin : (s : List ℕ) → Accepts s → Counted (entriesOf (message
 counted-begin s a = record { place = 0; i = 0; done = []; walked = walked-begin s a; n-is = refl }
 
 module _ (T : List Entry) (rest : List ℕ) (n : ℕ) (on : Counted T rest n) where
+  pub counted-left : Left rest
+  counted-left = on .walked .walk .left
+
   pub counted-end : length rest ≤ 0 → n ≡ length T
   counted-end h = on .n-is ∙ ap length (walked-end T rest (on .place) (on .i) (on .done) (on .walked) h)
 
   module _ (more : 0 < length rest) (m : List ℕ) (m-is : m ≡ firstOf rest) where
-    pub counted-fits : length m ≤ length rest
-    counted-fits = walked-fits T rest (on .place) (on .i) (on .done) (on .walked) more m m-is
-
-    pub counted-less : length (take (length rest - length m) (drop (length m) rest)) < length rest
-    counted-less = walked-less T rest (on .place) (on .i) (on .done) (on .walked) more m m-is
-
     pub counted-held : Held 0 m
     counted-held = walked-held T rest (on .place) (on .i) (on .done) (on .walked) more m m-is 0 (omega arith)
 
     module _ (c : ℕ) (c-is : c ≡ countIn m) where
       pub counted-sum : n + c < 2 ^ 64
-      counted-sum = omega (arith, on .n-is, on .walked .few, on .walked .ends, counted-fits, few-entries 0 m counted-held)
+      counted-sum = omega (arith, on .n-is, on .walked .few, on .walked .ends, turn-fits rest counted-left more m m-is, few-entries 0 m counted-held)
 
-      pub counted-on : Counted T (take (length rest - length m) (drop (length m) rest)) (n + c)
+      pub counted-on : Counted T (behind rest (length m)) (n + c)
       counted-on = record {
         place = on .place + length m;
         i = on .i + 1;
@@ -291,7 +267,7 @@ module _ (T : List Entry) (rest : List ℕ) (n : ℕ) (on : Counted T rest n) wh
         n-is = omega (arith, on .n-is, length-append (on .done) (entriesIn (on .place) (on .i) m), count-is (on .place) (on .i) m);
       }
 
-pub ruleset counting = (counted-begin, counted-end, counted-fits, counted-less, counted-held, counted-sum, counted-on)
+pub ruleset counting = (counted-begin, counted-end, counted-left, turn-fits, turn-less, counted-held, counted-sum, counted-on)
 
 -- ---- the words of `put_entries`
 pub record Shown (T : List Entry) (d : List ℕ) (from : ℕ) (rest : List ℕ) (place i skip : ℕ) (e : List ℕ) (next : ℕ) : Type 0 where
@@ -316,16 +292,13 @@ shown-begin s a d from =
 
 module _ (T : List Entry) (d : List ℕ) (from : ℕ) (rest : List ℕ) (place i skip : ℕ) (e : List ℕ) (next : ℕ)
     (on : Shown T d from rest place i skip e next) where
+  pub shown-left : Left rest
+  shown-left = on .walked .walk .left
+
   pub shown-end : length rest ≤ 0 → Filled d 0 (drop from T) e next
   shown-end h = subst (λ (l : List Entry). Filled d 0 (drop from l) e next) (walked-end T rest place i (on .done) (on .walked) h) (on .written)
 
   module _ (more : 0 < length rest) (m : List ℕ) (m-is : m ≡ firstOf rest) where
-    pub shown-fits : length m ≤ length rest
-    shown-fits = walked-fits T rest place i (on .done) (on .walked) more m m-is
-
-    pub shown-less : length (take (length rest - length m) (drop (length m) rest)) < length rest
-    shown-less = walked-less T rest place i (on .done) (on .walked) more m m-is
-
     pub shown-held : Held place m
     shown-held = walked-held T rest place i (on .done) (on .walked) more m m-is place (omega arith)
 
@@ -353,11 +326,11 @@ module _ (T : List Entry) (d : List ℕ) (from : ℕ) (rest : List ℕ) (place i
 
     pub shown-on : (e' : List ℕ) (next' place' skip' c : ℕ) → c ≡ countIn m → place' ≡ place + length m → skip' ≡ skip - c
         → Filled e next (drop skip (entriesIn place i m)) e' next'
-        → Shown T d from (take (length rest - length m) (drop (length m) rest)) place' (i + 1) skip' e' next'
+        → Shown T d from (behind rest (length m)) place' (i + 1) skip' e' next'
     shown-on e' next' place' skip' c c-is place-is skip-is w =
         let both : drop from (on .done) ++ drop skip (entriesIn place i m) ≡ drop from (on .done ++ entriesIn place i m) =
         ap (λ (j : ℕ). drop from (on .done) ++ drop j (entriesIn place i m)) (on .skipped) ∙ sym (drop-both (on .done) (entriesIn place i m) from) in
-        subst (λ (p : ℕ). Shown T d from (take (length rest - length m) (drop (length m) rest)) p (i + 1) skip' e' next') (sym place-is)
+        subst (λ (p : ℕ). Shown T d from (behind rest (length m)) p (i + 1) skip' e' next') (sym place-is)
         (record {
           done = on .done ++ entriesIn place i m;
           walked = walked-on T rest place i (on .done) (on .walked) more m m-is;
@@ -368,7 +341,7 @@ module _ (T : List Entry) (d : List ℕ) (from : ℕ) (rest : List ℕ) (place i
         })
 
 pub ruleset shows =
-    (shown-begin, shown-end, shown-fits, shown-less, shown-held, shown-message, shown-small, shown-place, shown-next, shown-room, shown-on)
+    (shown-begin, shown-end, shown-left, turn-fits, turn-less, shown-held, shown-message, shown-small, shown-place, shown-next, shown-room, shown-on)
 
 -- ---- an accepted token has no more entries than octets
 few-from : (ms : List (List ℕ)) (place i q : ℕ) (v : List ℕ) → Numbered q v ms → place + length (join ms) ≤ 65535

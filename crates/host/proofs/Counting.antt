@@ -1,20 +1,17 @@
 -- The lines of an accepted token, counted message by message. In the words of the code.
 -- Assumes nothing.
-use Prim.Native.Nat.{ℕ, _+_, _-_, _<_, _≤_, _^_}
-use mathlib.Core.Path.{_≡_, refl, sym, ap, subst, _∙_}
+use Prim.Native.Nat.{ℕ, _+_, _<_, _≤_, _^_}
+use mathlib.Core.Path.{_≡_, sym, ap, subst, _∙_}
 use mathlib.Core.List.{List, [], _∷_, _++_}
 use native.Mathlib.Omega.{arith}
-use lib.ListN.{length, take, drop, length-append, length-drop}
+use lib.ListN.{length, length-append}
 use lib.IntN.{ℤ, pos}
 use mir.Syntax.{w64}
 use mir.Val.{SFits, toZ, ofZ}
-use Rattle.octets.proofs.Slices.{tail-all}
 use Rattle.message.specs.Show.{firstOf}
 use Rattle.token.specs.Token.{Placed, Reading, tokenOf}
-use Rattle.token.specs.Split.{Numbered, join, placedFrom}
 use Rattle.token.specs.Walk.{messagesOf, Accepts}
-use Rattle.token.proofs.Splits.{message-length}
-use Rattle.token.proofs.Walks.{Left, Turn, turn, whole, accepted-short}
+use Rattle.token.proofs.Walks.{Left, turn, behind, turn-fits, turn-less, accepted-short, Walk, walk-begun, walk-ended, walk-passed}
 use Rattle.lines.specs.Lines.{messageLines, endLine}
 use Rattle.lines.specs.Fit.{Fit, shapeIn, linesIn}
 use Rattle.windows.specs.Windows.{texts}
@@ -53,72 +50,49 @@ module _ (s : List ℕ) (a : Accepts s) where
 
 -- what is left of a token, and the lines counted so far
 pub record Counted (total : ℕ) (rest : List ℕ) (n : ℕ) : Type 0 where
-  pub left : Left rest
   pub place : ℕ
+  pub walked : Walk total (λ ps. n + length (allLines ps)) rest place
   pub few : total ≤ 65535
-  pub come : total ≡ n + length (allLines (placedFrom place (left .ms)))
 
 pub count-begin : (s : List ℕ) → Accepts s → Counted (length (allLines (messagesOf (tokenOf s)))) s 0
 count-begin s a =
-    let (w, places) = whole s a in
+    let z : 0 + length (allLines (messagesOf (tokenOf s))) ≡ length (allLines (messagesOf (tokenOf s))) = omega arith in
     record {
-      left = w;
       place = 0;
+      walked = subst (λ (k : ℕ). Walk k (λ ps. 0 + length (allLines ps)) s 0) z (walk-begun (λ ps. 0 + length (allLines ps)) s a);
       few = lines-few s a;
-      come = ap (λ (ps : List Placed). length (allLines ps)) (sym places) ∙ zero-front (length (allLines (placedFrom 0 (w .ms))));
-    } where
-      zero-front : (k : ℕ) → k ≡ 0 + k
-      zero-front k = omega arith
+    }
 
-lines-first : (place : ℕ) (m : List ℕ) (ms : List (List ℕ))
-    → length (allLines (placedFrom place (m ∷ ms))) ≡ 1 + length (linesIn (shapeIn m) m) + length (allLines (placedFrom (place + length m) ms))
+lines-first : (place : ℕ) (m : List ℕ) (ps : List Placed)
+    → length (allLines (record { place = place; octets = m } ∷ ps)) ≡ 1 + length (linesIn (shapeIn m) m) + length (allLines ps)
 unfolding allLines messageLines
-lines-first place m ms = omega (arith, length-append (messageLines place m) (allLines (placedFrom (place + length m) ms)))
+lines-first place m ps = omega (arith, length-append (messageLines place m) (allLines ps))
 
 module _ (total : ℕ) (rest : List ℕ) (n : ℕ) (on : Counted total rest n) where
+  pub count-left : Left rest
+  count-left = on .walked .left
+
   pub count-end : length rest ≤ 0 → n ≡ total
-  count-end h = go (on .left .ms) (on .left .joins) (on .left .numbered) (on .come) where
-    go : (ms : List (List ℕ)) → join ms ≡ rest → Numbered (on .left .q) (on .left .v) ms → total ≡ n + length (allLines (placedFrom (on .place) ms))
-        → n ≡ total
-    go [] j e c = omega (arith, c, none) where
-      none : length (allLines []) ≡ 0
-      none = unfold allLines in refl
-    go (m ∷ ms) j e c = absurd (omega (arith, ap length j, length-append m (join ms), message-length _ _ m (e .0)))
+  unfolding allLines
+  count-end h = omega (arith, walk-ended total _ rest (on .place) (on .walked) h)
 
   module _ (more : 0 < length rest) (m : List ℕ) (m-is : m ≡ firstOf rest) where
-    here : Turn rest (on .left)
-    here = turn rest (on .left) more
-
     pub count-fit : Fit (shapeIn m) m
-    count-fit = subst (λ (l : List ℕ). Fit (shapeIn l) l) (sym m-is) (message-fit (here .number) (here .conversation) (firstOf rest) (here .first))
-
-    pub count-within : length m ≤ length rest
-    count-within = omega (arith, here .fits, ap length m-is)
-
-    pub count-less : length (take (length rest - length m) (drop (length m) rest)) < length rest
-    count-less = omega (arith, ap length (tail-all rest (length m)), length-drop (length m) rest, here .some, here .fits, ap length m-is)
+    count-fit = message-fit _ _ m (turn rest count-left more m m-is .first)
 
     module _ (c : ℕ) (c-is : c ≡ 1 + length (linesIn (shapeIn m) m)) where
-      total-is : total ≡ n + c + length (allLines (placedFrom (on .place + length m) (here .left .ms)))
-      total-is =
-          let own : length (linesIn (shapeIn (firstOf rest)) (firstOf rest)) ≡ length (linesIn (shapeIn m) m) =
-          ap (λ (l : List ℕ). length (linesIn (shapeIn l) l)) (sym m-is) in
-          let far : length (allLines (placedFrom (on .place + length (firstOf rest)) (here .left .ms))) ≡ length (allLines
-          (placedFrom (on .place + length m) (here .left .ms))) =
-          ap (λ (l : List ℕ). length (allLines (placedFrom (on .place + length l) (here .left .ms)))) (sym m-is) in
-          let all : length (allLines (placedFrom (on .place) (on .left .ms))) ≡ length (allLines
-          (placedFrom (on .place) (firstOf rest ∷ here .left .ms))) =
-          ap (λ (ms : List (List ℕ)). length (allLines (placedFrom (on .place) ms))) (here .messages) in
-          omega (arith, on .come, lines-first (on .place) (firstOf rest) (here .left .ms))
+      pub count-on : Counted total (behind rest (length m)) (n + c)
+      count-on =
+          record {
+            place = on .place + length m;
+            walked = walk-passed total _ rest (on .place) (on .walked) more m m-is (λ ps. n + c + length (allLines ps))
+                (λ ps. omega (arith, lines-first (on .place) m ps));
+            few = on .few;
+          }
 
       pub count-small : n + c < 2 ^ 64
-      count-small = omega (arith, total-is, on .few)
-
-      pub count-on : Counted total (take (length rest - length m) (drop (length m) rest)) (n + c)
-      count-on =
-          subst (λ (l : List ℕ). Counted total l (n + c)) (sym (tail-all rest (length m) ∙ ap (λ (l : List ℕ). drop (length l) rest) m-is))
-          (record { left = here .left; place = on .place + length m; few = on .few; come = total-is })
+      count-small = omega (arith, count-on .walked .come, on .few)
 
 pub ruleset totals = (lines-room, lines-small, lines-given)
 
-pub ruleset counting = (count-begin, count-end, count-fit, count-within, count-less, count-small, count-on)
+pub ruleset counting = (count-begin, count-end, count-left, turn-fits, turn-less, count-fit, count-small, count-on)

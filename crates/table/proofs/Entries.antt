@@ -1,15 +1,14 @@
 -- The table of a token, message by message: each entry is no longer than its message. In the words of the code where a function is meant.
 -- Assumes nothing.
-use Prim.Native.Nat.{ℕ, _+_, _-_, _*_, _<_, _≤_, _^_}
+use Prim.Native.Nat.{ℕ, _+_, _*_, _<_, _≤_, _^_}
 use mathlib.Core.Path.{_≡_, refl, sym, ap, subst, _∙_}
 use mathlib.Core.Logic.{inl, inr}
 use mathlib.Core.List.{List, [], _∷_, _++_, append-assoc, append-nil, List·Memᴰ, List·Memᴰ·head, List·Memᴰ·tail}
 use native.Mathlib.Omega.{arith}
-use lib.ListN.{length, take, drop, length-append, length-take, length-drop}
+use lib.ListN.{length, drop, length-append, length-take, length-drop}
 use lib.Dec.{leb, eqb}
 use borrow.Author.Tests.{le-leb, leb-true, leb-false, eqb-true, eqb-false}
 use Rattle.octets.proofs.Bools.{which}
-use Rattle.octets.proofs.Slices.{tail-all}
 use Rattle.vector.specs.declared.Vector.{Vector}
 use Rattle.vector.specs.Vector.{extent, part}
 use Rattle.message.specs.Layout.{Shape, headOf, shapeOf, headerOf, extensionVector, alertVector, contentOf, contentIn, vectorsOf}
@@ -19,9 +18,9 @@ use Rattle.token.specs.Token.{Placed, tokenOf}
 use Rattle.token.specs.Split.{Message, Numbered, join, placedFrom}
 use Rattle.token.specs.Walk.{messagesOf, Accepts}
 use Rattle.token.proofs.Cuts.{passes-sized}
-use Rattle.token.proofs.Splits.{message-length, accepted-splits}
+use Rattle.token.proofs.Splits.{accepted-splits}
 use Rattle.token.proofs.Insides.{message-inside}
-use Rattle.token.proofs.Walks.{Left, Turn, turn, whole, accepted-short}
+use Rattle.token.proofs.Walks.{Left, Turn, turn, behind, behind-length, turn-fits, turn-less, accepted-short, Walk, walk-begun, walk-ended, walk-passed}
 use Rattle.coverage.specs.Coverage.{headerIn, vectorsIn}
 use Rattle.coverage.proofs.Numbered.{count-nego, count-one, count-alert}
 use Rattle.put.specs.Put.{Written}
@@ -142,60 +141,39 @@ table-fits s ps e =
 
 -- ---- on the way through a token: `done` is the table of the messages passed
 pub record Walked (T : List ℕ) (rest : List ℕ) (place : ℕ) (done : List ℕ) : Type 0 where
-  pub left : Left rest
+  pub walk : Walk T (λ ps. done ++ tableOf ps) rest place
   pub ends : place + length rest ≤ 65535
-  pub come : T ≡ done ++ tableOf (placedFrom place (left .ms))
 
 walked-begin : (s : List ℕ) → Accepts s → Walked (tableOf (messagesOf (tokenOf s))) s 0 []
-walked-begin s a =
-    let (w, places) = whole s a in
-    record { left = w; ends = omega (arith, accepted-short s a); come = ap tableOf (sym places) }
+walked-begin s a = record { walk = walk-begun tableOf s a; ends = omega (arith, accepted-short s a) }
 
 module _ (T rest : List ℕ) (place : ℕ) (done : List ℕ) (on : Walked T rest place done) where
   walked-end : length rest ≤ 0 → done ≡ T
-  walked-end h = go (on .left .ms) (on .left .joins) (on .left .numbered) (on .come) where
-    go : (ms : List (List ℕ)) → join ms ≡ rest → Numbered (on .left .q) (on .left .v) ms → T ≡ done ++ tableOf (placedFrom place ms) → done ≡ T
-    go [] j e c = sym (c ∙ (unfold entriesOf numbers in append-nil done))
-    go (m ∷ ms) j e c = absurd (omega (arith, ap length j, length-append m (join ms), message-length _ _ m (e .0)))
+  unfolding entriesOf numbers
+  walked-end h = sym (walk-ended T _ rest place (on .walk) h ∙ append-nil done)
 
   module _ (more : 0 < length rest) (m : List ℕ) (m-is : m ≡ firstOf rest) where
-    here : Turn rest (on .left)
-    here = turn rest (on .left) more
-
-    walked-fits : length m ≤ length rest
-    walked-fits = omega (arith, here .fits, ap length m-is)
+    here : Turn rest (on .walk .left) m
+    here = turn rest (on .walk .left) more m m-is
 
     walked-held : Held place m
-    walked-held =
-        let e : Message (here .number) (here .conversation) m = subst (Message (here .number) (here .conversation)) (sym m-is) (here .first) in
-        message-held place (here .number) (here .conversation) m e (let a = on .ends in omega (arith, walked-fits))
+    walked-held = message-held place _ _ m (here .first) (let a = on .ends in omega (arith, here .fits))
 
-    walked-less : length (take (length rest - length m) (drop (length m) rest)) < length rest
-    walked-less = omega (arith, ap length (tail-all rest (length m)), length-drop (length m) rest, here .some, here .fits, ap length m-is)
-
-    walked-on : Walked T (take (length rest - length m) (drop (length m) rest)) (place + length m) (done ++ numbers (entryOf (placedAt place m)))
-    walked-on =
-        subst (λ (l : List ℕ). Walked T l (place + length m) (done ++ numbers (entryOf (placedAt place m)))) (sym (tail-all rest (length m)))
-        (subst (λ (l : List ℕ). Walked T (drop (length l) rest) (place + length l) (done ++ numbers (entryOf (placedAt place l)))) (sym m-is)
-        (record {
-          left = here .left;
-          ends = let a = on .ends in omega (arith, length-drop (length (firstOf rest)) rest, here .fits);
-          come =
-              on .come
-              ∙ ap (λ (ms : List (List ℕ)). done ++ tableOf (placedFrom place ms)) (here .messages)
-              ∙ ap (λ (l : List ℕ). done ++ l)
-              (table-first (placedAt place (firstOf rest)) (placedFrom (place + length (firstOf rest)) (here .left .ms)))
-              ∙ sym (append-assoc done (numbers (entryOf (placedAt place (firstOf rest))))
-              (tableOf (placedFrom (place + length (firstOf rest)) (here .left .ms))));
-        }))
+    walked-on : Walked T (behind rest (length m)) (place + length m) (done ++ numbers (entryOf (placedAt place m)))
+    walked-on = record {
+      walk = walk-passed T _ rest place (on .walk) more m m-is (λ ps. done ++ numbers (entryOf (placedAt place m)) ++ tableOf ps)
+          (λ ps. ap (λ (l : List ℕ). done ++ l) (table-first (placedAt place m) ps)
+          ∙ sym (append-assoc done (numbers (entryOf (placedAt place m))) (tableOf ps)));
+      ends = let a = on .ends in omega (arith, behind-length rest (length m), here .fits);
+    }
 
     -- what is passed with this message is no longer than the table
     walked-room : length done + (24 + 8 * length (vectorsIn m)) ≤ length T
     walked-room =
         omega (
           arith,
-          ap length (walked-on .come),
-          length-append (done ++ numbers (entryOf (placedAt place m))) (tableOf (placedFrom (place + length m) (walked-on .left .ms))),
+          ap length (walked-on .walk .come),
+          length-append (done ++ numbers (entryOf (placedAt place m))) (tableOf (placedFrom (place + length m) (walked-on .walk .left .ms))),
           length-append done (numbers (entryOf (placedAt place m))),
           entry-length place m,
         )
@@ -219,16 +197,13 @@ sized-begin s a =
     }
 
 module _ (T rest : List ℕ) (n : ℕ) (on : Sized T rest n) where
+  pub sized-left : Left rest
+  sized-left = on .walked .walk .left
+
   pub sized-end : length rest ≤ 0 → n ≡ length T
   sized-end h = on .n-is ∙ ap length (walked-end T rest (on .place) (on .done) (on .walked) h)
 
   module _ (more : 0 < length rest) (m : List ℕ) (m-is : m ≡ firstOf rest) where
-    pub sized-fits : length m ≤ length rest
-    sized-fits = walked-fits T rest (on .place) (on .done) (on .walked) more m m-is
-
-    pub sized-less : length (take (length rest - length m) (drop (length m) rest)) < length rest
-    sized-less = walked-less T rest (on .place) (on .done) (on .walked) more m m-is
-
     module _ (c : ℕ) (c-is : c ≡ length (vectorsIn m)) where
       room : n + (24 + 8 * c) ≤ 65535
       room = let a = on .short in omega (arith, walked-room T rest (on .place) (on .done) (on .walked) more m m-is, on .n-is)
@@ -242,7 +217,7 @@ module _ (T rest : List ℕ) (n : ℕ) (on : Sized T rest n) where
       pub sized-sum : n + (24 + 8 * c) < 2 ^ 64
       sized-sum = omega (arith, room)
 
-      pub sized-on : Sized T (take (length rest - length m) (drop (length m) rest)) (n + (24 + 8 * c))
+      pub sized-on : Sized T (behind rest (length m)) (n + (24 + 8 * c))
       sized-on = record {
         place = on .place + length m;
         done = on .done ++ numbers (entryOf (placedAt (on .place) m));
@@ -251,7 +226,7 @@ module _ (T rest : List ℕ) (n : ℕ) (on : Sized T rest n) where
         short = on .short;
       }
 
-pub ruleset sizes = (sized-begin, sized-end, sized-fits, sized-less, sized-product, sized-entry, sized-sum, sized-on)
+pub ruleset sizes = (sized-begin, sized-end, sized-left, turn-fits, turn-less, sized-product, sized-entry, sized-sum, sized-on)
 
 -- ---- the words of `put_entry` and `put_table`
 module _ (p : ℕ) (m : List ℕ) (d : List ℕ) (at : ℕ) (room : at + (24 + 8 * length (vectorsIn m)) ≤ length d) where
@@ -286,16 +261,13 @@ stored-begin s a d h =
     record { done = []; walked = walked-begin s a; written = record { size = refl; after = refl; holds = sym (put-none d 0) }; room = h }
 
 module _ (T d rest : List ℕ) (place : ℕ) (e : List ℕ) (next : ℕ) (on : Stored T d rest place e next) where
+  pub stored-left : Left rest
+  stored-left = on .walked .walk .left
+
   pub stored-end : length rest ≤ 0 → Written d 0 (length T) T e next
   stored-end h = subst (λ (l : List ℕ). Written d 0 (length l) l e next) (walked-end T rest place (on .done) (on .walked) h) (on .written)
 
   module _ (more : 0 < length rest) (m : List ℕ) (m-is : m ≡ firstOf rest) where
-    pub stored-fits : length m ≤ length rest
-    stored-fits = walked-fits T rest place (on .done) (on .walked) more m m-is
-
-    pub stored-less : length (take (length rest - length m) (drop (length m) rest)) < length rest
-    stored-less = walked-less T rest place (on .done) (on .walked) more m m-is
-
     pub stored-held : Held place m
     stored-held = walked-held T rest place (on .done) (on .walked) more m m-is
 
@@ -315,11 +287,11 @@ module _ (T d rest : List ℕ) (place : ℕ) (e : List ℕ) (next : ℕ) (on : S
 
     pub stored-on : (e' : List ℕ) (next' place' : ℕ) → place' ≡ place + length m
         → Written e next (24 + 8 * length (vectorsIn m)) (numbers (entryOf (placedAt place m))) e' next'
-        → Stored T d (take (length rest - length m) (drop (length m) rest)) place' e' next'
+        → Stored T d (behind rest (length m)) place' e' next'
     stored-on e' next' place' place-is w =
         let size : length (on .done) + (24 + 8 * length (vectorsIn m)) ≡ length (on .done ++ numbers (entryOf (placedAt place m))) =
         omega (arith, length-append (on .done) (numbers (entryOf (placedAt place m))), entry-length place m) in
-        subst (λ (p : ℕ). Stored T d (take (length rest - length m) (drop (length m) rest)) p e' next') (sym place-is)
+        subst (λ (p : ℕ). Stored T d (behind rest (length m)) p e' next') (sym place-is)
         (record {
           done = on .done ++ numbers (entryOf (placedAt place m));
           walked = walked-on T rest place (on .done) (on .walked) more m m-is;
@@ -331,4 +303,4 @@ module _ (T d rest : List ℕ) (place : ℕ) (e : List ℕ) (next : ℕ) (on : S
 
 pub ruleset entries = (held-long, vectors-small, entry-front, entry-rest, entry-written)
 
-pub ruleset stores = (stored-begin, stored-end, stored-fits, stored-less, stored-held, stored-small, stored-place, stored-room, stored-on)
+pub ruleset stores = (stored-begin, stored-end, stored-left, turn-fits, turn-less, stored-held, stored-small, stored-place, stored-room, stored-on)

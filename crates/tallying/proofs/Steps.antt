@@ -6,12 +6,11 @@ use mathlib.Core.Bool.{Bool, true, false, _&&_}
 use mathlib.Core.List.{List, [], _∷_}
 use native.Mathlib.Numerals.{add-one}
 use native.Mathlib.Omega.{arith}
-use lib.ListN.{length, getD, take, drop, length-drop, length-append, drop-of-length-le}
+use lib.ListN.{length, getD, drop, drop-of-length-le}
 use lib.Seq.{set-out, drop-cons}
 use lib.Dec.{leb}
 use borrow.Author.Tests.{le-leb, lt-leb}
 use Rattle.octets.specs.Octets.{le}
-use Rattle.octets.proofs.Slices.{tail-all}
 use Rattle.vector.specs.Vector.{shown}
 use Rattle.vector.specs.declared.TokenPlace.{TokenPlace}
 use Rattle.message.specs.Layout.{headOf, schemeVector}
@@ -19,10 +18,9 @@ use Rattle.message.specs.Show.{idsOf, schemesIn, firstOf}
 use Rattle.token.specs.declared.Answer.{Answer}
 use Rattle.token.specs.declared.Answer.the-variants as answer
 use Rattle.token.specs.Token.{Reading, Refused, tokenOf, outcomeOf, told}
-use Rattle.token.specs.Split.{Numbered, join, placedFrom}
+use Rattle.token.specs.Split.{placedFrom}
 use Rattle.token.specs.Walk.{messagesOf, Accepts}
-use Rattle.token.proofs.Splits.{message-length}
-use Rattle.token.proofs.Walks.{Left, Turn, turn, whole, accepted-short, answer-accepts, answer-refuses}
+use Rattle.token.proofs.Walks.{Left, Turn, turn, behind, behind-length, turn-fits, turn-less, accepted-short, Walk, walk-begun, walk-ended, walk-passed, answer-accepts, answer-refuses}
 use Rattle.coverage.specs.declared.Octets.{Octets}
 use Rattle.coverage.specs.Coverage.{octetsIn}
 use Rattle.offers.specs.declared.Table.{Table}
@@ -130,70 +128,56 @@ left-octets s w e = ap allOctets (sym e) ∙ octets-placed 0 (w .ms)
 
 -- on the way through a file: x is what the walk comes to, `rest` what is left of the file s
 pub record Going-on (x : Tally) (s rest : List ℕ) (t : Tally) : Type 0 where
-  pub left : Left rest
-  pub come : x ≡ withMessages t (left .ms)
+  pub place : ℕ
+  pub walked : Walk x (λ ps. withMessages t (allOctets ps)) rest place
   pub short : length s ≤ 65535
   pub within : length rest ≤ length s
   pub bounded : Bounded (LIMIT + (length s - length rest)) t
 
 pub begin : (t : Tally) (s : List ℕ) (room : ℕ) → Start t s room → Going-on (withMessages t (allOctets (messagesOf (tokenOf s)))) s s t
 begin t s room k =
-    let (w, places) = whole s (k .accepted) in
     record {
-      left = w;
-      come = ap (withMessages t) (left-octets s w places);
+      place = 0;
+      walked = walk-begun (λ ps. withMessages t (allOctets ps)) s (k .accepted);
       short = accepted-short s (k .accepted);
       within = omega arith;
       bounded = bounded-more LIMIT (LIMIT + (length s - length s)) t (k .bounded) (omega arith);
     }
 
 module _ (x : Tally) (s rest : List ℕ) (t : Tally) (on : Going-on x s rest t) where
+  pub left : Left rest
+  left = on .walked .left
+
   pub at-end : length rest ≤ 0 → t ≡ x
-  at-end h = sym (on .come ∙ go (on .left .ms) (on .left .joins) (on .left .numbered)) where
-    go : (ms : List (List ℕ)) → join ms ≡ rest → Numbered (on .left .q) (on .left .v) ms → withMessages t ms ≡ t
-    go [] j e = unfold withMessages in refl
-    go (m ∷ ms) j e = absurd (omega (arith, ap length j, length-append m (join ms), message-length _ _ m (e .0)))
+  unfolding withMessages
+  at-end h = sym (walk-ended x _ rest (on .place) (on .walked) h)
 
   module _ (more : 0 < length rest) (m : List ℕ) (m-is : m ≡ firstOf rest) where
-    here : Turn rest (on .left)
-    here = turn rest (on .left) more
-
-    own : length m ≡ length (firstOf rest)
-    own = ap length m-is
-
-    pub walk-fits : length m ≤ length rest
-    walk-fits = omega (arith, here .fits, own)
-
-    left-length : length (take (length rest - length m) (drop (length m) rest)) ≡ length rest - length m
-    left-length = ap length (tail-all rest (length m)) ∙ length-drop (length m) rest
-
-    pub walk-less : length (take (length rest - length m) (drop (length m) rest)) < length rest
-    walk-less = omega (arith, left-length, here .some, here .fits, own)
+    here : Turn rest left m
+    here = turn rest left more m m-is
 
     pub walk-ready : (t0 : Tally) (room room0 : ℕ) → Start t0 s room0 → room ≡ room0 → Ready t m room
     walk-ready t0 room room0 k e =
         record {
           bounded = bounded-more (LIMIT + (length s - length rest)) 4295032830 t (on .bounded) (omega (arith, on .short));
-          long = omega (arith, here .some, own);
-          short = omega (arith, walk-fits, on .within, on .short);
-          within = omega (arith, walk-fits, on .within, on .short, k .within);
+          long = omega (arith, here .some);
+          short = omega (arith, here .fits, on .within, on .short);
+          within = omega (arith, here .fits, on .within, on .short, k .within);
         }
 
-    pub walk-on : (u : Tally) → u ≡ withMessage t m → Going-on x s (take (length rest - length m) (drop (length m) rest)) u
-    unfolding withMessages
+    pub walk-on : (u : Tally) → u ≡ withMessage t m → Going-on x s (behind rest (length m)) u
     walk-on u u-is =
-        subst (λ (l : List ℕ). Going-on x s l u) (sym (tail-all rest (length m) ∙ ap (λ (l : List ℕ). drop (length l) rest) m-is))
-        (record {
-          left = here .left;
-          come = on .come ∙ ap (withMessages t) (here .messages)
-              ∙ ap (λ (v : Tally). withMessages v (here .left .ms)) (ap (withMessage t) (sym m-is) ∙ sym u-is);
+        record {
+          place = on .place + length m;
+          walked = walk-passed x _ rest (on .place) (on .walked) more m m-is (λ ps. withMessages u (allOctets ps))
+              (λ ps. unfold withMessages in ap (λ (v : Tally). withMessages v (allOctets ps)) (sym u-is));
           short = on .short;
-          within = omega (arith, length-drop (length (firstOf rest)) rest, on .within);
-          bounded = subst (λ (v : Tally). Bounded (LIMIT + (length s - length (drop (length (firstOf rest)) rest))) v) (sym u-is)
+          within = omega (arith, behind-length rest (length m), on .within);
+          bounded = subst (Bounded (LIMIT + (length s - length (behind rest (length m))))) (sym u-is)
               (bounded-more (LIMIT + (length s - length rest) + length m) _ (withMessage t m)
-              (bounded-message (LIMIT + (length s - length rest)) t m (on .bounded) (omega (arith, here .some, own)))
-              (omega (arith, length-drop (length (firstOf rest)) rest, on .within, here .fits, own)));
-        })
+              (bounded-message (LIMIT + (length s - length rest)) t m (on .bounded) (omega (arith, here .some)))
+              (omega (arith, behind-length rest (length m), on .within, here .fits)));
+        }
 
 -- ---- `with_file`: a map that has room for the file
 module _ (t : Tally) (s : List ℕ) (k : Start t s (length s)) where
@@ -203,7 +187,7 @@ module _ (t : Tally) (s : List ℕ) (k : Start t s (length s)) where
   pub start-long : (room : ℕ) → 65535 ≤ room → Start t s room
   start-long room h = start-in room (omega (arith, accepted-short s (k .accepted)))
 
-pub ruleset walks = (begin, at-end, walk-fits, walk-less, walk-ready, walk-on)
+pub ruleset walks = (begin, at-end, left, turn-fits, turn-less, walk-ready, walk-on)
 
 -- ---- `with_answer`
 pub answer-is : (t : Tally) (n : ℕ) (answers : List ℕ) → answers ≡ oneMore (t .answers) n

@@ -37,34 +37,54 @@ first-message q v m r e =
     let fits : length m ≤ length (m ++ r) = omega (arith, length-append m r) in
     simp (le-leb _ _ long, h, le-leb _ _ fits) (take-at m r (length m) refl)
 
--- the message at the front, of n octets, and what is left after it
-pub record Turn (rest : List ℕ) (w : Left rest) : Type 0 where
-  pub left : Left (drop (length (firstOf rest)) rest)
-  pub some : 64 ≤ length (firstOf rest)
-  pub fits : length (firstOf rest) ≤ length rest
-  pub number : ℕ
-  pub conversation : List ℕ
-  pub first : Message number conversation (firstOf rest)
-  pub messages : w .ms ≡ firstOf rest ∷ left .ms
+-- nothing is left: no message is
+pub none-left : (rest : List ℕ) (w : Left rest) → length rest ≤ 0 → w .ms ≡ []
+none-left rest w h = go (w .ms) (w .joins) (w .numbered) where
+  go : (ms : List (List ℕ)) → join ms ≡ rest → Numbered (w .q) (w .v) ms → ms ≡ []
+  go [] j e = refl
+  go (m ∷ ms) j e = absurd (omega (arith, ap length j, length-append m (join ms), message-length _ _ m (e .0)))
 
-pub turn : (rest : List ℕ) (w : Left rest) → 0 < length rest → Turn rest w
-turn rest w more = go (w .ms) (w .joins) (w .numbered) refl where
-  go : (ms : List (List ℕ)) → join ms ≡ rest → Numbered (w .q) (w .v) ms → w .ms ≡ ms → Turn rest w
-  go [] j e is = absurd (omega (arith, ap length j))
-  go (m ∷ ms) j e is =
-      let own : firstOf rest ≡ m = ap firstOf (sym j) ∙ first-message (w .q) (w .v) m (join ms) (e .0) in
-      let n : length (firstOf rest) ≡ length m = ap length own in
-      let rest-is : join ms ≡ drop (length (firstOf rest)) rest =
-      sym (ap (drop (length (firstOf rest))) (sym j) ∙ drop-at m (join ms) (length (firstOf rest)) (sym n)) in
-      record {
-        left = record { q = w .q + 1; v = w .v; ms = ms; joins = rest-is; numbered = e .1 };
-        some = omega (arith, message-length (w .q) (w .v) m (e .0));
-        fits = omega (arith, ap length j, length-append m (join ms));
-        number = w .q;
-        conversation = w .v;
-        first = subst (Message (w .q) (w .v)) (sym own) (e .0);
-        messages = is ∙ ap (λ (x : List ℕ). x ∷ ms) (sym own);
-      }
+-- the octets behind the first n, in the words of the code
+abbrev pub behind : List ℕ → ℕ → List ℕ
+behind rest n = take (length rest - n) (drop n rest)
+
+pub behind-length : (rest : List ℕ) (n : ℕ) → length (behind rest n) ≡ length rest - n
+behind-length rest n = ap length (tail-all rest n) ∙ length-drop n rest
+
+-- the message m at the front, and what is left behind it
+pub record Turn (rest : List ℕ) (w : Left rest) (m : List ℕ) : Type 0 where
+  pub left : Left (behind rest (length m))
+  pub some : 64 ≤ length m
+  pub fits : length m ≤ length rest
+  pub first : Message (w .q) (w .v) m
+  pub messages : w .ms ≡ m ∷ left .ms
+
+module _ (rest : List ℕ) (w : Left rest) (more : 0 < length rest) (m : List ℕ) (m-is : m ≡ firstOf rest) where
+  pub turn : Turn rest w m
+  turn = go (w .ms) (w .joins) (w .numbered) refl where
+    go : (ms : List (List ℕ)) → join ms ≡ rest → Numbered (w .q) (w .v) ms → w .ms ≡ ms → Turn rest w m
+    go [] j e is = absurd (omega (arith, ap length j))
+    go (k ∷ ms) j e is =
+        let own : m ≡ k = m-is ∙ ap firstOf (sym j) ∙ first-message (w .q) (w .v) k (join ms) (e .0) in
+        let n : length m ≡ length k = ap length own in
+        let rest-is : join ms ≡ behind rest (length m) =
+        sym (tail-all rest (length m) ∙ ap (drop (length m)) (sym j) ∙ drop-at k (join ms) (length m) (sym n)) in
+        record {
+          left = record { q = w .q + 1; v = w .v; ms = ms; joins = rest-is; numbered = e .1 };
+          some = omega (arith, message-length (w .q) (w .v) k (e .0));
+          fits = omega (arith, ap length j, length-append k (join ms));
+          first = subst (Message (w .q) (w .v)) (sym own) (e .0);
+          messages = is ∙ ap (λ (x : List ℕ). x ∷ ms) (sym own);
+        }
+
+  pub turn-fits : length m ≤ length rest
+  turn-fits = turn .fits
+
+  pub turn-less : length (behind rest (length m)) < length rest
+  turn-less = omega (arith, behind-length rest (length m), turn .some, turn .fits)
+
+-- what every walk asks for
+pub ruleset turns = (turn-fits, turn-less)
 
 -- an accepted token is left whole
 pub whole : (s : List ℕ) → Accepts s → (w : Left s) × (placedFrom 0 (w .ms) ≡ messagesOf (tokenOf s))
@@ -75,17 +95,38 @@ whole s a =
 pub accepted-short : (s : List ℕ) → Accepts s → length s ≤ 65535
 accepted-short s a = let (ms, (split, places)) = accepted-splits s (messagesOf (tokenOf s)) a in split .short
 
+-- on the way through a token to x, which is what f says of the messages that are left
+pub record Walk {X : Type 0} (x : X) (f : List Placed → X) (rest : List ℕ) (place : ℕ) : Type 0 where
+  pub left : Left rest
+  pub come : x ≡ f (placedFrom place (left .ms))
+
+pub walk-begun : {X : Type 0} (f : List Placed → X) (s : List ℕ) → Accepts s → Walk (f (messagesOf (tokenOf s))) f s 0
+walk-begun f s a = let (w, places) = whole s a in record { left = w; come = ap f (sym places) }
+
+module _ {X : Type 0} (x : X) (f : List Placed → X) (rest : List ℕ) (place : ℕ) (on : Walk x f rest place) where
+  pub walk-ended : length rest ≤ 0 → x ≡ f []
+  walk-ended h = on .come ∙ ap (λ (ms : List (List ℕ)). f (placedFrom place ms)) (none-left rest (on .left) h)
+
+  -- past the message m: g says of those behind it what f says of all
+  pub walk-passed : 0 < length rest → (m : List ℕ) → m ≡ firstOf rest → (g : List Placed → X)
+      → ((ps : List Placed) → f (record { place = place; octets = m } ∷ ps) ≡ g ps) → Walk x g (behind rest (length m)) (place + length m)
+  walk-passed more m m-is g step =
+      let here : Turn rest (on .left) m = turn rest (on .left) more m m-is in
+      record {
+        left = here .left;
+        come = on .come ∙ ap (λ (ms : List (List ℕ)). f (placedFrom place ms)) (here .messages) ∙ step (placedFrom (place + length m) (here .left .ms));
+      }
+
 -- nothing, at place 0: what stands beyond a token's list
 abbrev beyond : Placed
 beyond = record { place = 0; octets = [] }
 
 -- on the way to message k of s: `left` messages are still to be passed over
 pub record OnWay (s : List ℕ) (k : ℕ) (rest : List ℕ) (place left : ℕ) : Type 0 where
-  pub here : Left rest
+  pub walked : Walk (messageAt s k) (λ ps. getD ps left beyond) rest place
   pub short : length s ≤ 65535
-  pub more : left < length (here .ms)
+  pub more : left < length (walked .left .ms)
   pub ends : place + length rest ≡ length s
-  pub at : messageAt s k ≡ getD (placedFrom place (here .ms)) left beyond
 
 length-placed : (p : ℕ) (ms : List (List ℕ)) → length (placedFrom p ms) ≡ length ms
 length-placed p [] = refl
@@ -93,26 +134,25 @@ length-placed p (m ∷ ms) = ap suc (length-placed (p + length m) ms)
 
 module _ (s : List ℕ) (k : ℕ) (rest : List ℕ) (place left : ℕ) (on : OnWay s k rest place left) where
   some : 0 < length rest
-  some = go (on .here .ms) (on .here .joins) (on .here .numbered) (on .more) where
-    go : (ms : List (List ℕ)) → join ms ≡ rest → Numbered (on .here .q) (on .here .v) ms → left < length ms → 0 < length rest
+  some = go (on .walked .left .ms) (on .walked .left .joins) (on .walked .left .numbered) (on .more) where
+    go : (ms : List (List ℕ)) → join ms ≡ rest → Numbered (on .walked .left .q) (on .walked .left .v) ms → left < length ms → 0 < length rest
     go [] j e h = absurd (omega arith)
     go (m ∷ ms) j e h = omega (arith, ap length j, length-append m (join ms), message-length _ _ m (e .0))
 
-  here-turn : Turn rest (on .here)
-  here-turn = turn rest (on .here) some
-
-  at-is : messageAt s k ≡ getD (placedFrom place (firstOf rest ∷ here-turn .left .ms)) left beyond
-  at-is = on .at ∙ ap (λ (ms : List (List ℕ)). getD (placedFrom place ms) left beyond) (here-turn .messages)
-
   pub way-end : left ≤ 0 → place ≡ messageAt s k .place
   way-end h =
-      let z : left ≡ 0 =
-      omega arith in
-      sym (ap (λ (m : Placed). m .place) (at-is ∙ ap (λ (n : ℕ). getD (placedFrom place (firstOf rest ∷ here-turn .left .ms)) n beyond) z))
+      let z : left ≡ 0 = omega arith in
+      let here : Turn rest (on .walked .left) (firstOf rest) = turn rest (on .walked .left) some (firstOf rest) refl in
+      sym (ap (λ (m : Placed). m .place) (on .walked .come
+      ∙ ap (λ (ms : List (List ℕ)). getD (placedFrom place ms) left beyond) (here .messages)
+      ∙ ap (λ (n : ℕ). getD (placedFrom place (firstOf rest ∷ here .left .ms)) n beyond) z))
 
   module _ (m : List ℕ) (m-is : m ≡ firstOf rest) where
+    here : Turn rest (on .walked .left) m
+    here = turn rest (on .walked .left) some m m-is
+
     pub way-fits : length m ≤ length rest
-    way-fits = omega (arith, here-turn .fits, ap length m-is)
+    way-fits = here .fits
 
     pub way-small : length m < 2 ^ 32
     way-small = omega (arith, way-fits, on .ends, on .short)
@@ -120,24 +160,22 @@ module _ (s : List ℕ) (k : ℕ) (rest : List ℕ) (place left : ℕ) (on : OnW
     pub way-place : place + length m < 2 ^ 64
     way-place = omega (arith, way-fits, on .ends, on .short)
 
-    pub way-on : 0 < left → (next : ℕ) → next ≡ place + length m → OnWay s k (take (length rest - length m) (drop (length m) rest)) next (left - 1)
-    way-on some next next-is =
-        subst (λ (l : List ℕ). OnWay s k l next (left - 1)) (sym (tail-all rest (length m)))
-        (subst (λ (l : List ℕ). OnWay s k (drop (length l) rest) next (left - 1)) (sym m-is)
+    pub way-on : 0 < left → (next : ℕ) → next ≡ place + length m → OnWay s k (behind rest (length m)) next (left - 1)
+    way-on some-left next next-is =
+        subst (λ (n : ℕ). OnWay s k (behind rest (length m)) n (left - 1)) (sym next-is)
         (record {
-          here = here-turn .left;
+          walked = record {
+            left = here .left;
+            come = on .walked .come ∙ ap (λ (ms : List (List ℕ)). getD (placedFrom place ms) left beyond) (here .messages)
+                ∙ passed left some-left (placedFrom (place + length m) (here .left .ms));
+          };
           short = on .short;
-          more = omega (arith, on .more, ap length (here-turn .messages));
-          ends = omega (arith, on .ends, here-turn .fits, length-drop (length (firstOf rest)) rest, ap length m-is);
-          at = at-is ∙ passed left some ∙ ap (λ (n : ℕ). getD (placedFrom n (here-turn .left .ms)) (left - 1) beyond)
-              (ap (λ (l : List ℕ). place + length l) (sym m-is) ∙ sym next-is);
-        })) where
-          passed : (n : ℕ) → 0 < n → getD (placedFrom place (firstOf rest ∷ here-turn .left .ms)) n beyond
-              ≡ getD (placedFrom (place + length (firstOf rest)) (here-turn .left .ms)) (n - 1) beyond
-          passed zero h = absurd (omega arith)
-          passed (suc n) h =
-              let e : n ≡ suc n - 1 =
-              omega arith in ap (λ (j : ℕ). getD (placedFrom (place + length (firstOf rest)) (here-turn .left .ms)) j beyond) e
+          more = omega (arith, on .more, ap length (here .messages));
+          ends = omega (arith, on .ends, here .fits, behind-length rest (length m));
+        }) where
+          passed : (n : ℕ) → 0 < n → (ps : List Placed) → getD (record { place = place; octets = m } ∷ ps) n beyond ≡ getD ps (n - 1) beyond
+          passed zero h ps = absurd (omega arith)
+          passed (suc n) h ps = let e : n ≡ suc n - 1 = omega arith in ap (λ (j : ℕ). getD ps j beyond) e
 
 -- the two answers of the structural reading
 module _ (s : List ℕ) where
@@ -248,11 +286,10 @@ way-start s k h =
     let (w, places) = whole s (accepts s k h) in
     let few : k < length (messagesOf (tokenOf s)) = ltb-true _ _ h in
     record {
-      here = w;
+      walked = record { left = w; come = ap (λ (ps : List Placed). getD ps k beyond) (sym places) };
       short = accepted-short s (accepts s k h);
       more = omega (arith, ap length places, length-placed 0 (w .ms));
       ends = omega arith;
-      at = ap (λ (ps : List Placed). getD ps k beyond) (sym places);
     }
 
 pub ruleset walks = (has-none, has-some, walk-has, place-none, message-none, message-within, message-there)

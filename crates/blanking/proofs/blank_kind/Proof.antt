@@ -1,6 +1,6 @@
 -- Assumes nothing.
-use Rattle.blanking.proofs.Wipes.{blank-kept}
-use mathlib.Core.Path.{_≡_}
+use Rattle.blanking.proofs.Wipes.{cover-kept}
+use mathlib.Core.Path.{_≡_, refl}
 use lib.ListN.{length}
 use borrow.Author.Needs.{needs}
 use Rattle.blanking.proofs.blank_kind.Statement.{statement}
@@ -27,7 +27,7 @@ returns c =
     let cleared = c .before .before .before .before .before .before .before .before .before .before .before .before .clear in
     let marks = c .before .before .before .before .before .before .before .mark-kind in
     let same : length (cleared .last .0) ≡ length (b .args .map .now) = search needs in
-    blank-kept _ _ (b .pre .3) (b .pre .2) (b .args .map .now) _ _ (b .pre .1) same (cleared .ensures) (marks .ensures) _
+    cover-kept _ _ (b .pre .3) (b .pre .2) (b .args .map .now) _ _ (b .pre .1) same (cleared .ensures) (marks .ensures) _ refl _
     (c .before .before .wipe .ensures)
 
 pub blank-kind-spec : {M : Type 1} → statement M
