@@ -16,8 +16,9 @@ use Rattle.message.specs.Show.{firstOf}
 use Rattle.token.specs.Token.{Placed, tokenOf}
 use Rattle.token.specs.Split.{Numbered, join, placedFrom}
 use Rattle.token.specs.Walk.{messagesOf, Accepts}
+use Rattle.token.proofs.Cuts.{behind, behind-length}
 use Rattle.token.proofs.Splits.{accepted-splits}
-use Rattle.token.proofs.Walks.{Left, Turn, turn, behind, behind-length, turn-fits, turn-less, accepted-short, Walk, walk-begun, walk-ended, walk-passed}
+use Rattle.token.proofs.Walks.{Left, Turn, turn, turn-fits, turn-less, accepted-short, Walk, walk-begun, walk-ended, walk-passed}
 use Rattle.put.specs.Put.{Written}
 use Rattle.put.proofs.Laws.{put-none, length-put}
 use Rattle.table.specs.Table.{numbers, Held}

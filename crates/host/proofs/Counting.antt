@@ -11,7 +11,8 @@ use mir.Val.{SFits, toZ, ofZ}
 use Rattle.message.specs.Show.{firstOf}
 use Rattle.token.specs.Token.{Placed, Reading, tokenOf}
 use Rattle.token.specs.Walk.{messagesOf, Accepts}
-use Rattle.token.proofs.Walks.{Left, turn, behind, turn-fits, turn-less, accepted-short, Walk, walk-begun, walk-ended, walk-passed}
+use Rattle.token.proofs.Cuts.{behind}
+use Rattle.token.proofs.Walks.{Left, turn, turn-fits, turn-less, accepted-short, Walk, walk-begun, walk-ended, walk-passed}
 use Rattle.lines.specs.Lines.{messageLines, endLine}
 use Rattle.lines.specs.Fit.{Fit, shapeIn, linesIn}
 use Rattle.windows.specs.Windows.{texts}

@@ -14,8 +14,8 @@ use Rattle.message.proofs.Tables.{given}
 use Rattle.token.specs.Token.{Placed, tokenOf}
 use Rattle.token.specs.Split.{Message}
 use Rattle.token.specs.Walk.{messagesOf, Accepts}
-use Rattle.token.proofs.Cuts.{passes-parts, passes-sized}
-use Rattle.token.proofs.Walks.{Left, Turn, turn, behind, behind-length, turn-fits, turn-less, accepted-short, Walk, walk-begun, walk-ended, walk-passed}
+use Rattle.token.proofs.Cuts.{behind, behind-length, passes-parts, passes-sized}
+use Rattle.token.proofs.Walks.{Left, Turn, turn, turn-fits, turn-less, accepted-short, Walk, walk-begun, walk-ended, walk-passed}
 use Rattle.lines.specs.Lines.{messageLines}
 use Rattle.lines.specs.Fit.{Fit, shapeIn}
 use Rattle.windows.specs.Windows.{texts}

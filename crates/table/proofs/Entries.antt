@@ -17,10 +17,10 @@ use Rattle.message.proofs.Shapes.{shape-nego, shape-alert, header-least}
 use Rattle.token.specs.Token.{Placed, tokenOf}
 use Rattle.token.specs.Split.{Message, Numbered, join, placedFrom}
 use Rattle.token.specs.Walk.{messagesOf, Accepts}
-use Rattle.token.proofs.Cuts.{passes-sized}
+use Rattle.token.proofs.Cuts.{behind, behind-length, passes-sized}
 use Rattle.token.proofs.Splits.{accepted-splits}
 use Rattle.token.proofs.Insides.{message-inside}
-use Rattle.token.proofs.Walks.{Left, Turn, turn, behind, behind-length, turn-fits, turn-less, accepted-short, Walk, walk-begun, walk-ended, walk-passed}
+use Rattle.token.proofs.Walks.{Left, Turn, turn, turn-fits, turn-less, accepted-short, Walk, walk-begun, walk-ended, walk-passed}
 use Rattle.coverage.specs.Coverage.{headerIn, vectorsIn}
 use Rattle.coverage.proofs.Numbered.{count-nego, count-one, count-alert}
 use Rattle.put.specs.Put.{Written}

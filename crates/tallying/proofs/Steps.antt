@@ -20,7 +20,8 @@ use Rattle.token.specs.declared.Answer.the-variants as answer
 use Rattle.token.specs.Token.{Reading, Refused, tokenOf, outcomeOf, told}
 use Rattle.token.specs.Split.{placedFrom}
 use Rattle.token.specs.Walk.{messagesOf, Accepts}
-use Rattle.token.proofs.Walks.{Left, Turn, turn, behind, behind-length, turn-fits, turn-less, accepted-short, Walk, walk-begun, walk-ended, walk-passed, answer-accepts, answer-refuses}
+use Rattle.token.proofs.Cuts.{behind, behind-length}
+use Rattle.token.proofs.Walks.{Left, Turn, turn, turn-fits, turn-less, accepted-short, Walk, walk-begun, walk-ended, walk-passed, answer-accepts, answer-refuses}
 use Rattle.coverage.specs.declared.Octets.{Octets}
 use Rattle.coverage.specs.Coverage.{octetsIn}
 use Rattle.offers.specs.declared.Table.{Table}

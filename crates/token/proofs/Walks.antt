@@ -5,7 +5,7 @@ use mathlib.Core.Path.{_≡_, refl, sym, ap, subst, _∙_}
 use mathlib.Core.Bool.{Bool, true, false}
 use mathlib.Core.List.{List, [], _∷_, _++_}
 use native.Mathlib.Omega.{arith}
-use lib.ListN.{length, take, drop, getD, length-append, length-drop, List·getD-eq-default}
+use lib.ListN.{length, take, drop, getD, length-append, List·getD-eq-default}
 use lib.Seq.{take-at, drop-at, drop-append-add}
 use lib.Dec.{ltb}
 use borrow.Author.Tests.{le-leb, le-ltb, ltb-true, ltb-false}
@@ -18,6 +18,7 @@ use Rattle.token.specs.declared.Answer.the-variants as answer
 use Rattle.token.specs.Token.{Placed, Reading, Accepted, Refused, tokenOf, messages, refusal, outcomeOf, told}
 use Rattle.token.specs.Split.{Message, Numbered, join, placedFrom}
 use Rattle.token.specs.Walk.{messagesOf, Accepts, hasMessage, messageAt}
+use Rattle.token.proofs.Cuts.{behind, behind-length}
 use Rattle.token.proofs.Splits.{message-head, message-length, accepted-splits}
 
 -- the messages that are left of a token, numbered on from q
@@ -43,13 +44,6 @@ none-left rest w h = go (w .ms) (w .joins) (w .numbered) where
   go : (ms : List (List ℕ)) → join ms ≡ rest → Numbered (w .q) (w .v) ms → ms ≡ []
   go [] j e = refl
   go (m ∷ ms) j e = absurd (omega (arith, ap length j, length-append m (join ms), message-length _ _ m (e .0)))
-
--- the octets behind the first n, in the words of the code
-abbrev pub behind : List ℕ → ℕ → List ℕ
-behind rest n = take (length rest - n) (drop n rest)
-
-pub behind-length : (rest : List ℕ) (n : ℕ) → length (behind rest n) ≡ length rest - n
-behind-length rest n = ap length (tail-all rest n) ∙ length-drop n rest
 
 -- the message m at the front, and what is left behind it
 pub record Turn (rest : List ℕ) (w : Left rest) (m : List ℕ) : Type 0 where
@@ -82,9 +76,6 @@ module _ (rest : List ℕ) (w : Left rest) (more : 0 < length rest) (m : List �
 
   pub turn-less : length (behind rest (length m)) < length rest
   turn-less = omega (arith, behind-length rest (length m), turn .some, turn .fits)
-
--- what every walk asks for
-pub ruleset turns = (turn-fits, turn-less)
 
 -- an accepted token is left whole
 pub whole : (s : List ℕ) → Accepts s → (w : Left s) × (placedFrom 0 (w .ms) ≡ messagesOf (tokenOf s))
