@@ -1,13 +1,13 @@
 -- The functions in the words of the code.
 -- Assumes nothing.
 use Prim.Native.Nat.{ℕ, zero, suc, _+_, _-_, _*_, _≤_, _<_, _^_, min, max}
-use mathlib.Core.Path.{_≡_, refl, sym, ap, _∙_}
+use mathlib.Core.Path.{_≡_, sym, ap, _∙_}
 use mathlib.Core.Bool.{Bool, true, false}
 use mathlib.Core.Logic.{inl, inr}
-use mathlib.Core.List.{List, [], _∷_}
+use mathlib.Core.List.{List}
 use native.Mathlib.Numerals.{sub-one}
 use native.Mathlib.Omega.{arith}
-use lib.ListN.{length, getD, set, take, drop, length-drop, List·getD-eq-default}
+use lib.ListN.{length, getD, set, take, drop, length-drop, drop-of-length-le, List·getD-eq-default}
 use lib.Seq.{getD-set-same, getD-set-other, set-out, take-all, length-take-le}
 use lib.Dec.{leb, ltb, eqb}
 use borrow.Author.Tests.{lt-ltb, le-ltb, lt-leb, le-leb, ltb-true, ltb-false, leb-true, leb-false, eqb-true, eqb-false}
@@ -24,26 +24,20 @@ use Rattle.coverage.proofs.Sweeps.{length-marks, heldBy, sweep-held}
 use Rattle.coverage.proofs.Sums.{count-same, count-not, count-below, count-zero}
 
 -- ---- `part`
-drop-out : (m : List ℕ) (o : ℕ) → length m ≤ o → drop o m ≡ []
-drop-out [] zero h = refl
-drop-out [] (suc o) h = refl
-drop-out (x ∷ m) zero h = absurd (omega arith)
-drop-out (x ∷ m) (suc o) h = drop-out m o (omega arith)
-
-drop-min : (m : List ℕ) (o : ℕ) → drop (min o (length m)) m ≡ drop o m
-drop-min m o = elim (which (leb o (length m))) [
-  | inl e ↦ let h = leb-true o (length m) e in let z : min o (length m) ≡ o = omega arith in rw z
+pub drop-least : {A : Type 0} (l : List A) (k : ℕ) → drop (min k (length l)) l ≡ drop k l
+drop-least l k = elim (which (leb k (length l))) [
+  | inl e ↦ let h = leb-true k (length l) e in let z : min k (length l) ≡ k = omega arith in rw z
   | inr e ↦ let h =
-      leb-false o (length m) e in let z : min o (length m) ≡ length m =
-      omega arith in rw z (drop-out m (length m) (omega arith) ∙ sym (drop-out m o (omega arith)))
+      leb-false k (length l) e in let z : min k (length l) ≡ length l =
+      omega arith in rw z (drop-of-length-le l {i = length l} (omega arith) ∙ sym (drop-of-length-le l {i = k} (omega arith)))
 ]
 
-take-min : (m : List ℕ) (k : ℕ) → take (min k (length m)) m ≡ take k m
-take-min m k = elim (which (leb k (length m))) [
-  | inl e ↦ let h = leb-true k (length m) e in let z : min k (length m) ≡ k = omega arith in rw z
+pub take-least : {A : Type 0} (l : List A) (k : ℕ) → take (min k (length l)) l ≡ take k l
+take-least l k = elim (which (leb k (length l))) [
+  | inl e ↦ let h = leb-true k (length l) e in let z : min k (length l) ≡ k = omega arith in rw z
   | inr e ↦ let h =
-      leb-false k (length m) e in let z : min k (length m) ≡ length m =
-      omega arith in rw z (take-all (length m) m (omega arith) ∙ sym (take-all k m (omega arith)))
+      leb-false k (length l) e in let z : min k (length l) ≡ length l =
+      omega arith in rw z (take-all (length l) l (omega arith) ∙ sym (take-all k l (omega arith)))
 ]
 
 module _ (m : List ℕ) (v : Vector) (from len : ℕ) (from-is : from ≡ min (v .offset .0) (length m))
@@ -52,7 +46,7 @@ module _ (m : List ℕ) (v : Vector) (from len : ℕ) (from-is : from ≡ min (v
   part-is =
       let l : length (drop from m) ≡ length m - from = length-drop from m in
       let e : from + len - from ≡ min (extent v) (length (drop from m)) = omega arith in
-      rw e (take-min (drop from m) (extent v) ∙ ap (take (extent v)) (ap (λ (k : ℕ). drop k m) from-is ∙ drop-min m (v .offset .0)))
+      rw e (take-least (drop from m) (extent v) ∙ ap (take (extent v)) (ap (λ (k : ℕ). drop k m) from-is ∙ drop-least m (v .offset .0)))
 
 -- ---- `mark`
 module _ (map : List ℕ) (v : Vector) where

@@ -19,6 +19,7 @@ use Rattle.token.specs.Walk.{messagesOf, Accepts}
 use Rattle.token.proofs.Cuts.{behind, behind-length}
 use Rattle.token.proofs.Splits.{accepted-splits}
 use Rattle.token.proofs.Walks.{Left, Turn, turn, turn-fits, turn-less, accepted-short, Walk, walk-begun, walk-ended, walk-passed}
+use Rattle.coverage.proofs.Marks.{drop-least, take-least}
 use Rattle.put.specs.Put.{Written}
 use Rattle.put.proofs.Laws.{put-none, length-put}
 use Rattle.table.specs.Table.{numbers, Held}
@@ -32,19 +33,6 @@ use Rattle.entries.proofs.Bounds.{ids-inside, array-inside}
 use Rattle.entries.proofs.Pieces.{count-is, few-fields}
 
 -- ---- lists
-drop-least : (l : List Entry) (k : ℕ) → drop (min k (length l)) l ≡ drop k l
-drop-least [] k = drop-nil (min k 0) ∙ sym (drop-nil k)
-drop-least (x ∷ xs) zero = let e : min 0 (length (x ∷ xs)) ≡ 0 = omega arith in ap (λ (j : ℕ). drop j (x ∷ xs)) e
-drop-least (x ∷ xs) (suc k) =
-    let e : min (suc k) (length (x ∷ xs)) ≡ suc (min k (length xs)) = omega arith in ap (λ (j : ℕ). drop j (x ∷ xs)) e ∙ drop-least xs k
-
-take-least : (l : List Entry) (k : ℕ) → take (min (length l) k) l ≡ take k l
-take-least [] k = take-nil (min 0 k) ∙ sym (take-nil k)
-take-least (x ∷ xs) zero = let e : min (length (x ∷ xs)) 0 ≡ 0 = omega arith in ap (λ (j : ℕ). take j (x ∷ xs)) e
-take-least (x ∷ xs) (suc k) =
-    let e : min (length (x ∷ xs)) (suc k) ≡ suc (min (length xs) k) = omega arith in
-    ap (λ (j : ℕ). take j (x ∷ xs)) e ∙ ap (λ (l : List Entry). x ∷ l) (take-least xs k)
-
 drop-both : (a b : List Entry) (k : ℕ) → drop k (a ++ b) ≡ drop k a ++ drop (k - length a) b
 drop-both [] b k = let e : k ≡ k - 0 = omega arith in ap (λ (j : ℕ). drop j b) e ∙ ap (λ (l : List Entry). l ++ drop (k - 0) b) (sym (drop-nil k))
 drop-both (x ∷ a) b zero = let e : 0 ≡ 0 - length (x ∷ a) = omega arith in ap (λ (j : ℕ). (x ∷ a) ++ drop j b) e
@@ -87,7 +75,10 @@ same-both a b h g = omega arith
 least-gap : (n from begin : ℕ) → begin ≡ min from n → n - begin ≡ n - from
 least-gap n from begin e = omega arith
 
-short-most : (a b : ℕ) → min a b ≤ a
+least-swap : (a b : ℕ) → min a b ≡ min b a
+least-swap a b = omega arith
+
+short-most : (a b : ℕ) → min a b ≤ b
 short-most a b = omega arith
 
 -- ---- the words of `put_message`
@@ -118,13 +109,14 @@ module _ (p i : ℕ) (m : List ℕ) (d : List ℕ) (at n begin count : ℕ) (n-i
         let rest : drop begin E ≡ drop from E = ap (λ (j : ℕ). drop j E) (begin-is ∙ ap (min from) (sym E-length)) ∙ drop-least E from in
         let left : n - begin ≡ length (drop from E) =
         least-gap n from begin begin-is ∙ ap (λ (j : ℕ). j - from) (sym E-length) ∙ sym (length-drop from E) in
-        let k-is : k ≡ min (length (drop from E)) ((length d - at) / 24) =
-        same-both count k h g ∙ count-is' ∙ ap (λ (j : ℕ). min j ((length d - at) / 24)) left in
+        let k-is : k ≡ min ((length d - at) / 24) (length (drop from E)) =
+        same-both count k h g ∙ count-is' ∙ ap (λ (j : ℕ). min j ((length d - at) / 24)) left
+        ∙ least-swap (length (drop from E)) ((length d - at) / 24) in
         let shown : take k (drop begin E) ≡ take ((length d - at) / 24) (drop from E) =
         ap (take k) rest ∙ ap (λ (j : ℕ). take j (drop from E)) k-is ∙ take-least (drop from E) ((length d - at) / 24) in
         let few : k ≤ length (drop begin E) =
         subst (λ (l : List Entry). k ≤ length l) (sym rest)
-        (subst (λ (j : ℕ). j ≤ length (drop from E)) (sym k-is) (short-most (length (drop from E)) ((length d - at) / 24))) in
+        (subst (λ (j : ℕ). j ≤ length (drop from E)) (sym k-is) (short-most ((length d - at) / 24) (length (drop from E)))) in
         let long : k ≡ length (take k (drop begin E)) = sym (length-take-le k (drop begin E) few) in
         subst (λ (l : List Entry). Written d at (24 * length l) (entryOctets l) e next) shown
         (subst (λ (j : ℕ). Written d at (24 * j) (entryOctets (take k (drop begin E))) e next) long on)
