@@ -1,16 +1,18 @@
 -- The three fields behind the first, in the words of the code.
 -- Assumes nothing.
-use Prim.Native.Nat.{ℕ}
+use Prim.Native.Nat.{ℕ, _+_, _-_, _≤_}
 use mathlib.Core.Path.{_≡_, sym, ap, _∙_}
 use mathlib.Core.List.{List, append-nil}
+use native.Mathlib.Omega.{arith}
+use lib.ListN.{length}
 use Rattle.der.specs.Got.{Got, ok, no}
 use Rattle.der.specs.Element.{any}
-use Rattle.der.specs.Grammar.{optional}
+use Rattle.der.specs.Grammar.{fieldOctets, optional}
 use Rattle.der.specs.Holder.{Holder, part}
-use Rattle.der.proofs.Parts.{part-none}
+use Rattle.der.proofs.Parts.{part-none, length-part}
 use Rattle.der.proofs.Nesting.{optional-forth}
 use Rattle.envelope.specs.Reading.{Tail, tailOf}
-use Rattle.envelope.specs.Answers.{shown, Before, FieldTo, Optionals, TailPlaced, toldTail, Tails}
+use Rattle.envelope.specs.Answers.{shown, FieldIn, Before, FieldTo, Optionals, TailPlaced, toldTail, Tails}
 use Rattle.envelope.specs.declared.Field.{Field}
 use Rattle.envelope.specs.declared.Field.the-variants as fields
 use Rattle.envelope.specs.declared.Optional.{Optional}
@@ -28,6 +30,20 @@ before s end (fields.At f g) k a b w e z =
     let h = optional-forth 0xA3 0x04 any (part s a end) (record { value = shown s k; rest = part s b end }) e .0 in
     let i : g ≡ a = w .ends .1 in
     rw i (h ∙ rw (z, part-none s end, append-nil))
+
+-- so its place follows from the sizes
+module _ (s : List ℕ) (t k : Field) (inside : FieldIn s t) (last : Before s (length s) t k) (b e : ℕ) (there : t ≡ fields.At b e) where
+  pub token-inside : (b ≤ e) × (e ≤ length s)
+  token-inside = rw there at inside
+
+  pub token-size : length (part s b e) ≡ e - b
+  token-size = length-part s b e (token-inside .0) (token-inside .1)
+
+  pub token-place : length s - (length (part s b e) + length (fieldOctets 0xA3 0x04 (shown s k))) ≡ b
+  token-place =
+      let i = token-inside in
+      let behind : part s e (length s) ≡ fieldOctets 0xA3 0x04 (shown s k) = rw there at last in
+      omega (arith, token-size, length-part s e (length s) (i .1) (omega arith), ap length behind)
 
 module _ (s : List ℕ) (at end u : ℕ) (h : Holder s at end) (y : Optional) (y-says : Optionals s end (optional 0xA1 u any (part s at end)) y) where
   abbrev Says : Tailed → Type 0

@@ -17,9 +17,7 @@ use Rattle.octets.proofs.Bools.{which}
 use Rattle.text.specs.Text.{quoted, decimal, decimal64, digitsOf, Text, written}
 use Rattle.text.proofs.Pieces.{then}
 use Rattle.der.specs.Got.{Got, ok, no, check}
-use Rattle.der.specs.Grammar.{fieldOctets}
 use Rattle.der.specs.Holder.{part}
-use Rattle.der.proofs.Parts.{length-part}
 use Rattle.envelope.specs.Reading.{listOf, envelopeOf}
 use Rattle.envelope.specs.Answers.{shown, mechanismsIn, told, Reads}
 use Rattle.envelope.specs.declared.Field.{Field}
@@ -28,9 +26,10 @@ use Rattle.envelope.specs.declared.Init.{Init}
 use Rattle.envelope.specs.declared.Resp.{Resp}
 use Rattle.envelope.specs.declared.Read.{Read}
 use Rattle.envelope.specs.declared.Read.the-variants as reads
+use Rattle.envelope.proofs.Tails.{token-inside, token-size, token-place}
 use Rattle.envelope_parts.specs.Parts.{octetsIn, mechanismOf, isNegoex}
 use Rattle.envelope_parts.proofs.Mechanisms.{each-mechanism}
-use Rattle.envelope_lines.specs.Lines.{octetsText, mechanismLine, mechanismLines, octetsLine, namedLines, stateLine, tokenPlace, tokenLine, lastLines, headLine, refusedText, textOf, envelopeText, octetsOf, tokenIn, begun, wroteLine}
+use Rattle.envelope_lines.specs.Lines.{octetsText, mechanismLine, mechanismLines, octetsLine, namedLines, stateLine, tokenLine, lastLines, headLine, refusedText, textOf, envelopeText, octetsOf, tokenIn, begun, wroteLine}
 use Rattle.envelope_lines.specs.Answers.{TokenAt, InitAt, toldInit, RespAt, toldResp}
 
 -- a field OCTETS
@@ -142,26 +141,16 @@ pub ruleset fields' = (octets-absent, named-absent, state-absent, octets-there, 
 
 -- the token's line
 module _ (t : Text) (s : List ℕ) (f k : Field) (at : TokenAt s f k) (b e : ℕ) (there : f ≡ fields.At b e) where
-  inside : (b ≤ e) × (e ≤ length s)
-  inside = rw there at (at .inside)
-
   pub token-order : b ≤ e
-  token-order = inside .0
-
-  size : length (part s b e) ≡ e - b
-  size = length-part s b e (inside .0) (inside .1)
-
-  behind : length s - e ≡ length (fieldOctets 0xA3 0x04 (shown s k))
-  behind = let i = inside in sym (length-part s e (length s) (inside .1) (omega arith)) ∙ ap length (rw there at (at .last))
-
-  place : tokenPlace s (part s b e) (shown s k) ≡ b
-  place = let i = inside in omega (arith, size, behind)
+  token-order = token-inside s f k (at .inside) (at .last) b e there .0
 
   pub token-there : (x y u : Text) → x ≡ written (quoted "token at=" ∷ decimal64 b ∷ []) t
       → y ≡ written (quoted " length=" ∷ decimal64 (e - b) ∷ []) x → u ≡ written (quoted "\n" ∷ []) y
       → u ≡ written (tokenLine s (shown s f) (shown s k)) t
   unfolding tokenLine
-  token-there x y u p q r = rw (there, place, size) (then t y u _ _ (then t x y _ _ p q) r)
+  token-there x y u p q r =
+      rw (there, token-place s f k (at .inside) (at .last) b e there, token-size s f k (at .inside) (at .last) b e there)
+      (then t y u _ _ (then t x y _ _ p q) r)
 
 pub ruleset tokens = (token-absent, token-order, token-there)
 

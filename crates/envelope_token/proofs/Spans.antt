@@ -1,15 +1,12 @@
 -- The token of an envelope, in the words of the code.
 -- Assumes nothing.
-use Prim.Native.Nat.{ℕ, _+_, _-_, _<_, _≤_, _^_}
-use mathlib.Core.Path.{_≡_, sym, ap, _∙_}
+use Prim.Native.Nat.{ℕ, _-_, _<_, _≤_, _^_}
+use mathlib.Core.Path.{_≡_, ap, _∙_}
 use mathlib.Core.List.{List}
 use native.Mathlib.Omega.{arith}
 use lib.ListN.{length}
 use borrow.Author.Tests.{lt-leb}
 use Rattle.der.specs.Got.{Got, ok, no, bind, check}
-use Rattle.der.specs.Grammar.{fieldOctets}
-use Rattle.der.specs.Holder.{part}
-use Rattle.der.proofs.Parts.{length-part}
 use Rattle.envelope.specs.Envelope.{Envelope}
 use Rattle.envelope.specs.Reading.{envelopeOf}
 use Rattle.envelope.specs.Answers.{shown, Placed, Reads}
@@ -19,6 +16,7 @@ use Rattle.envelope.specs.declared.Init.{Init}
 use Rattle.envelope.specs.declared.Resp.{Resp}
 use Rattle.envelope.specs.declared.Read.{Read}
 use Rattle.envelope.specs.declared.Read.the-variants as reads
+use Rattle.envelope.proofs.Tails.{token-inside, token-size, token-place}
 use Rattle.envelope_token.specs.declared.Carried.{Carried}
 use Rattle.envelope_token.specs.declared.Carried.the-variants as answer
 use Rattle.envelope_token.specs.Tokens.{Span, spanIn, spanOf, carriedOf, said, TokenAt}
@@ -30,7 +28,7 @@ module _ (s : List ℕ) (f k : Field) (at : TokenAt s f k) where
 
   module _ (b e : ℕ) (there : f ≡ fields.At b e) where
     inside : (b ≤ e) × (e ≤ length s)
-    inside = rw there at (at .inside)
+    inside = token-inside s f k (at .inside) (at .last) b e there
 
     pub span-order : b ≤ e
     span-order = inside .0
@@ -41,17 +39,8 @@ module _ (s : List ℕ) (f k : Field) (at : TokenAt s f k) where
     pub span-size : e - b < 2 ^ 32
     span-size = let i = inside in omega (arith, at .short)
 
-    size : length (part s b e) ≡ e - b
-    size = length-part s b e (inside .0) (inside .1)
-
-    behind : length s - e ≡ length (fieldOctets 0xA3 0x04 (shown s k))
-    behind = let i = inside in sym (length-part s e (length s) (inside .1) (omega arith)) ∙ ap length (rw there at (at .last))
-
-    place : length s - (length (part s b e) + length (fieldOctets 0xA3 0x04 (shown s k))) ≡ b
-    place = let i = inside in omega (arith, size, behind)
-
     pub span-there : _≡_ {A = Got Span} (ok (record { place = b; size = e - b })) (spanIn s (shown s f) (shown s k))
-    span-there = rw (there, place, size)
+    span-there = rw (there, token-place s f k (at .inside) (at .last) b e there, token-size s f k (at .inside) (at .last) b e there)
 
 pub ruleset spans = (span-absent, span-order, span-place, span-size, span-there)
 
