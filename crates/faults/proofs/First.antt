@@ -27,7 +27,7 @@ use Rattle.coverage.specs.Coverage.{headerIn, vectorsIn}
 use Rattle.faults.specs.declared.Spot.{Spot}
 use Rattle.faults.specs.Faults.{spot, noSpot, firstBroken, brokenIn, vectorSpot, brokenSpot, firstCritical, criticalSpot, checksumSpot, spotOf}
 use Rattle.faults.specs.Claims.{Check, commonChecks, orderChecks, vectorChecks, criticalChecks, contentChecks, checksOf, FirstCheck, FaultFirst}
-use Rattle.faults.proofs.Spots.{at-3, at-4, at-5, at-6, at-7, at-8, at-10, at-11, at-12, at-13}
+use Rattle.faults.proofs.Spots.{at-number}
 
 -- ---- lists of checks
 -- those of vectors that all keep their rule pass
@@ -126,11 +126,10 @@ module _ (m : List ℕ) (shape : Shape) (is : shapeOf (headOf m .kind) ≡ shape
 
   pub vector-fault : (n : ℕ) → 11 ≡ n → allKeepRule (headerOf shape) (length m) (vectorsOf (contentOf shape m)) ≡ false → (cs : List Check)
       → FirstCheck n (spotOf n m) (vectorChecks shape (length m) m (vectorsOf (contentOf shape m)) 0 ++ cs)
+  unfolding spotOf
   vector-fault n e f cs =
-      let at : vectorSpot shape m (firstBroken (headerOf shape) (length m) (vectorsOf (contentOf shape m)) 0) ≡ spotOf 11 m =
-      at-11 11 m _ refl (broken-is f) in
       subst (λ (k : ℕ). FirstCheck k (spotOf k m) (vectorChecks shape (length m) m (vectorsOf (contentOf shape m)) 0 ++ cs)) e
-      (subst (λ (x : Spot). FirstCheck 11 x (vectorChecks shape (length m) m (vectorsOf (contentOf shape m)) 0 ++ cs)) at
+      (subst (λ (x : Spot). FirstCheck 11 x (vectorChecks shape (length m) m (vectorsOf (contentOf shape m)) 0 ++ cs)) (broken-is f)
       (vectors-fail shape (length m) m (vectorsOf (contentOf shape m)) 0 cs f))
 
 -- the rule of a NEGO's extension vector, which stands second
@@ -158,9 +157,9 @@ checksum-scheme-is m h e = sym (simp (le-leb _ _ h, e))
 
 content-fault : (m : List ℕ) (shape : Shape) → shapeOf (headOf m .kind) ≡ shape → headerOf shape ≤ length m → (n : ℕ)
     → FirstFails n (contentRows (headerOf shape) (length m) (contentOf shape m)) → FirstCheck n (spotOf n m) (contentChecks shape (length m) m)
-unfolding contentRows contentChecks contentOf
+unfolding contentRows contentChecks contentOf spotOf
 content-fault m nego is room n f = elim f [
-  | inl a ↦ inl (a .0, (a .1, at-10 n m (spot 8 0 72 8) (sym (a .1)) refl))
+  | inl a ↦ inl (a .0, (a .1, at-number n m (spot 8 0 72 8) 10 (sym (a .1)) refl))
   | inr a ↦ inr (
     a .0,
     elim (a .1) [
@@ -170,7 +169,7 @@ content-fault m nego is room n f = elim f [
             (criticalChecks m (elementsOf (part m (extensionVector m))) 0) (b .0)
             (subst (λ (k : ℕ). FirstCheck k (spotOf k m) (criticalChecks m (elementsOf (part m (extensionVector m))) 0)) (c .1)
             (subst (λ (x : Spot). FirstCheck 12 x (criticalChecks m (elementsOf (part m (extensionVector m))) 0))
-            (at-12 12 m _ refl (critical-is m room (second-keeps m (b .0))))
+            (critical-is m room (second-keeps m (b .0)))
             (criticals-fail m (elementsOf (part m (extensionVector m))) 0 (c .0))))
         | inr c ↦ elim (c .1) [ inl d ↦ no-true (sym (d .0)) | inr d ↦ absurd (d .1) ]
       ]
@@ -201,10 +200,10 @@ content-fault m verify is room n f = elim f [
             inl (
               sym (ap (λ (x : Bool). x && eqb (le 4 m 60) 1) t)
                   ∙ d .0,
-              (d .1, at-13 n m (spot 14 0 60 4) (sym (d .1)) (checksum-scheme-is m room t)),
+              (d .1, at-number n m (spot 14 0 60 4) 13 (sym (d .1)) (checksum-scheme-is m room t)),
             ),
           )
-          | inr t ↦ inl (t, (d .1, at-13 n m (spot 13 0 56 4) (sym (d .1)) (checksum-header-is m room t)))
+          | inr t ↦ inl (t, (d .1, at-number n m (spot 13 0 56 4) 13 (sym (d .1)) (checksum-header-is m room t)))
         ])
         | inr d ↦ absurd (d .1)
       ]
@@ -224,10 +223,6 @@ content-fault m alert is room n f = elim f [
 ]
 
 -- ---- the message at the front of s
-at-2 : (n : ℕ) (m : List ℕ) → 2 ≡ n → noSpot ≡ spotOf n m
-unfolding spotOf
-at-2 n m e = rw (← e)
-
 body-fault : (s : List ℕ) (n : ℕ) → allPass (commonRows (length s) (headOf s)) ≡ true → FirstFails n (frontRows s)
     → FirstCheck n (spotOf n (firstOf s)) (contentChecks (shapeOf (headOf s .kind)) (size s) (front s))
 unfolding frontRows bodyRows firstOf
@@ -245,37 +240,37 @@ body-fault s n ok f =
     (subst (λ (k : ℕ). FirstCheck n (spotOf n (front s)) (contentChecks (shapeOf (headOf s .kind)) k (front s))) long found)
 
 front-fault : (s : List ℕ) (q : ℕ) (v : List ℕ) (n : ℕ) → FirstFails n (nextRows s q v) → FirstCheck n (spotOf n (firstOf s)) (checksOf s q v)
-unfolding nextRows commonRows orderRows checksOf commonChecks orderChecks
+unfolding nextRows commonRows orderRows checksOf commonChecks orderChecks spotOf
 front-fault s q v n f = elim f [
-  | inl a ↦ inl (a .0, (a .1, at-2 n (firstOf s) (a .1)))
+  | inl a ↦ inl (a .0, (a .1, at-number n (firstOf s) noSpot 2 (sym (a .1)) refl))
   | inr a ↦ inr (
     a .0,
     elim (a .1) [
-      | inl b ↦ inl (b .0, (b .1, at-3 n (firstOf s) (spot 1 0 0 8) (sym (b .1)) refl))
+      | inl b ↦ inl (b .0, (b .1, at-number n (firstOf s) (spot 1 0 0 8) 3 (sym (b .1)) refl))
       | inr b ↦ inr (
         b .0,
         elim (b .1) [
-          | inl c ↦ inl (c .0, (c .1, at-4 n (firstOf s) (spot 2 0 8 4) (sym (c .1)) refl))
+          | inl c ↦ inl (c .0, (c .1, at-number n (firstOf s) (spot 2 0 8 4) 4 (sym (c .1)) refl))
           | inr c ↦ inr (
             c .0,
             elim (c .1) [
-              | inl d ↦ inl (d .0, (d .1, at-5 n (firstOf s) (spot 4 0 16 4) (sym (d .1)) refl))
+              | inl d ↦ inl (d .0, (d .1, at-number n (firstOf s) (spot 4 0 16 4) 5 (sym (d .1)) refl))
               | inr d ↦ inr (
                 d .0,
                 elim (d .1) [
-                  | inl e ↦ inl (e .0, (e .1, at-6 n (firstOf s) (spot 5 0 20 4) (sym (e .1)) refl))
+                  | inl e ↦ inl (e .0, (e .1, at-number n (firstOf s) (spot 5 0 20 4) 6 (sym (e .1)) refl))
                   | inr e ↦ inr (
                     e .0,
                     elim (e .1) [
-                      | inl g ↦ inl (g .0, (g .1, at-6 n (firstOf s) (spot 5 0 20 4) (sym (g .1)) refl))
+                      | inl g ↦ inl (g .0, (g .1, at-number n (firstOf s) (spot 5 0 20 4) 6 (sym (g .1)) refl))
                       | inr g ↦ inr (
                         g .0,
                         elim (g .1) [
-                          | inl h ↦ inl (h .0, (h .1, at-7 n (firstOf s) (spot 3 0 12 4) (sym (h .1)) refl))
+                          | inl h ↦ inl (h .0, (h .1, at-number n (firstOf s) (spot 3 0 12 4) 7 (sym (h .1)) refl))
                           | inr h ↦ inr (
                             h .0,
                             elim (h .1) [
-                              | inl i ↦ inl (i .0, (i .1, at-8 n (firstOf s) (spot 6 0 24 16) (sym (i .1)) refl))
+                              | inl i ↦ inl (i .0, (i .1, at-number n (firstOf s) (spot 6 0 24 16) 8 (sym (i .1)) refl))
                               | inr i ↦ inr (
                                 i .0,
                                 body-fault s n (giving (commonRows (length s) (headOf s)) (a .0, (b .0, (c .0, (d .0, (e .0, (g .0, tt)))))))

@@ -1,13 +1,13 @@
 -- The field at fault, in the words of the code.
 -- Assumes nothing.
-use Prim.Native.Nat.{ℕ, zero, suc, _+_, _*_, _-_, _/_, _<_, _≤_, _^_}
+use Prim.Native.Nat.{ℕ, suc, _+_, _*_, _-_, _/_, _<_, _≤_, _^_}
 use mathlib.Core.Path.{_≡_, refl, sym, ap, subst, _∙_}
 use mathlib.Core.Bool.{Bool, true, false, cond, not}
 use mathlib.Core.Logic.{inl, inr}
 use mathlib.Core.List.{List, [], _∷_}
 use native.Mathlib.Numerals.{add-one}
 use native.Mathlib.Omega.{arith}
-use lib.ListN.{length, drop, length-take, length-drop}
+use lib.ListN.{length, drop, length-take, length-drop, drop-of-length-le}
 use lib.Seq.{drop-cons}
 use lib.Dec.{leb}
 use borrow.Author.Tests.{le-leb, lt-leb, lt-ltb, le-ltb, eq-eqb, ne-eqb, leb-true, leb-false}
@@ -17,6 +17,7 @@ use Rattle.vector.specs.declared.Vector.{Vector}
 use Rattle.vector.specs.Vector.{keepsRule, part, shown}
 use Rattle.message.specs.Layout.{nego, alert, headOf, shapeOf, headerOf, Element, elementsAt, elementsOf, extensionVector, alertVector, contentOf, contentIn, vectorsOf}
 use Rattle.message.proofs.Shapes.{shape-nego, shape-exchange, shape-verify, shape-alert, header-least}
+use Rattle.parts.proofs.Shows.{length-elements}
 use Rattle.coverage.specs.Coverage.{headerIn, vectorsIn, noVector, vectorIn}
 use Rattle.coverage.proofs.Numbered.{count-nego, count-one, count-alert}
 use Rattle.faults.specs.declared.Spot.{Spot}
@@ -35,11 +36,8 @@ module _ (m : List ℕ) (h k : ℕ) (on : brokenIn m ≡ firstBroken h (length m
   pub broken-end : (n : ℕ) → n ≡ length (vectorsIn m) → n ≤ k → k ≡ brokenIn m
   unfolding firstBroken
   broken-end n n-is g =
-      sym (on ∙ ap (λ (l : List Vector). firstBroken h (length m) l k)
-      (none (drop k (vectorsIn m)) (omega (arith, length-drop k (vectorsIn m))))) where
-        none : (l : List Vector) → length l ≡ 0 → l ≡ []
-        none [] e = refl
-        none (x ∷ l) e = absurd (omega arith)
+      let all : length (vectorsIn m) ≤ k = omega arith in
+      sym (on ∙ ap (λ (l : List Vector). firstBroken h (length m) l k) (drop-of-length-le (vectorsIn m) all))
 
   module _ (n : ℕ) (n-is : n ≡ length (vectorsIn m)) (more : k < n) (v : Vector) (v-is : v ≡ vectorIn m k) (b : Bool)
       (b-is : b ≡ keepsRule h (length m) v) where
@@ -197,11 +195,6 @@ critical-most (e ∷ es) k = elim (which (not (negative (signed32 (e .type))))) 
   | inr t ↦ rw t (omega arith)
 ]
 
-pub elements-length : (n : ℕ) (a : List ℕ) (at : ℕ) → length (elementsAt n a at) ≡ n
-unfolding elementsAt
-elements-length zero a at = refl
-elements-length (suc n) a at = ap suc (elements-length n a (at + 12))
-
 shown-short : (m : List ℕ) (v : Vector) → length (shown 96 m v) ≤ length m
 unfolding shown
 shown-short m v = elim (which (keepsRule 96 (length m) v)) [
@@ -217,7 +210,7 @@ module _ (m : List ℕ) where
   module _ (a : List ℕ) (a-is : a ≡ shown 96 m (extensionVector m)) (k : ℕ) (k-is : k ≡ firstCritical (elementsOf a) 0) where
     critical-few : length m ≤ 65535 → k < 65536
     critical-few h =
-        omega (arith, critical-most (elementsOf a) 0, elements-length (length a / 12) a 0, ap length a-is, shown-short m (extensionVector m))
+        omega (arith, critical-most (elementsOf a) 0, length-elements (length a / 12) a 0, ap length a-is, shown-short m (extensionVector m))
 
     pub critical-cast : length m ≤ 65535 → k < 2 ^ 32
     critical-cast h = omega (arith, critical-few h)
@@ -255,45 +248,8 @@ module _ (n : ℕ) (m : List ℕ) (x : Spot) where
   abbrev At : Type 0
   At = x ≡ spotOf n m
 
-  pub at-3 : n ≡ 3 → x ≡ spot 1 0 0 8 → At
-  unfolding spotOf
-  at-3 e f = rw e f
-
-  pub at-4 : n ≡ 4 → x ≡ spot 2 0 8 4 → At
-  unfolding spotOf
-  at-4 e f = rw e f
-
-  pub at-5 : n ≡ 5 → x ≡ spot 4 0 16 4 → At
-  unfolding spotOf
-  at-5 e f = rw e f
-
-  pub at-6 : n ≡ 6 → x ≡ spot 5 0 20 4 → At
-  unfolding spotOf
-  at-6 e f = rw e f
-
-  pub at-7 : n ≡ 7 → x ≡ spot 3 0 12 4 → At
-  unfolding spotOf
-  at-7 e f = rw e f
-
-  pub at-8 : n ≡ 8 → x ≡ spot 6 0 24 16 → At
-  unfolding spotOf
-  at-8 e f = rw e f
-
-  pub at-10 : n ≡ 10 → x ≡ spot 8 0 72 8 → At
-  unfolding spotOf
-  at-10 e f = rw e f
-
-  pub at-11 : n ≡ 11 → x ≡ brokenSpot m → At
-  unfolding spotOf
-  at-11 e f = rw e f
-
-  pub at-12 : n ≡ 12 → x ≡ criticalSpot m → At
-  unfolding spotOf
-  at-12 e f = rw e f
-
-  pub at-13 : n ≡ 13 → x ≡ checksumSpot m → At
-  unfolding spotOf
-  at-13 e f = rw e f
+  pub at-number : (k : ℕ) → n ≡ k → x ≡ spotOf k m → At
+  at-number k e f = f ∙ ap (λ (j : ℕ). spotOf j m) (sym e)
 
   pub at-none : (n ≡ 3 → ⊥) → (n ≡ 4 → ⊥) → (n ≡ 5 → ⊥) → (n ≡ 6 → ⊥) → (n ≡ 7 → ⊥) → (n ≡ 8 → ⊥) → (n ≡ 10 → ⊥) → (n ≡ 11 → ⊥) → (n ≡ 12 → ⊥)
       → (n ≡ 13 → ⊥) → x ≡ spot 0 0 0 0 → At
@@ -314,4 +270,4 @@ module _ (n : ℕ) (m : List ℕ) (x : Spot) where
             13 j,
       ))
 
-pub ruleset spots = (at-3, at-4, at-5, at-6, at-7, at-8, at-10, at-11, at-12, at-13, at-none)
+pub ruleset spots = (at-number, at-none)

@@ -20,13 +20,14 @@ use Rattle.message.specs.Show.{firstOf}
 use Rattle.message.proofs.Tables.{giving}
 use Rattle.message.proofs.Headers.{common-sized}
 use Rattle.message.proofs.Local.{head-front}
+use Rattle.parts.proofs.Shows.{length-elements}
 use Rattle.token.specs.Token.{orderRows, nextRows}
 use Rattle.token.specs.Split.{join}
 use Rattle.token.proofs.Splits.{refused-stops}
 use Rattle.faults.specs.declared.Spot.{Spot}
 use Rattle.faults.specs.Faults.{spot, firstBroken, vectorSpot, brokenSpot, firstCritical, criticalSpot, spotOf}
 use Rattle.faults.specs.Claims.{Within, FaultWithin}
-use Rattle.faults.proofs.Spots.{elements-length, at-3, at-4, at-5, at-6, at-7, at-8, at-10, at-11, at-12, at-13}
+use Rattle.faults.proofs.Spots.{at-number}
 use Rattle.faults.proofs.First.{broken-few, broken-is, second-keeps, critical-is, checksum-header-is, checksum-scheme-is}
 use Rattle.coverage.proofs.Numbered.{values-length}
 
@@ -81,18 +82,19 @@ before-80 m n x e a b h = wider x (spotOf n m) 80 (length m) e h (record { some 
 
 broken-within : (m : List ℕ) (shape : Shape) → shapeOf (headOf m .kind) ≡ shape → headerOf shape ≤ length m → (n : ℕ) → 11 ≡ n
     → allKeepRule (headerOf shape) (length m) (vectorsOf (contentOf shape m)) ≡ false → Within (spotOf n m) (length m)
+unfolding spotOf
 broken-within m shape is room n e f =
     wider (vectorSpot shape m (firstBroken (headerOf shape) (length m) (vectorsOf (contentOf shape m)) 0)) (spotOf n m) (length m) (length m)
-    (broken-is m shape is room f ∙ at-11 n m (brokenSpot m) (sym e) refl)
+    (broken-is m shape is room f ∙ at-number n m (brokenSpot m) 11 (sym e) refl)
     (omega arith)
     (vector-within shape m (firstBroken (headerOf shape) (length m) (vectorsOf (contentOf shape m)) 0) room
     (let a = broken-few (headerOf shape) (length m) (vectorsOf (contentOf shape m)) 0 f in omega arith))
 
 content-within : (m : List ℕ) (shape : Shape) → shapeOf (headOf m .kind) ≡ shape → headerOf shape ≤ length m → (n : ℕ)
     → FirstFails n (contentRows (headerOf shape) (length m) (contentOf shape m)) → Within (spotOf n m) (length m)
-unfolding contentRows contentOf
+unfolding contentRows contentOf spotOf
 content-within m nego is room n f = elim f [
-  | inl a ↦ before-80 m n (spot 8 0 72 8) (at-10 n m (spot 8 0 72 8) (sym (a .1)) refl) (omega arith) (omega arith) (omega arith)
+  | inl a ↦ before-80 m n (spot 8 0 72 8) (at-number n m (spot 8 0 72 8) 10 (sym (a .1)) refl) (omega arith) (omega arith) (omega arith)
   | inr a ↦ elim (a .1) [
     | inl b ↦ broken-within m nego is room n (b .1) (b .0)
     | inr b ↦ elim (b .1) [
@@ -100,9 +102,9 @@ content-within m nego is room n f = elim f [
           let es = elementsOf (part m (extensionVector m)) in
           let few : firstCritical es 0 < length (part m (extensionVector m)) / 12 =
           (let z = critical-few es 0 (c .0) in
-          omega (arith, elements-length (length (part m (extensionVector m)) / 12) (part m (extensionVector m)) 0)) in
+          omega (arith, length-elements (length (part m (extensionVector m)) / 12) (part m (extensionVector m)) 0)) in
           wider (spot 27 (firstCritical es 0) (extensionVector m .offset .0 + 12 * firstCritical es 0) 4) (spotOf n m) (length m) (length m)
-          (critical-is m room (second-keeps m (b .0)) ∙ at-12 n m (criticalSpot m) (sym (c .1)) refl)
+          (critical-is m room (second-keeps m (b .0)) ∙ at-number n m (criticalSpot m) 12 (sym (c .1)) refl)
           (omega arith)
           (record { some = omega arith; inside = omega (arith, element-ends m (extensionVector m) (firstCritical es 0) few) })
       | inr c ↦ elim (c .1) [ inl d ↦ no-true (sym (d .0)) | inr d ↦ absurd (d .1) ]
@@ -127,9 +129,9 @@ content-within m verify is room n f = elim f [
       | inl c ↦ no-true (sym (c .0))
       | inr c ↦ elim (c .1) [
         | inl d ↦ elim (which (eqb (le 4 m 56) 20)) [
-          | inl t ↦ before-80 m n (spot 14 0 60 4) (at-13 n m (spot 14 0 60 4) (sym (d .1)) (checksum-scheme-is m room t)) (omega arith)
+          | inl t ↦ before-80 m n (spot 14 0 60 4) (at-number n m (spot 14 0 60 4) 13 (sym (d .1)) (checksum-scheme-is m room t)) (omega arith)
               (omega arith) room
-          | inr t ↦ before-80 m n (spot 13 0 56 4) (at-13 n m (spot 13 0 56 4) (sym (d .1)) (checksum-header-is m room t)) (omega arith)
+          | inr t ↦ before-80 m n (spot 13 0 56 4) (at-number n m (spot 13 0 56 4) 13 (sym (d .1)) (checksum-header-is m room t)) (omega arith)
               (omega arith) room
         ]
         | inr d ↦ absurd (d .1)
@@ -170,23 +172,23 @@ early : (s : List ℕ) (n : ℕ) (x : Spot) → leb 40 (length s) ≡ true → x
 early s n x t e a b = wider x (spotOf n (firstOf s)) 40 (length s) e (leb-true _ _ t) (record { some = a; inside = b })
 
 front-within : (s : List ℕ) (q : ℕ) (v : List ℕ) (n : ℕ) → (n ≡ 2 → ⊥) → FirstFails n (nextRows s q v) → Within (spotOf n (firstOf s)) (length s)
-unfolding nextRows commonRows orderRows
+unfolding nextRows commonRows orderRows spotOf
 front-within s q v n other f = elim f [
   | inl a ↦ absurd (other (sym (a .1)))
   | inr a ↦ elim (a .1) [
-    | inl b ↦ early s n (spot 1 0 0 8) (a .0) (at-3 n (firstOf s) (spot 1 0 0 8) (sym (b .1)) refl) (omega arith) (omega arith)
+    | inl b ↦ early s n (spot 1 0 0 8) (a .0) (at-number n (firstOf s) (spot 1 0 0 8) 3 (sym (b .1)) refl) (omega arith) (omega arith)
     | inr b ↦ elim (b .1) [
-      | inl c ↦ early s n (spot 2 0 8 4) (a .0) (at-4 n (firstOf s) (spot 2 0 8 4) (sym (c .1)) refl) (omega arith) (omega arith)
+      | inl c ↦ early s n (spot 2 0 8 4) (a .0) (at-number n (firstOf s) (spot 2 0 8 4) 4 (sym (c .1)) refl) (omega arith) (omega arith)
       | inr c ↦ elim (c .1) [
-        | inl d ↦ early s n (spot 4 0 16 4) (a .0) (at-5 n (firstOf s) (spot 4 0 16 4) (sym (d .1)) refl) (omega arith) (omega arith)
+        | inl d ↦ early s n (spot 4 0 16 4) (a .0) (at-number n (firstOf s) (spot 4 0 16 4) 5 (sym (d .1)) refl) (omega arith) (omega arith)
         | inr d ↦ elim (d .1) [
-          | inl e ↦ early s n (spot 5 0 20 4) (a .0) (at-6 n (firstOf s) (spot 5 0 20 4) (sym (e .1)) refl) (omega arith) (omega arith)
+          | inl e ↦ early s n (spot 5 0 20 4) (a .0) (at-number n (firstOf s) (spot 5 0 20 4) 6 (sym (e .1)) refl) (omega arith) (omega arith)
           | inr e ↦ elim (e .1) [
-            | inl g ↦ early s n (spot 5 0 20 4) (a .0) (at-6 n (firstOf s) (spot 5 0 20 4) (sym (g .1)) refl) (omega arith) (omega arith)
+            | inl g ↦ early s n (spot 5 0 20 4) (a .0) (at-number n (firstOf s) (spot 5 0 20 4) 6 (sym (g .1)) refl) (omega arith) (omega arith)
             | inr g ↦ elim (g .1) [
-              | inl h ↦ early s n (spot 3 0 12 4) (a .0) (at-7 n (firstOf s) (spot 3 0 12 4) (sym (h .1)) refl) (omega arith) (omega arith)
+              | inl h ↦ early s n (spot 3 0 12 4) (a .0) (at-number n (firstOf s) (spot 3 0 12 4) 7 (sym (h .1)) refl) (omega arith) (omega arith)
               | inr h ↦ elim (h .1) [
-                | inl i ↦ early s n (spot 6 0 24 16) (a .0) (at-8 n (firstOf s) (spot 6 0 24 16) (sym (i .1)) refl) (omega arith) (omega arith)
+                | inl i ↦ early s n (spot 6 0 24 16) (a .0) (at-number n (firstOf s) (spot 6 0 24 16) 8 (sym (i .1)) refl) (omega arith) (omega arith)
                 | inr i ↦ body-within s n (giving (commonRows (length s) (headOf s)) (a .0, (b .0, (c .0, (d .0, (e .0, (g .0, tt))))))) (i .1)
               ]
             ]

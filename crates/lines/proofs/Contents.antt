@@ -20,9 +20,10 @@ use Rattle.message.specs.Show.{idAt, idsOf}
 use Rattle.message.proofs.Shapes.{shape-nego, shape-exchange, shape-verify, shape-alert, header-least}
 use Rattle.message.proofs.Ids.{length-ids, id-at}
 use Rattle.text.specs.Text.{Text, written}
+use Rattle.parts.proofs.Shows.{length-elements}
 use Rattle.lines.specs.Lines.{messageLine, schemeLine, extensionLine, exchangeLine, checksumLine, errorLine, alertLine, numbered, messageLines}
 use Rattle.lines.specs.Fit.{Fit, shapeIn, linesIn}
-use Rattle.lines.proofs.Lists.{length-numbered, getD-numbered, length-elements, getD-elements, in-first, in-second}
+use Rattle.lines.proofs.Lists.{length-numbered, getD-numbered, getD-elements, in-first, in-second}
 
 -- a vector that keeps its rule is shown whole
 kept : (header : ℕ) (m : List ℕ) (v : Vector) (a : List ℕ) → keepsRule header (length m) v ≡ true → a ≡ shown header m v → a ≡ part m v

@@ -22,11 +22,6 @@ getD-numbered f k (x ∷ xs) zero z h = let e : k ≡ k + 0 = omega arith in ap 
 getD-numbered f k (x ∷ xs) (suc i) z h =
     let e : k + 1 + i ≡ k + suc i = omega arith in getD-numbered f (k + 1) xs i z (omega arith) ∙ ap (λ (n : ℕ). f n (getD xs i z)) e
 
-pub length-elements : (n : ℕ) (a : List ℕ) (at : ℕ) → length (elementsAt n a at) ≡ n
-unfolding elementsAt
-length-elements zero a at = refl
-length-elements (suc n) a at = ap suc (length-elements n a (at + 12))
-
 pub getD-elements : (n : ℕ) (a : List ℕ) (at i : ℕ) (z : Element) → i < n → getD (elementsAt n a at) i z ≡ elementAt a (at + 12 * i)
 unfolding elementsAt
 getD-elements zero a at i z h = absurd (omega arith)

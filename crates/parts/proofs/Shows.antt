@@ -17,7 +17,7 @@ use Rattle.octets.proofs.Bools.{which}
 use Rattle.vector.specs.declared.Vector.{Vector}
 use Rattle.vector.specs.Vector.{extent, keepsRule, shown}
 use Rattle.vector.proofs.Rule.{rule-inside, shown-empty, shown-none}
-use Rattle.message.specs.Layout.{octetVector, extensionVector}
+use Rattle.message.specs.Layout.{elementsAt, octetVector, extensionVector}
 use Rattle.message.specs.Show.{idAt, nestedOf, signedIn, extensionType}
 
 -- a slice that has no room for the header shows nothing
@@ -30,6 +30,12 @@ shown-short header m v h = go (which (keepsRule header (length m) v)) where
   go : (keepsRule header (length m) v ≡ true) ⊎ (keepsRule header (length m) v ≡ false) → [] ≡ shown header m v
   go (inr t) = shown-none header m v false (sym t) refl
   go (inl t) = shown-empty header m v (empty (extent v) refl t)
+
+-- as many elements are read as are asked for
+pub length-elements : (n : ℕ) (a : List ℕ) (at : ℕ) → length (elementsAt n a at) ≡ n
+unfolding elementsAt
+length-elements zero a at = refl
+length-elements (suc n) a at = ap suc (length-elements n a (at + 12))
 
 -- a reader's answer, of the vector that it read
 pub shown-read : (header : ℕ) (m : List ℕ) (v w : Vector) (r : List ℕ) → v ≡ w → r ≡ shown header m v → r ≡ shown header m w

@@ -1,6 +1,7 @@
 -- Assumes nothing.
 use Rattle.faults.proofs.Spots.{spots}
 use borrow.Author.Needs.{needs}
+use Rattle.faults.specs.Faults.{spotOf}
 use Rattle.faults.proofs.spot_of.Statement.{statement}
 use Rattle.faults.proofs.spot_of.Tie as tie
 
@@ -38,37 +39,37 @@ single-requires-8 : tie.Need-single-requires-8
 single-requires-8 c κs = search needs
 
 returns : tie.Need-returns
-returns c = search spots
+returns c = unfold spotOf in search spots
 
 returns-2 : tie.Need-returns-2
-returns-2 c = search spots
+returns-2 c = unfold spotOf in search spots
 
 returns-3 : tie.Need-returns-3
-returns-3 c = search spots
+returns-3 c = unfold spotOf in search spots
 
 returns-4 : tie.Need-returns-4
-returns-4 c = search spots
+returns-4 c = unfold spotOf in search spots
 
 returns-5 : tie.Need-returns-5
-returns-5 c = search spots
+returns-5 c = unfold spotOf in search spots
 
 returns-6 : tie.Need-returns-6
-returns-6 c = search spots
+returns-6 c = unfold spotOf in search spots
 
 returns-7 : tie.Need-returns-7
-returns-7 c = search spots
+returns-7 c = unfold spotOf in search spots
 
 returns-8 : tie.Need-returns-8
-returns-8 c = search spots
+returns-8 c = unfold spotOf in search spots
 
 returns-9 : tie.Need-returns-9
-returns-9 c = search spots
+returns-9 c = unfold spotOf in search spots
 
 returns-10 : tie.Need-returns-10
-returns-10 c = search spots
+returns-10 c = unfold spotOf in search spots
 
 returns-11 : tie.Need-returns-11
-returns-11 c = search spots
+returns-11 c = unfold spotOf in search spots
 
 pub spot-of-spec : {M : Type 1} → statement M
 spot-of-spec =
