@@ -2,9 +2,9 @@
 -- Assumes nothing.
 use Prim.Native.Nat.{ℕ, _+_, _-_, _<_, _≤_, _^_}
 use mathlib.Core.Path.{_≡_, refl, sym, ap, subst, _∙_}
-use mathlib.Core.List.{List, [], _∷_, _++_, append-nil, append-assoc}
+use mathlib.Core.List.{List, _∷_, _++_, append-nil, append-assoc}
 use native.Mathlib.Omega.{arith}
-use lib.ListN.{length, take, drop, length-append, length-take, length-drop, take-append-drop}
+use lib.ListN.{length, take, drop, length-append, length-take, length-drop, drop-of-length-le, take-append-drop}
 use lib.Seq.{length-take-le, take-all, take-at, drop-at, drop-drop, take-add}
 use borrow.Author.Tests.{eq-eqb, ne-eqb}
 use Rattle.octets.proofs.Slices.{tail-all}
@@ -89,11 +89,8 @@ module _ (x token d₀ d : List ℕ) (at : ℕ) (on : Masking x token d₀ d at)
       let a : at ≡ length token = omega (arith, on .within, u .size) in
       on .done
       ∙ ap (λ (l : List ℕ). l ++ drop at d₀) (take-all at x (let b = on .sized in omega arith))
-      ∙ ap (λ (l : List ℕ). x ++ l) (none (drop at d₀) (let b = on .beside in omega (arith, length-drop at d₀)))
-      ∙ append-nil x where
-        none : (l : List ℕ) → length l ≡ 0 → l ≡ []
-        none [] e = refl
-        none (y ∷ l) e = absurd (omega arith)
+      ∙ ap (λ (l : List ℕ). x ++ l) (drop-of-length-le d₀ {i = at} (let b = on .beside in omega arith))
+      ∙ append-nil x
 
   module _ (t m : List ℕ) (m-is : m ≡ firstOf (take (length t - at) (drop at t))) (more : at < length t) (u : Unread token t at) where
     here : Turn (drop at token) (on .left) m

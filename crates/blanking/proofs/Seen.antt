@@ -9,7 +9,7 @@ use native.Mathlib.Omega.{arith}
 use lib.ListN.{length, drop, getD, List·getD-append, List·getD-eq-default}
 use lib.Seq.{getD-take, getD-drop, getD-append-add, take-all}
 use lib.Dec.{leb, ltb}
-use borrow.Author.Tests.{le-leb, lt-ltb, ltb-true, ltb-false, leb-true}
+use borrow.Author.Tests.{le-leb, lt-ltb, ltb-true, ltb-false, leb-true, not-true}
 use Rattle.octets.specs.Octets.{le, octets}
 use Rattle.octets.proofs.Bools.{which, no-true, both}
 use Rattle.octets.proofs.Le.{le-add}
@@ -222,10 +222,6 @@ record SameView (m t : List ℕ) : Type 0 where
 or-case : (a b : Bool) → a || b ≡ true → (a ≡ true) ⊎ (b ≡ true)
 or-case true b e = inl refl
 or-case false b e = inr e
-
-not-true : (b : Bool) → not b ≡ true → b ≡ false
-not-true true e = no-true e
-not-true false e = refl
 
 module _ (q k : ℕ) (v c m t : List ℕ) (em : Message q v m) (et : Message k c t) (mo : AllOctets m) (to : AllOctets t) (same : SameView m t) where
   same-length : length t ≡ length m
