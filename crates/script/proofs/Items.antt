@@ -22,7 +22,7 @@ use Rattle.fields.specs.Fields.{part, is, numberOf, hexadecimalOf, Octets, of, 
 use Rattle.fields.proofs.Decoding.{fits}
 use Rattle.script.specs.declared.Command.{Command}
 use Rattle.script.specs.declared.item.ItemText.{ItemText}
-use Rattle.script.specs.Grammar.{first, others, past, Items, these, noItems, bothItems, typed, itemOf, itemsIn, filled, sizeOf, elementsOf, testIn, Line, lineAs, line, badLine, octetsThen, frontThen, itemsThen, extended}
+use Rattle.script.specs.Grammar.{first, others, past, Items, these, noItems, bothItems, typed, itemOf, itemsIn, filled, sizeOf, elementsOf, testIn, Line, lineAs, line, badLine, octetsThen, frontThen, itemsThen, fromRandom}
 use Rattle.script.specs.Places.{fieldsFrom}
 use Rattle.script.specs.Steps.{within, ItemRead, oneMore}
 use Rattle.script.proofs.Places.{past-none, field-there}
@@ -319,8 +319,8 @@ pub ruleset item-lists = (read-start, items-bad, items-more, items-end)
 module _ (fs : List (List ℕ)) (f : List ℕ) (f-is : f ≡ first fs) (d : List ℕ) (r : Decoded) (d' : List ℕ)
     (reads : Decodes f d (randomOf f) r d') where
   pub random-bad : r ≡ decoded.Bad → (c : Command) → c ≡ badLine .command → (g : Bool → Elements → ℕ → List ℕ → Line)
-      → lineAs c d' ≡ extended fs (length d) g
-  unfolding extended
+      → lineAs c d' ≡ fromRandom fs (length d) g
+  unfolding fromRandom
   random-bad h c c-is g =
       let t = testIn (others fs) in
       bad-line c d' c-is
@@ -338,8 +338,8 @@ module _ (fs : List (List ℕ)) (f : List ℕ) (f-is : f ≡ first fs) (d : List
 
     pub random-good : length d' ≡ length d → (gs hs : List (List ℕ)) → gs ≡ others fs → (t : Bool) → t ≡ testIn gs → hs ≡ past t gs
         → (g : Bool → Elements → ℕ → List ℕ → Line)
-        → (x : Line) → x ≡ itemsThen (length d') (take n d') (itemsIn hs) (g t) → x ≡ extended fs (length d) g
-    unfolding extended
+        → (x : Line) → x ≡ itemsThen (length d') (take n d') (itemsIn hs) (g t) → x ≡ fromRandom fs (length d) g
+    unfolding fromRandom
     random-good h gs hs gs-is t t-is hs-is g x e = e ∙ rw (h, hs-is, t-is, gs-is) (sym (rw (← f-is, random-is .octets)))
 
 pub ruleset randoms = (random-bad, random-inside, random-good)

@@ -19,7 +19,7 @@ use Rattle.fields.specs.declared.hex.IdText.{IdText}
 use Rattle.fields.specs.declared.number.Number.{Number}
 use Rattle.fields.specs.declared.number.Number.the-variants as number
 use Rattle.fields.specs.Fields.{numberOf, decodedAs, Decodes, idAs, Numeral, is, hexadecimalOf, roomOf, Octets, of, Front, front, bad, fit, octetsOf, idOf}
-use Rattle.script.specs.Grammar.{fieldsOf, first, others, only, idsOf, Form, forms, form, formOf, past, numberIn, hasId, idIn, restIn, Line, lineAs, line, badLine, numberThen, octetsThen, frontThen, itemsIn, itemsThen, extended, rested, named, numbered, called, chosen, ends, verbs, speeches, speechVerb, placeFrom, placeOf, verbOf, fieldsLine, commandOf}
+use Rattle.script.specs.Grammar.{fieldsOf, first, others, only, idsOf, Form, forms, form, formOf, past, numberIn, hasId, idIn, restIn, Line, lineAs, line, badLine, numberThen, octetsThen, frontThen, itemsIn, itemsThen, fromRandom, fromRest, fromId, fromNumber, called, chosen, ends, verbs, speeches, speechVerb, placeFrom, placeOf, verbOf, fieldsLine, commandOf}
 use Rattle.script.specs.Places.{fieldsFrom}
 use Rattle.script.proofs.Places.{past-none, from-start, field-there}
 use Rattle.fields.proofs.Decoding.{fits}
@@ -106,58 +106,60 @@ module _ (verb : ℕ) (acceptor : Bool) (marks n : ℕ) (i : List ℕ) (fs : Lis
     (kind-is : kind ≡ getD (column (λ f. f .rest)) verb 0) where
   abbrev byKind : ℕ → Line
   byKind k =
-      cond (eqb k 6) (extended fs room (line verb acceptor marks n i))
+      cond (eqb k 6) (fromRandom fs room (line verb acceptor marks n i))
       (cond (eqb k 9) (itemsThen room [] (itemsIn fs) (line verb acceptor marks n i false))
       (frontThen (fit room (restIn k fs)) (line verb acceptor marks n i false noElements)))
 
-  rested-is : rested verb acceptor marks n i fs room ≡ byKind kind
-  unfolding rested
-  rested-is = ap byKind (sym (kind-is ∙ of-form (λ f. f .rest) verb))
+  from-rest-is : fromRest verb acceptor marks n i fs room ≡ byKind kind
+  unfolding fromRest
+  from-rest-is = ap byKind (sym (kind-is ∙ of-form (λ f. f .rest) verb))
 
-  pub rested-extensions : kind ≡ 6 → (x : Line) → x ≡ extended fs room (line verb acceptor marks n i) → x ≡ rested verb acceptor marks n i fs room
-  rested-extensions h x e = e ∙ sym (rested-is ∙ rw (eq-eqb _ _ h))
+  pub from-rest-extensions : kind ≡ 6 → (x : Line) → x ≡ fromRandom fs room (line verb acceptor marks n i)
+      → x ≡ fromRest verb acceptor marks n i fs room
+  from-rest-extensions h x e = e ∙ sym (from-rest-is ∙ rw (eq-eqb _ _ h))
 
   module _ (no-random : kind ≡ 6 → ⊥) where
-    pub rested-alerts : kind ≡ 9 → (x : Line) → x ≡ itemsThen room [] (itemsIn fs) (line verb acceptor marks n i false)
-        → x ≡ rested verb acceptor marks n i fs room
-    rested-alerts h x e = e ∙ sym (rested-is ∙ rw (ne-eqb _ _ no-random, eq-eqb _ _ h))
+    pub from-rest-alerts : kind ≡ 9 → (x : Line) → x ≡ itemsThen room [] (itemsIn fs) (line verb acceptor marks n i false)
+        → x ≡ fromRest verb acceptor marks n i fs room
+    from-rest-alerts h x e = e ∙ sym (from-rest-is ∙ rw (ne-eqb _ _ no-random, eq-eqb _ _ h))
 
     module _ (no-alerts : kind ≡ 9 → ⊥) (r : Decoded) (d : List ℕ) (says : decodedAs r d ≡ fit room (restIn kind fs)) where
-      rested-octets : rested verb acceptor marks n i fs room ≡ frontThen (decodedAs r d) (line verb acceptor marks n i false noElements)
-      rested-octets = rested-is ∙ rw (ne-eqb _ _ no-random, ne-eqb _ _ no-alerts, ← says)
+      from-rest-octets : fromRest verb acceptor marks n i fs room ≡ frontThen (decodedAs r d) (line verb acceptor marks n i false noElements)
+      from-rest-octets = from-rest-is ∙ rw (ne-eqb _ _ no-random, ne-eqb _ _ no-alerts, ← says)
 
-      pub rested-bad : r ≡ decoded.Bad → (c : Command) → c ≡ badLine .command → lineAs c d ≡ rested verb acceptor marks n i fs room
-      rested-bad h c e = bad-line c d e ∙ sym (rested-octets ∙ rw h)
+      pub from-rest-bad : r ≡ decoded.Bad → (c : Command) → c ≡ badLine .command → lineAs c d ≡ fromRest verb acceptor marks n i fs room
+      from-rest-bad h c e = bad-line c d e ∙ sym (from-rest-octets ∙ rw h)
 
-      pub rested-good : (k : ℕ) → r ≡ decoded.Octets k → (e : Elements) → e ≡ noElements
-          → lineAs (line verb acceptor marks n i false e k [] .command) d ≡ rested verb acceptor marks n i fs room
-      rested-good k h e e-is = rw e-is (sym (rested-octets ∙ rw h))
+      pub from-rest-good : (k : ℕ) → r ≡ decoded.Octets k → (e : Elements) → e ≡ noElements
+          → lineAs (line verb acceptor marks n i false e k [] .command) d ≡ fromRest verb acceptor marks n i fs room
+      from-rest-good k h e e-is = rw e-is (sym (from-rest-octets ∙ rw h))
 
 module _ (verb : ℕ) (acceptor : Bool) (marks n : ℕ) (fs : List (List ℕ)) (room kind : ℕ) (kind-is : kind ≡ getD (column (λ f. f .id)) verb 0)
     (b : Bool) (b-is : b ≡ hasId kind acceptor) (r : IdText) (says : idAs r ≡ idIn b fs) where
-  named-is : named verb acceptor marks n fs room ≡ octetsThen (idAs r) (λ i. rested verb acceptor marks n i (past b fs) room)
-  unfolding named
-  named-is = simp (sym (of-form (λ f. f .id) verb), sym kind-is, sym b-is, sym says)
+  from-id-is : fromId verb acceptor marks n fs room ≡ octetsThen (idAs r) (λ i. fromRest verb acceptor marks n i (past b fs) room)
+  unfolding fromId
+  from-id-is = simp (sym (of-form (λ f. f .id) verb), sym kind-is, sym b-is, sym says)
 
-  pub named-bad : r .ok ≡ false → (c : Command) (d : List ℕ) → c ≡ badLine .command → lineAs c d ≡ named verb acceptor marks n fs room
-  named-bad h c d e = bad-line c d e ∙ sym (named-is ∙ rw h)
+  pub from-id-bad : r .ok ≡ false → (c : Command) (d : List ℕ) → c ≡ badLine .command → lineAs c d ≡ fromId verb acceptor marks n fs room
+  from-id-bad h c d e = bad-line c d e ∙ sym (from-id-is ∙ rw h)
 
-  pub named-good : r .ok ≡ true → (gs : List (List ℕ)) → gs ≡ past b fs → (x : Line) → x ≡ rested verb acceptor marks n (r .octets) gs room
-      → x ≡ named verb acceptor marks n fs room
-  named-good h gs e x x-is = x-is ∙ rw e (sym (named-is ∙ rw h))
+  pub from-id-good : r .ok ≡ true → (gs : List (List ℕ)) → gs ≡ past b fs → (x : Line) → x ≡ fromRest verb acceptor marks n (r .octets) gs room
+      → x ≡ fromId verb acceptor marks n fs room
+  from-id-good h gs e x x-is = x-is ∙ rw e (sym (from-id-is ∙ rw h))
 
 module _ (verb : ℕ) (acceptor : Bool) (marks : ℕ) (fs : List (List ℕ)) (room kind : ℕ) (kind-is : kind ≡ getD (column (λ f. f .number)) verb 0)
     (r : Number) (says : numberOf r ≡ numberIn kind fs) where
-  numbered-is : numbered verb acceptor marks fs room ≡ numberThen (numberOf r) (λ n. named verb acceptor marks n (past (not (eqb kind 0)) fs) room)
-  unfolding numbered
-  numbered-is = simp (sym (of-form (λ f. f .number) verb), sym kind-is, sym says)
+  from-number-is : fromNumber verb acceptor marks fs room
+      ≡ numberThen (numberOf r) (λ n. fromId verb acceptor marks n (past (not (eqb kind 0)) fs) room)
+  unfolding fromNumber
+  from-number-is = simp (sym (of-form (λ f. f .number) verb), sym kind-is, sym says)
 
-  pub numbered-bad : r ≡ number.Bad → (c : Command) (d : List ℕ) → c ≡ badLine .command → lineAs c d ≡ numbered verb acceptor marks fs room
-  numbered-bad h c d e = bad-line c d e ∙ sym (numbered-is ∙ rw h)
+  pub from-number-bad : r ≡ number.Bad → (c : Command) (d : List ℕ) → c ≡ badLine .command → lineAs c d ≡ fromNumber verb acceptor marks fs room
+  from-number-bad h c d e = bad-line c d e ∙ sym (from-number-is ∙ rw h)
 
-  pub numbered-good : (n : ℕ) → r ≡ number.Is n → (gs : List (List ℕ)) → gs ≡ past (not (eqb kind 0)) fs → (x : Line)
-      → x ≡ named verb acceptor marks n gs room → x ≡ numbered verb acceptor marks fs room
-  numbered-good n h gs e x x-is = x-is ∙ rw e (sym (numbered-is ∙ rw h))
+  pub from-number-good : (n : ℕ) → r ≡ number.Is n → (gs : List (List ℕ)) → gs ≡ past (not (eqb kind 0)) fs → (x : Line)
+      → x ≡ fromId verb acceptor marks n gs room → x ≡ fromNumber verb acceptor marks fs room
+  from-number-good n h gs e x x-is = x-is ∙ rw e (sym (from-number-is ∙ rw h))
 
 module _ (verb end marks : ℕ) (fs : List (List ℕ)) (room : ℕ) where
   pub called-nowhere : end ≡ 0 → (c : Command) (d : List ℕ) → c ≡ badLine .command → lineAs c d ≡ called verb end marks fs room
@@ -169,7 +171,7 @@ module _ (verb end marks : ℕ) (fs : List (List ℕ)) (room : ℕ) where
     unfolding called
     called-nothing h c d e = bad-line c d e ∙ rw (ne-eqb _ _ somewhere, eq-eqb _ _ h)
 
-    pub called-some : (verb ≡ 0 → ⊥) → (x : Line) → x ≡ numbered verb (eqb end 2) marks fs room → x ≡ called verb end marks fs room
+    pub called-some : (verb ≡ 0 → ⊥) → (x : Line) → x ≡ fromNumber verb (eqb end 2) marks fs room → x ≡ called verb end marks fs room
     unfolding called
     called-some h x e = rw (ne-eqb _ _ somewhere, ne-eqb _ _ h) e
 
@@ -283,11 +285,11 @@ pub ruleset named-ids = (has-own, has-conversation, has-none, id-some, id-none)
 
 pub ruleset rests = (rest-ids, rest-octets, rest-more, rest-none)
 
-pub ruleset resteds = (rested-extensions, rested-alerts, rested-bad)
+pub ruleset from-rests = (from-rest-extensions, from-rest-alerts, from-rest-bad)
 
-pub ruleset nameds = (named-bad, named-good)
+pub ruleset from-ids = (from-id-bad, from-id-good)
 
-pub ruleset numbereds = (numbered-bad, numbered-good)
+pub ruleset from-numbers = (from-number-bad, from-number-good)
 
 pub ruleset calleds = (called-nowhere, called-nothing, called-some)
 

@@ -26,7 +26,7 @@
 --   lineAs c d        the same of an answer, whose octets stand at the front of the slice d
 --   numberThen        the line, where a number is good; octetsThen: an id or RANDOM; frontThen: octets at the front of the lent slice; itemsThen: items,
 --                     whose values stand behind the octets o; a bad line where it is not
---   numbered          the line from its number on; named: from its id on; rested: from its rest on; extended: from RANDOM on
+--   fromNumber        the line from its number on; fromId: from its id on; fromRest: from its rest on; fromRandom: from RANDOM on
 --   called            the line of a verb at an end, with the marks of a choice; chosen: that of `choose`, from MARKS on; fieldsLine: that of its fields
 --   commandOf s room  what the line s says, where a slice of `room` octets is lent
 use Prim.Native.Nat.{ℕ, zero, suc, _+_, min}
@@ -308,33 +308,33 @@ itemsThen room o (these xs) f = frontThen (fit room (of (o ++ joined (itemValues
 itemsThen room o noItems f = badLine
 
 -- "RANDOM EXT EXT .."
-unfoldable pub extended : List (List ℕ) → ℕ → (Bool → Elements → ℕ → List ℕ → Line) → Line
-extended fs room f =
+unfoldable pub fromRandom : List (List ℕ) → ℕ → (Bool → Elements → ℕ → List ℕ → Line) → Line
+fromRandom fs room f =
     octetsThen (randomOf (first fs))
     (λ o. itemsThen room o (itemsIn (past (testIn (others fs)) (others fs))) (f (testIn (others fs))))
 
 -- the rest of the line
-unfoldable pub rested : ℕ → Bool → ℕ → ℕ → List ℕ → List (List ℕ) → ℕ → Line
-rested verb acceptor marks n i fs room =
-    cond (eqb (formOf verb .rest) EXTENSIONS) (extended fs room (line verb acceptor marks n i))
+unfoldable pub fromRest : ℕ → Bool → ℕ → ℕ → List ℕ → List (List ℕ) → ℕ → Line
+fromRest verb acceptor marks n i fs room =
+    cond (eqb (formOf verb .rest) EXTENSIONS) (fromRandom fs room (line verb acceptor marks n i))
     (cond (eqb (formOf verb .rest) ALERTS) (itemsThen room [] (itemsIn fs) (line verb acceptor marks n i false))
     (frontThen (fit room (restIn (formOf verb .rest) fs)) (line verb acceptor marks n i false noElements)))
 
 -- the id, and what is behind it
-unfoldable pub named : ℕ → Bool → ℕ → ℕ → List (List ℕ) → ℕ → Line
-named verb acceptor marks n fs room =
+unfoldable pub fromId : ℕ → Bool → ℕ → ℕ → List (List ℕ) → ℕ → Line
+fromId verb acceptor marks n fs room =
     octetsThen (idIn (hasId (formOf verb .id) acceptor) fs)
-    (λ i. rested verb acceptor marks n i (past (hasId (formOf verb .id) acceptor) fs) room)
+    (λ i. fromRest verb acceptor marks n i (past (hasId (formOf verb .id) acceptor) fs) room)
 
 -- the number, and what is behind it
-unfoldable pub numbered : ℕ → Bool → ℕ → List (List ℕ) → ℕ → Line
-numbered verb acceptor marks fs room =
+unfoldable pub fromNumber : ℕ → Bool → ℕ → List (List ℕ) → ℕ → Line
+fromNumber verb acceptor marks fs room =
     numberThen (numberIn (formOf verb .number) fs)
-    (λ n. named verb acceptor marks n (past (not (eqb (formOf verb .number) NONE)) fs) room)
+    (λ n. fromId verb acceptor marks n (past (not (eqb (formOf verb .number) NONE)) fs) room)
 
 -- a verb and an end, which both have to be some
 unfoldable pub called : ℕ → ℕ → ℕ → List (List ℕ) → ℕ → Line
-called verb end marks fs room = cond (eqb end 0) badLine (cond (eqb verb BAD) badLine (numbered verb (eqb end 2) marks fs room))
+called verb end marks fs room = cond (eqb end 0) badLine (cond (eqb verb BAD) badLine (fromNumber verb (eqb end 2) marks fs room))
 
 -- "E choose MARKS exchange OCTETS", "E choose MARKS verify TYPE OCTETS", "E choose MARKS alert CODE ALERT ALERT .."
 unfoldable pub chosen : ℕ → List (List ℕ) → ℕ → Line

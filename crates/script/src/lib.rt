@@ -3,7 +3,7 @@ ghost use mathlib.Core.Path.{_≡_};
 ghost use Prim.Native.Nat.{_≤_};
 ghost use lib.ListN.{length, take};
 ghost use Rattle.script.specs.Places.{fieldsFrom};
-ghost use Rattle.script.specs.Grammar.{verbs, ends, speeches, placeOf, verbOf, speechVerb, hasId, itemsIn, lineAs, line as Grammar·line, badLine, itemsThen, extended, rested, named, numbered, called, chosen, commandOf};
+ghost use Rattle.script.specs.Grammar.{verbs, ends, speeches, placeOf, verbOf, speechVerb, hasId, itemsIn, lineAs, line as Grammar·line, badLine, itemsThen, fromRandom, fromRest, fromId, fromNumber, called, chosen, commandOf};
 use elements::Elements;
 use field::behind;
 use field::field as field_at;
@@ -187,7 +187,7 @@ fn with_items(c: Command, line: &[u8], from: usize, start: usize, lent: &mut [u8
 
 // A command with RANDOM and extensions.
 fn with_random(c: Command, line: &[u8], from: usize, lent: &mut [u8]) -> Command
-    ensures { λ r. ⌜ lineAs r (now (lent .exit)) ≡ extended (fieldsFrom (now (line .entry)) from) (length (now (lent .entry)))
+    ensures { λ r. ⌜ lineAs r (now (lent .exit)) ≡ fromRandom (fieldsFrom (now (line .entry)) from) (length (now (lent .entry)))
         (Grammar·line (c .verb) (c .acceptor) (c .marks) (c .number) (c .id)) ⌝ }
 {
     let value = random(field_at(line, from), lent);
@@ -203,7 +203,8 @@ fn with_random(c: Command, line: &[u8], from: usize, lent: &mut [u8]) -> Command
 
 // A command with the rest of its line.
 fn with_rest(c: Command, line: &[u8], from: usize, lent: &mut [u8]) -> Command
-    ensures { λ r. ⌜ lineAs r (now (lent .exit)) ≡ rested (c .verb) (c .acceptor) (c .marks) (c .number) (c .id) (fieldsFrom (now (line .entry)) from)
+    ensures { λ r. ⌜ lineAs r (now (lent .exit)) ≡ fromRest (c .verb) (c .acceptor) (c .marks) (c .number) (c .id)
+        (fieldsFrom (now (line .entry)) from)
         (length (now (lent .entry))) ⌝ }
 {
     let kind = octet(&RESTS, c.verb);
@@ -240,7 +241,7 @@ fn has_id(kind: u8, acceptor: bool) -> bool
 
 // A command with its id, and what is behind it.
 fn with_id(c: Command, line: &[u8], from: usize, lent: &mut [u8]) -> Command
-    ensures { λ r. ⌜ lineAs r (now (lent .exit)) ≡ named (c .verb) (c .acceptor) (c .marks) (c .number) (fieldsFrom (now (line .entry)) from)
+    ensures { λ r. ⌜ lineAs r (now (lent .exit)) ≡ fromId (c .verb) (c .acceptor) (c .marks) (c .number) (fieldsFrom (now (line .entry)) from)
         (length (now (lent .entry))) ⌝ }
 {
     let some = has_id(octet(&NAMES, c.verb), c.acceptor);
@@ -263,7 +264,8 @@ fn with_number(
     from: usize,
     lent: &mut [u8],
 ) -> Command
-    ensures { λ r. ⌜ lineAs r (now (lent .exit)) ≡ numbered verb acceptor marks (fieldsFrom (now (line .entry)) from) (length (now (lent .entry))) ⌝ }
+    ensures { λ r. ⌜ lineAs r (now (lent .exit)) ≡ fromNumber verb acceptor marks (fieldsFrom (now (line .entry)) from)
+        (length (now (lent .entry))) ⌝ }
 {
     let kind = octet(&NUMBERS, verb);
     let numeral = number_in(line, from, kind);

@@ -1,5 +1,5 @@
 -- Assumes nothing.
-use Rattle.script.proofs.Lines.{nameds}
+use Rattle.script.proofs.Lines.{from-ids}
 use borrow.Author.Needs.{needs}
 use Rattle.script.proofs.with_id.Statement.{statement}
 use Rattle.script.proofs.with_id.Tie as tie
@@ -20,7 +20,7 @@ bad-requires : tie.Need-bad-requires
 bad-requires c κs = search needs
 
 returns : tie.Need-returns
-returns c = search nameds
+returns c = search from-ids
 
 past-requires : tie.Need-past-requires
 past-requires c κs = search needs
@@ -32,7 +32,7 @@ same-length : tie.Need-same-length
 same-length c = search needs
 
 returns-2 : tie.Need-returns-2
-returns-2 c = search nameds
+returns-2 c = search from-ids
 
 pub with-id-spec : {M : Type 1} → statement M
 with-id-spec =

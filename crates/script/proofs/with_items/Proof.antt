@@ -56,7 +56,8 @@ add-filled c =
     behind-size (back9 .loop .lent) (back9 .loop .filled)) in
     let z : c .before .before .before .before .before .before .before .before .before .loop .filled
     + c .before .before .before .before .before .item .result .size
-    ≤ length (c .before .before .before .before .before .before .before .before .before .before .before .before .before .args .lent .now) = omega arith in
+    ≤ length (c .before .before .before .before .before .before .before .before .before .before .before .before .before .args .lent .now) =
+    omega arith in
     let y = c .before .before .before .before .before .before .before .before .before .before .before .before .before .good .1 .1 .1 .1 .0 .0 in
     search needs
 

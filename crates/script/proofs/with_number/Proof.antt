@@ -1,5 +1,5 @@
 -- Assumes nothing.
-use Rattle.script.proofs.Lines.{numbereds}
+use Rattle.script.proofs.Lines.{from-numbers}
 use borrow.Author.Needs.{needs}
 use Rattle.script.proofs.with_number.Statement.{statement}
 use Rattle.script.proofs.with_number.Tie as tie
@@ -23,7 +23,7 @@ bad-requires : tie.Need-bad-requires
 bad-requires c κs = search needs
 
 returns : tie.Need-returns
-returns c = search numbereds
+returns c = search from-numbers
 
 none-requires : tie.Need-none-requires
 none-requires c κs = search needs
@@ -38,7 +38,7 @@ same-length : tie.Need-same-length
 same-length c = search needs
 
 returns-2 : tie.Need-returns-2
-returns-2 c = search numbereds
+returns-2 c = search from-numbers
 
 pub with-number-spec : {M : Type 1} → statement M
 with-number-spec =

@@ -1,5 +1,5 @@
 -- Assumes nothing.
-use Rattle.script.proofs.Lines.{resteds, rested-good}
+use Rattle.script.proofs.Lines.{from-rests, from-rest-good}
 use borrow.Author.Needs.{needs}
 use Rattle.script.proofs.with_rest.Statement.{statement}
 use Rattle.script.proofs.with_rest.Tie as tie
@@ -17,7 +17,7 @@ same-length : tie.Need-same-length
 same-length c = search needs
 
 returns : tie.Need-returns
-returns c = search resteds
+returns c = search from-rests
 
 none-requires : tie.Need-none-requires
 none-requires c κs = search needs
@@ -29,7 +29,7 @@ same-length-2 : tie.Need-same-length-2
 same-length-2 c = search needs
 
 returns-2 : tie.Need-returns-2
-returns-2 c = search resteds
+returns-2 c = search from-rests
 
 rest-in-requires : tie.Need-rest-in-requires
 rest-in-requires c κs = search needs
@@ -47,14 +47,14 @@ same-length-3 : tie.Need-same-length-3
 same-length-3 c = search needs
 
 returns-3 : tie.Need-returns-3
-returns-3 c = search resteds
+returns-3 c = search from-rests
 
 same-length-4 : tie.Need-same-length-4
 same-length-4 c = search needs
 
 returns-4 : tie.Need-returns-4
 returns-4 c =
-    rested-good _ _ _ _ _ _ _ _ (c .before .before .before .before .before .before .before .before .before .before .octet .ensures)
+    from-rest-good _ _ _ _ _ _ _ _ (c .before .before .before .before .before .before .before .before .before .before .octet .ensures)
     (c .before .before .before .before .before .before .before .before .before .if1 .left)
     (c .before .before .before .before .before .before .before .if2 .left) (c .before .before .before .before .before .rest-in .result) _
     (c .before .before .before .before .before .rest-in .ensures) (c .before .rest .given .0 .0) (search needs) _
