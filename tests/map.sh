@@ -9,7 +9,9 @@ bad=0
 complain() { echo "map: $1" >&2; bad=1; }
 
 find crates -name '*.antt' -o -name '*.rt' | LC_ALL=C sort | xargs cat >"$work/text"
-ls crates/*/must-fail | sed -n 's/\.edit$//p' | LC_ALL=C sort -u >"$work/edits"
+# The name of an edit stands in front of what it changes (tests/edits.sh).
+sed -n 's/^# \([a-z0-9_]*\)\(, in [A-Za-z0-9_:]*\)*: .*/\1/p' crates/*/must-fail/*.edit >"$work/all"
+LC_ALL=C sort -u "$work/all" >"$work/edits"
 
 # What is declared: a definition, a law or a constructor; a function, a struct, an enum or a constant; a crate, a file that a program is run on, an edit.
 {
@@ -40,4 +42,4 @@ for page in README.md docs/READING.md docs/DECISIONS.md docs/RULES.md docs/CONTR
 done >>"$work/paths"
 while IFS= read -r line; do complain "$line"; done <"$work/paths"
 [ "$bad" -eq 0 ] || exit 1
-echo "map: $(wc -l <"$work/names") names declared, $(ls crates/*/must-fail/*.edit | wc -l) edits named"
+echo "map: $(wc -l <"$work/names") names declared, $(wc -l <"$work/all") edits named"
