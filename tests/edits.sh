@@ -1,7 +1,8 @@
 #!/bin/sh
 # The must-fail edits. The prover judges each function by itself, from what the functions that it calls promise; so one check of a crate tries wrong answers of several functions at
 # once, one of each. Each stands behind a line `# NAME, in FUNCTION: SENTENCE`; one that changes a definition, which other functions rest on too, has a file of its own, `# NAME: SENTENCE`.
-# Called with `refused`, behind `rt ci`: a fact of each such function itself fails, as the log of its check says. That it calls another that is not proved does not count.
+# Called with `refused`, behind `rt ci`: a fact of each such function itself fails, as the log of its check says. That it calls another that is not proved does not count, nor that its proof
+# names what is no longer there.
 set -eu
 cd "$(dirname "$0")/.."
 found=$(
@@ -43,7 +44,7 @@ missing=$(
         label=${edit##*/}
         log=target/must-fail/$crate/${label%.edit}/.log
         FUNCTION=$crate::$place PROOF=/proofs/$(printf '%s\n' "$place" | sed 's,::,/,g')/Proof.antt: awk '
-            index($0, ENVIRON["PROOF"]) && / error/ && !/was not admitted/ { own = 1 }
+            index($0, ENVIRON["PROOF"]) && / error/ && !/was not admitted|can be named from here|not in scope/ { own = 1 }
             index($0, "fn " ENVIRON["FUNCTION"] ": no proof") == 1 { own = 1 }
             END { exit !own }' "$log" || echo "edits: $edit: $name: no fact of $crate::$place fails; $log says what does"
     done
