@@ -9,31 +9,31 @@ use native.Mathlib.Omega.{arith}
 use lib.ListN.{length, take, drop, length-take, length-drop, drop_of_length-le}
 use lib.Seq.{take_all, length-take-le, ext_get_or, get_or-take, get_or-drop}
 use Rattle.octets.proofs.Slices.{tail_all}
-use Rattle.octets.specs.Octets.{octets, sameOctets, sameId}
+use Rattle.octets.specs.Octets.{octets, same_octets, same_id}
 use Rattle.octets.proofs.Same.{same-sizes}
 use Rattle.vector.specs.Vector.{shown}
-use Rattle.message.specs.Layout.{size, front, schemeVector}
-use Rattle.message.specs.Show.{idsAt, ids_of, schemesIn}
+use Rattle.message.specs.Layout.{size, front, scheme_vector}
+use Rattle.message.specs.Show.{ids_at, ids_of, schemes_in}
 use Rattle.parts.proofs.Shows.{shown-short}
 use Rattle.schemes.specs.Lists.{Id, mem}
 use Rattle.schemes.proofs.Ids.{same-as}
 use Rattle.conversation.specs.Writing.{starts_with}
-use Rattle.conversation.specs.Admitting.{schemeIn, listedBy, messagesAt, metadataFits}
-use Rattle.admitting.specs.Admissions.{listedIn}
+use Rattle.conversation.specs.Admitting.{scheme_in, listed_by, messages_at, metadata_fits}
+use Rattle.admitting.specs.Admissions.{listed_in}
 
 -- the list of the token's NEGO
 module _ (t : List ℕ) where
-  pub listed-short : length t < 96 → [] ≡ listedIn t
-  listed-short h = shown-short 96 (front t) (schemeVector (front t)) (simp length-take (omega arith))
+  pub listed-short : length t < 96 → [] ≡ listed_in t
+  listed-short h = shown-short 96 (front t) (scheme_vector (front t)) (simp length-take (omega arith))
 
   module _ (n : ℕ) (n-is : n ≡ size t) where
-    pub listed-beyond : length t < n → (x : List ℕ) → x ≡ shown 96 t (schemeVector t) → x ≡ listedIn t
+    pub listed-beyond : length t < n → (x : List ℕ) → x ≡ shown 96 t (scheme_vector t) → x ≡ listed_in t
     listed-beyond h x e =
         let w : length t ≤ size t = omega (arith, n-is) in
-        e ∙ ap (λ (m : List ℕ). shown 96 m (schemeVector m)) (sym (take_all (size t) t w))
+        e ∙ ap (λ (m : List ℕ). shown 96 m (scheme_vector m)) (sym (take_all (size t) t w))
 
-    pub listed-front : (x : List ℕ) → x ≡ shown 96 (take n t) (schemeVector (take n t)) → x ≡ listedIn t
-    listed-front x e = e ∙ ap (λ (k : ℕ). shown 96 (take k t) (schemeVector (take k t))) n-is
+    pub listed-front : (x : List ℕ) → x ≡ shown 96 (take n t) (scheme_vector (take n t)) → x ≡ listed_in t
+    listed-front x e = e ∙ ap (λ (k : ℕ). shown 96 (take k t) (scheme_vector (take k t))) n-is
 
     pub behind-none : length t < n → take (length t - length t) (drop (length t) t) ≡ drop (size t) t
     behind-none h =
@@ -43,72 +43,72 @@ module _ (t : List ℕ) where
     pub behind-some : take (length t - n) (drop n t) ≡ drop (size t) t
     behind-some = tail_all t n ∙ ap (λ (k : ℕ). drop k t) n-is
 
-pub listed_by : (t l : List ℕ) → l ≡ listedIn t → ids_of l ≡ listedBy t
-unfolding schemesIn
-listed_by t l e = ap (λ (a : List ℕ). ids_of a) e
+pub listed_by_lem : (t l : List ℕ) → l ≡ listed_in t → ids_of l ≡ listed_by t
+unfolding schemes_in
+listed_by_lem t l e = ap (λ (a : List ℕ). ids_of a) e
 
 module _ (l id : List ℕ) where
   pub starts-short : length l < 16 → false ≡ starts_with (ids_of l) id
-  unfolding idsAt
+  unfolding ids_at
   starts-short h = let e : length l / 16 ≡ 0 = omega arith in rw e
 
-  pub starts-same : 16 ≤ length l → (b : Bool) → b ≡ sameId id (take 16 l) → b ≡ starts_with (ids_of l) id
-  unfolding idsAt
+  pub starts-same : 16 ≤ length l → (b : Bool) → b ≡ same_id id (take 16 l) → b ≡ starts_with (ids_of l) id
+  unfolding ids_at
   starts-same h b e =
       let q : length l / 16 ≡ suc (length l / 16 - 1) = omega arith in
       rw q (e ∙ same-as id (take 16 l) (length-take-le 16 l h))
 
 -- octets of another number are others
-scheme-length : (n : ℕ) (s : List ℕ) → length (schemeIn (take n s)) ≡ min 16 (min n (length s) - 40)
+scheme-length : (n : ℕ) (s : List ℕ) → length (scheme_in (take n s)) ≡ min 16 (min n (length s) - 40)
 scheme-length n s = simp (length-take, length-drop)
 
 -- the first n octets of s, as a message
 module _ (s : List ℕ) (n : ℕ) (id : List ℕ) (sixteen : length id ≡ 16) where
-  pub names-short : length s < 56 → false ≡ sameOctets id (schemeIn (take n s))
-  names-short h = same-sizes id (schemeIn (take n s)) (λ e. omega (arith, scheme-length n s))
+  pub names-short : length s < 56 → false ≡ same_octets id (scheme_in (take n s))
+  names-short h = same-sizes id (scheme_in (take n s)) (λ e. omega (arith, scheme-length n s))
 
-  pub names-early : n < 56 → false ≡ sameOctets id (schemeIn (take n s))
-  names-early h = same-sizes id (schemeIn (take n s)) (λ e. omega (arith, scheme-length n s))
+  pub names-early : n < 56 → false ≡ same_octets id (scheme_in (take n s))
+  names-early h = same-sizes id (scheme_in (take n s)) (λ e. omega (arith, scheme-length n s))
 
   module _ (long : 56 ≤ length s) (late : 56 ≤ n) where
-    scheme-there : octets 16 s 40 ≡ schemeIn (take n s)
+    scheme-there : octets 16 s 40 ≡ scheme_in (take n s)
     scheme-there =
         ext_get_or 0 _ _ (simp (length-take, length-drop) (omega arith))
         (λ i w. let u : i < 16 = omega (arith, simp (length-take, length-drop) at w) in
         get_or-take 16 (drop 40 s) i 0 u ∙ get_or-drop 40 s i 0 ∙ sym (get_or-take n s (40 + i) 0 (omega arith))
         ∙ sym (get_or-take 16 (drop 40 (take n s)) i 0 u ∙ get_or-drop 40 (take n s) i 0))
 
-    pub names_same : (b : Bool) → b ≡ sameId id (take 16 (drop 40 s)) → b ≡ sameOctets id (schemeIn (take n s))
+    pub names_same : (b : Bool) → b ≡ same_id id (take 16 (drop 40 s)) → b ≡ same_octets id (scheme_in (take n s))
     names_same b e =
         let l : length (octets 16 s 40) ≡ 16 = simp (length-take, length-drop) (omega arith) in
-        e ∙ same-as id (octets 16 s 40) l ∙ ap (sameOctets id) scheme-there
+        e ∙ same-as id (octets 16 s 40) l ∙ ap (same_octets id) scheme-there
 
 -- the schemes that n messages name
 abbrev pub named_in : ℕ → List ℕ → List Id
-named_in n s = map schemeIn (messagesAt n s)
+named_in n s = map scheme_in (messages_at n s)
 
 nobody : (id : List ℕ) → length id ≡ 16 → (n : ℕ) (s : List ℕ) → length s < 56 → false ≡ mem id (named_in n s)
-unfolding mem messagesAt
+unfolding mem messages_at
 nobody id e zero s h = refl
 nobody id e (suc n) s h = simp (← names-short s (size s) id e h) (nobody id e n (drop (size s) s) (omega (arith, length-drop (size s) s)))
 
-first_of : (n : ℕ) (s : List ℕ) → 0 < n → named_in n s ≡ schemeIn (front s) ∷ named_in (n - 1) (drop (size s) s)
-unfolding messagesAt
+first_of : (n : ℕ) (s : List ℕ) → 0 < n → named_in n s ≡ scheme_in (front s) ∷ named_in (n - 1) (drop (size s) s)
+unfolding messages_at
 first_of zero s h = absurd (omega arith)
 first_of (suc n) s h = simp sub-one
 
 -- one turn of the search: x is what it began with
 module _ (id : List ℕ) (sixteen : length id ≡ 16) (n : ℕ) (s : List ℕ) (x : Bool) (inv : x ≡ mem id (named_in n s)) where
   pub named_end : n ≤ 0 → false ≡ x
-  unfolding mem messagesAt
+  unfolding mem messages_at
   named_end h = let e : n ≡ 0 = omega arith in sym (inv ∙ rw e)
 
   pub named-short : length s < 56 → false ≡ x
   named-short h = nobody id sixteen n s h ∙ sym inv
 
-  module _ (more : 0 < n) (k : ℕ) (k-is : k ≡ size s) (b : Bool) (b-is : b ≡ sameOctets id (schemeIn (take k s))) where
-    tested : sameOctets id (schemeIn (front s)) ≡ b
-    tested = ap (λ (j : ℕ). sameOctets id (schemeIn (take j s))) (sym k-is) ∙ sym b-is
+  module _ (more : 0 < n) (k : ℕ) (k-is : k ≡ size s) (b : Bool) (b-is : b ≡ same_octets id (scheme_in (take k s))) where
+    tested : same_octets id (scheme_in (front s)) ≡ b
+    tested = ap (λ (j : ℕ). same_octets id (scheme_in (take j s))) (sym k-is) ∙ sym b-is
 
     pub named-hit : b ≡ true → true ≡ x
     unfolding mem
@@ -129,25 +129,25 @@ module _ (id : List ℕ) (sixteen : length id ≡ 16) (n : ℕ) (s : List ℕ) (
 
 -- 15 for metadata
 module _ (t : List ℕ) (named : ℕ) (id : List ℕ) where
-  pub metadata-short : length t < 96 → false ≡ metadataFits t named id
-  unfolding mem idsAt
-  metadata-short h = let e : listedBy t ≡ [] = sym (listed_by t [] (listed-short t h)) in rw e
+  pub metadata-short : length t < 96 → false ≡ metadata_fits t named id
+  unfolding mem ids_at
+  metadata-short h = let e : listed_by t ≡ [] = sym (listed_by_lem t [] (listed-short t h)) in rw e
 
-  module _ (l : List ℕ) (l-is : l ≡ listedIn t) (a : Bool) (a-is : a ≡ mem id (idsAt (length l / 16) l)) where
-    listed-test : mem id (listedBy t) ≡ a
-    listed-test = sym (a-is ∙ ap (mem id) (listed_by t l l-is))
+  module _ (l : List ℕ) (l-is : l ≡ listed_in t) (a : Bool) (a-is : a ≡ mem id (ids_at (length l / 16) l)) where
+    listed-test : mem id (listed_by t) ≡ a
+    listed-test = sym (a-is ∙ ap (mem id) (listed_by_lem t l l-is))
 
-    pub metadata-unlisted : a ≡ false → false ≡ metadataFits t named id
+    pub metadata-unlisted : a ≡ false → false ≡ metadata_fits t named id
     metadata-unlisted e = rw (listed-test, e)
 
     module _ (has : a ≡ true) (s : List ℕ) (s-is : s ≡ drop (size t) t) (b : Bool) (b-is : b ≡ mem id (named_in named s)) where
       named-test : mem id (named_in named (drop (size t) t)) ≡ b
       named-test = sym (b-is ∙ ap (λ (l : List ℕ). mem id (named_in named l)) s-is)
 
-      pub metadata-again : b ≡ true → false ≡ metadataFits t named id
+      pub metadata-again : b ≡ true → false ≡ metadata_fits t named id
       metadata-again e = rw (listed-test, has, named-test, e)
 
-      pub metadata-new : b ≡ false → true ≡ metadataFits t named id
+      pub metadata-new : b ≡ false → true ≡ metadata_fits t named id
       metadata-new e = rw (listed-test, has, named-test, e)
 
 pub ruleset lists = (listed-short, listed-beyond, listed-front, behind-none, behind-some, starts-short, starts-same)

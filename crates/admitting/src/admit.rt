@@ -1,7 +1,7 @@
 // 14 and 15 of one message, and what is carried on after it.
 ghost use Rattle.std.specs.Prelude.{◌≡◌, cond, not, ◌&&◌, ◌+◌, ◌≤◌, length, eqb};
 ghost use Rattle.conversation.specs.Turns.{class_of};
-ghost use Rattle.conversation.specs.Admitting.{confirmedFor, passed, admit};
+ghost use Rattle.conversation.specs.Admitting.{confirmed_for, passed, admit};
 ghost use Rattle.calls.specs.Calls.{Inside};
 ghost use Rattle.admitting.specs.Admissions.{admitted};
 
@@ -53,7 +53,7 @@ fn chosen_after(chosen: usize, token: u8, place: usize) -> usize
 
 // What is carried on after a message, where `confirmed` says whether the peer's one VERIFY was spent for it.
 fn carry(r: Record, c: Scan, confirmed: bool, class: u8, position: u8, id: &[u8]) -> Scan
-    requires { Inside r × (c.named ≤ 65535) × (confirmed ≡ confirmedFor r c id.now) }
+    requires { Inside r × (c.named ≤ 65535) × (confirmed ≡ confirmed_for r c id.now) }
     ensures { result ≡ passed r c class position id.now }
 {
     let place = find_own(r, id);

@@ -2,7 +2,7 @@
 ghost use Rattle.std.specs.Prelude.{◌≡◌, ◌&&◌, ◌||◌, eqb};
 ghost use Rattle.schemes.specs.Lists.{mem};
 ghost use Rattle.conversation.specs.State.{replied};
-ghost use Rattle.conversation.specs.Admitting.{is_at, confirmedFor};
+ghost use Rattle.conversation.specs.Admitting.{is_at, confirmed_for};
 ghost use Rattle.calls.specs.Calls.{Inside};
 
 use super::fits::is_at;
@@ -23,7 +23,7 @@ fn early_counts(r: Record, id: &[u8]) -> bool
 // Whether the peer's one VERIFY is spent, for a message that names this scheme. The acceptor's first later message fixes what counts.
 pub(crate) fn confirmed_for(r: Record, c: Scan, id: &[u8]) -> bool
     requires { Inside r }
-    ensures { result ≡ confirmedFor r c id.now }
+    ensures { result ≡ confirmed_for r c id.now }
 {
     if r.stage != Record::REPLY {
         return c.confirmed;

@@ -1,7 +1,7 @@
 // 15: which scheme a message may name.
 ghost use Rattle.std.specs.Prelude.{◌≡◌, ◌+◌, ◌*◌, ◌≤◌, length};
-ghost use Rattle.octets.specs.Octets.{octets, sameId};
-ghost use Rattle.conversation.specs.Admitting.{is_at, exchangeFits, furtherFits, schemeFits};
+ghost use Rattle.octets.specs.Octets.{octets, same_id};
+ghost use Rattle.conversation.specs.Admitting.{is_at, exchange_fits, further_fits, scheme_fits};
 ghost use Rattle.calls.specs.Calls.{Inside};
 
 use super::named::{listed, metadata_fits, starts_with};
@@ -14,7 +14,7 @@ use octets::same_id;
 // Whether the id at place k of a list is this one, both where they stand.
 pub fn same_at(list: &[u8], k: usize, id: &[u8]) -> bool
     requires { 16 * k + 16 ≤ length list.now }
-    ensures { result ≡ sameId id.now (octets 16 list.now (16 * k)) }
+    ensures { result ≡ same_id id.now (octets 16 list.now (16 * k)) }
 {
     let at = field::ID * k;
     let end = at + field::ID;
@@ -35,7 +35,7 @@ pub(crate) fn is_at(r: Record, k: usize, id: &[u8]) -> bool
 // 15 for an exchange of the first token or of the reply.
 fn exchange_fits(r: Record, t: &[u8], id: &[u8]) -> bool
     requires { Inside r }
-    ensures { result ≡ exchangeFits r t.now id.now }
+    ensures { result ≡ exchange_fits r t.now id.now }
 {
     if starts_with(listed(t), id) {} else {
         return false;
@@ -50,7 +50,7 @@ fn exchange_fits(r: Record, t: &[u8], id: &[u8]) -> bool
 // 15 for a message of a later token, where `chosen` is the own place of the chosen scheme, or none.
 fn further_fits(r: Record, chosen: usize, id: &[u8]) -> bool
     requires { Inside r }
-    ensures { result ≡ furtherFits r chosen id.now }
+    ensures { result ≡ further_fits r chosen id.now }
 {
     if chosen == Record::NONE {
         if r.acceptor {
@@ -64,7 +64,7 @@ fn further_fits(r: Record, chosen: usize, id: &[u8]) -> bool
 // 15 by the class.
 pub(crate) fn scheme_fits(r: Record, t: &[u8], c: Scan, class: u8, id: &[u8]) -> bool
     requires { Inside r × (length id.now ≡ 16) }
-    ensures { result ≡ schemeFits r t.now c class id.now }
+    ensures { result ≡ scheme_fits r t.now c class id.now }
 {
     if class == Class::NEGO {
         return true;

@@ -1,12 +1,12 @@
 // The schemes that the messages of a token name.
 ghost use Rattle.std.specs.Prelude.{◌≡◌, map, ◌≤◌, length, take, drop};
-ghost use Rattle.octets.specs.Octets.{sameOctets};
+ghost use Rattle.octets.specs.Octets.{same_octets};
 ghost use Rattle.message.specs.Layout.{size};
 ghost use Rattle.message.specs.Show.{ids_of};
 ghost use Rattle.schemes.specs.Lists.{mem};
 ghost use Rattle.conversation.specs.Writing.{starts_with};
-ghost use Rattle.conversation.specs.Admitting.{schemeIn, messagesAt, metadataFits};
-ghost use Rattle.admitting.specs.Admissions.{listedIn};
+ghost use Rattle.conversation.specs.Admitting.{scheme_in, messages_at, metadata_fits};
+ghost use Rattle.admitting.specs.Admissions.{listed_in};
 
 use message::walk::message_length;
 use message::{Kind, field};
@@ -22,7 +22,7 @@ const SCHEME_END: usize = field::SCHEME + field::ID;
 
 // The octets of the schemes that the NEGO at the front of a token lists, 16 a scheme.
 pub fn listed(t: &[u8]) -> &[u8]
-    ensures { result.now ≡ listedIn t.now }
+    ensures { result.now ≡ listed_in t.now }
 {
     if t.len() < HEADER {
         return &t[..0];
@@ -60,7 +60,7 @@ fn behind(s: &[u8]) -> &[u8]
 // Whether the first n octets of s, as a message, name the scheme.
 fn names(s: &[u8], n: usize, id: &[u8]) -> bool
     requires { length id.now ≡ 16 }
-    ensures { result ≡ sameOctets id.now (schemeIn (take n s.now)) }
+    ensures { result ≡ same_octets id.now (scheme_in (take n s.now)) }
 {
     if s.len() < SCHEME_END {
         return false;
@@ -74,7 +74,7 @@ fn names(s: &[u8], n: usize, id: &[u8]) -> bool
 // Whether one of the `count` messages at the front of s names the scheme.
 fn is_named(s: &[u8], count: u32, id: &[u8]) -> bool
     requires { length id.now ≡ 16 }
-    ensures { result ≡ mem id.now (map schemeIn (messagesAt count s.now)) }
+    ensures { result ≡ mem id.now (map scheme_in (messages_at count s.now)) }
 {
     let mut rest = s;
     let mut left = count;
@@ -98,7 +98,7 @@ fn is_named(s: &[u8], count: u32, id: &[u8]) -> bool
 // 15 for metadata: its scheme is listed by the token's NEGO, and none of the `named` messages behind it names it.
 pub(crate) fn metadata_fits(t: &[u8], named: u32, id: &[u8]) -> bool
     requires { length id.now ≡ 16 }
-    ensures { result ≡ metadataFits t.now named id.now }
+    ensures { result ≡ metadata_fits t.now named id.now }
 {
     if t.len() < HEADER {
         return false;

@@ -11,12 +11,12 @@ use lib.ListN.{length, get_or, get_or-eq_default}
 use lib.Dec.{ltb}
 use borrow.Author.Tests.{le-leb, lt-leb, lt-ltb, le-ltb, ltb-true, ltb-false}
 use Rattle.octets.proofs.Bools.{which}
-use Rattle.token.specs.Token.{Placed, Reading, Accepted, Refused, tokenOf}
-use Rattle.token.specs.Split.{placedFrom}
-use Rattle.token.specs.Walk.{messagesOf}
-use Rattle.coverage.specs.Coverage.{isCovered}
-use Rattle.blanking.specs.Covered.{lies_at, coveredIn, covered, Agree}
-use Rattle.blanking.specs.Blanked.{kept, blankedBy, blanked, KeepsCovered, ZerosOthers, BlankedDecode, BlankedTwice}
+use Rattle.token.specs.Token.{Placed, Reading, Accepted, Refused, token_of}
+use Rattle.token.specs.Split.{placed_from}
+use Rattle.token.specs.Walk.{messages_of}
+use Rattle.coverage.specs.Coverage.{is_covered}
+use Rattle.blanking.specs.Covered.{lies_at, covered_in, covered, Agree}
+use Rattle.blanking.specs.Blanked.{kept, blanked_by, blanked, KeepsCovered, ZerosOthers, BlankedDecode, BlankedTwice}
 use Rattle.blanking.proofs.Views.{nothing-points-at, same-listing, same-covered}
 
 -- ---- place by place
@@ -76,21 +76,21 @@ kept-kept f (x ∷ s) at =
 
 -- ---- message by message
 -- no message covers what stands before the first
-pub before-first : (p : ℕ) (ms : List (List ℕ)) (i : ℕ) → i < p → coveredIn (placedFrom p ms) i ≡ false
-unfolding coveredIn
+pub before-first : (p : ℕ) (ms : List (List ℕ)) (i : ℕ) → i < p → covered_in (placed_from p ms) i ≡ false
+unfolding covered_in
 before-first p [] i h = refl
 before-first p (m ∷ ms) i h = rw (lt-leb p i h, before-first (p + length m) ms i (omega arith))
 
 module _ (p : ℕ) (m : List ℕ) (ms : List (List ℕ)) where
-  pub in-first : (i : ℕ) → i < length m → coveredIn (placedFrom p (m ∷ ms)) (p + i) ≡ isCovered m (0 + i)
-  unfolding coveredIn
+  pub in-first : (i : ℕ) → i < length m → covered_in (placed_from p (m ∷ ms)) (p + i) ≡ is_covered m (0 + i)
+  unfolding covered_in
   in-first i h =
       let z : p + i - p ≡ 0 + i = omega arith in
-      ap (λ (b : Bool). (lies_at (record { place = p; octets = m }) (p + i) && isCovered m (p + i - p)) || b)
+      ap (λ (b : Bool). (lies_at (record { place = p; octets = m }) (p + i) && is_covered m (p + i - p)) || b)
       (before-first (p + length m) ms (p + i) (omega arith))
-      ∙ ap (λ (n : ℕ). (lies_at (record { place = p; octets = m }) (p + i) && isCovered m n) || false) z
-      ∙ ap (λ (b : Bool). (b && isCovered m (0 + i)) || false) here
-      ∙ or-false (isCovered m (0 + i)) where
+      ∙ ap (λ (n : ℕ). (lies_at (record { place = p; octets = m }) (p + i) && is_covered m n) || false) z
+      ∙ ap (λ (b : Bool). (b && is_covered m (0 + i)) || false) here
+      ∙ or-false (is_covered m (0 + i)) where
         here : lies_at (record { place = p; octets = m }) (p + i) ≡ true
         here = rw (le-leb p (p + i) (omega arith), lt-ltb (p + i) (p + length m) (omega arith))
 
@@ -98,35 +98,35 @@ module _ (p : ℕ) (m : List ℕ) (ms : List (List ℕ)) where
         or-false true = refl
         or-false false = refl
 
-  pub behind-first : (i : ℕ) → coveredIn (placedFrom p (m ∷ ms)) (p + length m + i) ≡ coveredIn (placedFrom (p + length m) ms) (p + length m + i)
-  unfolding coveredIn
+  pub behind-first : (i : ℕ) → covered_in (placed_from p (m ∷ ms)) (p + length m + i) ≡ covered_in (placed_from (p + length m) ms) (p + length m + i)
+  unfolding covered_in
   behind-first i = rw (le-leb p (p + length m + i) (omega arith), le-ltb (p + length m + i) (p + length m) (omega arith))
 
 -- ---- the token
-module _ (s : List ℕ) (ps : List Placed) (e : tokenOf s ≡ Accepted ps) where
-  blanked-is : blanked s ≡ kept (coveredIn ps) s 0
-  blanked-is = ap (λ (r : Reading). blankedBy r s) e
+module _ (s : List ℕ) (ps : List Placed) (e : token_of s ≡ Accepted ps) where
+  blanked-is : blanked s ≡ kept (covered_in ps) s 0
+  blanked-is = ap (λ (r : Reading). blanked_by r s) e
 
-  own : (p : ℕ) → coveredIn ps p ≡ covered s p
-  own p = sym (ap (λ (r : Reading). coveredIn (messagesOf r) p) e)
+  own : (p : ℕ) → covered_in ps p ≡ covered s p
+  own p = sym (ap (λ (r : Reading). covered_in (messages_of r) p) e)
 
   length-blanked : length (blanked s) ≡ length s
-  length-blanked = ap length blanked-is ∙ length-kept (coveredIn ps) s 0
+  length-blanked = ap length blanked-is ∙ length-kept (covered_in ps) s 0
 
   keeps : (p : ℕ) → covered s p ≡ true → get_or (blanked s) p 0 ≡ get_or s p 0
-  keeps p c = ap (λ (l : List ℕ). get_or l p 0) blanked-is ∙ kept-yes (coveredIn ps) s p (own p ∙ c)
+  keeps p c = ap (λ (l : List ℕ). get_or l p 0) blanked-is ∙ kept-yes (covered_in ps) s p (own p ∙ c)
 
   zeros : (p : ℕ) → covered s p ≡ false → get_or (blanked s) p 0 ≡ 0
-  zeros p c = ap (λ (l : List ℕ). get_or l p 0) blanked-is ∙ kept-no (coveredIn ps) s p (own p ∙ c)
+  zeros p c = ap (λ (l : List ℕ). get_or l p 0) blanked-is ∙ kept-no (covered_in ps) s p (own p ∙ c)
 
   twice : blanked (blanked s) ≡ blanked s
   twice =
       let (qs, (a, views)) = nothing-points-at s (blanked s) ps e length-blanked keeps in
-      let same : (p : ℕ) → coveredIn qs p ≡ coveredIn ps p =
-      λ p. sym (ap (λ (r : Reading). coveredIn (messagesOf r) p) a) ∙ same-covered s (blanked s) ps e length-blanked keeps p ∙ sym (own p) in
-      ap (λ (r : Reading). blankedBy r (blanked s)) a
-      ∙ kept_same (coveredIn qs) (coveredIn ps) (blanked s) 0 0 (λ i h. same (0 + i))
-      ∙ ap (λ (l : List ℕ). kept (coveredIn ps) l 0) blanked-is ∙ kept-kept (coveredIn ps) s 0 ∙ sym blanked-is
+      let same : (p : ℕ) → covered_in qs p ≡ covered_in ps p =
+      λ p. sym (ap (λ (r : Reading). covered_in (messages_of r) p) a) ∙ same-covered s (blanked s) ps e length-blanked keeps p ∙ sym (own p) in
+      ap (λ (r : Reading). blanked_by r (blanked s)) a
+      ∙ kept_same (covered_in qs) (covered_in ps) (blanked s) 0 0 (λ i h. same (0 + i))
+      ∙ ap (λ (l : List ℕ). kept (covered_in ps) l 0) blanked-is ∙ kept-kept (covered_in ps) s 0 ∙ sym blanked-is
 
 pub keeps-covered : KeepsCovered
 keeps-covered s ps e = keeps s ps e
@@ -141,7 +141,7 @@ blanked-decode s ps e =
     (n, (same-listing s (blanked s) ps e n a, nothing-points-at s (blanked s) ps e n a))
 
 pub blanked-twice : BlankedTwice
-blanked-twice s = go (tokenOf s) refl where
-  go : (r : Reading) → tokenOf s ≡ r → blanked (blanked s) ≡ blanked s
+blanked-twice s = go (token_of s) refl where
+  go : (r : Reading) → token_of s ≡ r → blanked (blanked s) ≡ blanked s
   go (Accepted ps) e = twice s ps e
-  go (Refused n place) e = ap blanked (ap (λ (r : Reading). blankedBy r s) e)
+  go (Refused n place) e = ap blanked (ap (λ (r : Reading). blanked_by r s) e)

@@ -12,35 +12,35 @@ use Rattle.vector.specs.declared.TokenPlace.{TokenPlace}
 use Rattle.message.specs.Show.{first_of}
 use Rattle.token.specs.declared.Answer.{Answer}
 use Rattle.token.specs.declared.Answer.TheVariants as answer
-use Rattle.token.specs.Token.{Placed, Reading, Outcome, tokenOf, outcomeOf, told}
-use Rattle.token.specs.Split.{join, placedFrom}
+use Rattle.token.specs.Token.{Placed, Reading, Outcome, token_of, outcome_of, told}
+use Rattle.token.specs.Split.{join, placed_from}
 use Rattle.token.specs.Walk.{Accepts}
 use Rattle.token.proofs.Walks.{Left, Turn, turn, whole, accepted-short, answer-accepts, answer-refuses}
-use Rattle.coverage.specs.Coverage.{isCovered}
-use Rattle.blanking.specs.Covered.{coveredIn, covered}
-use Rattle.blanking.specs.Blanked.{kept, blankedBy, blanked, Blanking}
-use Rattle.blanking.specs.Masked.{maskedBy, maskingOf}
+use Rattle.coverage.specs.Coverage.{is_covered}
+use Rattle.blanking.specs.Covered.{covered_in, covered}
+use Rattle.blanking.specs.Blanked.{kept, blanked_by, blanked, Blanking}
+use Rattle.blanking.specs.Masked.{masked_by, masking_of}
 use Rattle.blanking.specs.Wiped.{Room}
 use Rattle.blanking.proofs.Sames.{message-room}
 use Rattle.blanking.proofs.Keeps.{length-kept, kept_same, kept_append, in-first, behind-first}
 
 -- what is kept of a mask whose first part stands beside the first message
 kept-first : (p : ℕ) (m : List ℕ) (ms : List (List ℕ)) (a b : List ℕ) → length a ≡ length m
-    → kept (coveredIn (placedFrom p (m ∷ ms))) (a ++ b) p ≡ kept (isCovered m) a 0 ++ kept (coveredIn (placedFrom (p + length m) ms)) b (p + length m)
+    → kept (covered_in (placed_from p (m ∷ ms))) (a ++ b) p ≡ kept (is_covered m) a 0 ++ kept (covered_in (placed_from (p + length m) ms)) b (p + length m)
 kept-first p m ms a b e =
-    kept_append (coveredIn (placedFrom p (m ∷ ms))) a b p
-    ∙ ap (λ (l : List ℕ). l ++ kept (coveredIn (placedFrom p (m ∷ ms))) b (p + length a))
-    (kept_same (coveredIn (placedFrom p (m ∷ ms))) (isCovered m) a p 0 (λ i h. in-first p m ms i (omega arith)))
-    ∙ ap (λ (n : ℕ). kept (isCovered m) a 0 ++ kept (coveredIn (placedFrom p (m ∷ ms))) b (p + n)) e
-    ∙ ap (λ (l : List ℕ). kept (isCovered m) a 0 ++ l)
-    (kept_same (coveredIn (placedFrom p (m ∷ ms))) (coveredIn (placedFrom (p + length m) ms)) b (p + length m) (p + length m)
+    kept_append (covered_in (placed_from p (m ∷ ms))) a b p
+    ∙ ap (λ (l : List ℕ). l ++ kept (covered_in (placed_from p (m ∷ ms))) b (p + length a))
+    (kept_same (covered_in (placed_from p (m ∷ ms))) (is_covered m) a p 0 (λ i h. in-first p m ms i (omega arith)))
+    ∙ ap (λ (n : ℕ). kept (is_covered m) a 0 ++ kept (covered_in (placed_from p (m ∷ ms))) b (p + n)) e
+    ∙ ap (λ (l : List ℕ). kept (is_covered m) a 0 ++ l)
+    (kept_same (covered_in (placed_from p (m ∷ ms))) (covered_in (placed_from (p + length m) ms)) b (p + length m) (p + length m)
     (λ i h. behind-first p m ms i))
 
 -- ---- `cover_messages`: x is what the walk comes to, d₀ the mask at the start, d the mask so far
 pub record Masking (x token d₀ d : List ℕ) (at : ℕ) : Type 0 where
   pub left : Left (drop at token)
   pub done : d ≡ take at x ++ drop at d₀
-  pub come : drop at x ≡ kept (coveredIn (placedFrom at left.ms)) (drop at d₀) at
+  pub come : drop at x ≡ kept (covered_in (placed_from at left.ms)) (drop at d₀) at
   pub sized : length x ≡ length token
   pub beside : length d₀ ≡ length token
   pub short : length token ≤ 65535
@@ -52,7 +52,7 @@ mask_start s d a e =
     record {
       left = w;
       done = refl;
-      come = ap (λ (ps : List Placed). kept (coveredIn ps) d 0) (sym places);
+      come = ap (λ (ps : List Placed). kept (covered_in ps) d 0) (sym places);
       sized = length-kept (covered s) d 0 ∙ e;
       beside = e;
       short = accepted-short s a;
@@ -61,7 +61,7 @@ mask_start s d a e =
 
 -- `blank_messages`: a token is its own mask
 pub blank-start : (s : List ℕ) → Accepts s → Masking (blanked s) s s s 0
-blank-start s a = subst (λ (l : List ℕ). Masking l s s s 0) (sym (ap (λ (r : Reading). blankedBy r s) a)) (mask_start s s a refl)
+blank-start s a = subst (λ (l : List ℕ). Masking l s s s 0) (sym (ap (λ (r : Reading). blanked_by r s) a)) (mask_start s s a refl)
 
 -- what is read of a token from a place on: itself, or what it has become where it is its own mask
 pub record Unread (token t : List ℕ) (at : ℕ) : Type 0 where
@@ -139,7 +139,7 @@ module _ (x token d₀ d : List ℕ) (at : ℕ) (on : Masking x token d₀ d at)
           u.size,
         )
 
-    module _ (y : List ℕ) (y-is : y ≡ kept (isCovered (take (at + length m - at) (drop at t))) (take (at + length m - at) (drop at d)) 0) where
+    module _ (y : List ℕ) (y-is : y ≡ kept (is_covered (take (at + length m - at) (drop at t))) (take (at + length m - at) (drop at d)) 0) where
       abbrev next : List ℕ
       next = take at d ++ (y ++ drop (at + length m - at) (drop at d))
 
@@ -153,25 +153,25 @@ module _ (x token d₀ d : List ℕ) (at : ℕ) (on : Masking x token d₀ d at)
       unfolding a
       a-length = length-take-le (length m) (drop at d₀) (let z = on.beside in omega (arith, length-drop at d₀, fits))
 
-      y_kept : y ≡ kept (isCovered m) a 0
+      y_kept : y ≡ kept (is_covered m) a 0
       unfolding a
       y_kept =
           y-is
-          ∙ ap (λ (l : List ℕ). kept (isCovered l) (take (at + length m - at) (drop at d)) 0) lent
-          ∙ ap (λ (n : ℕ). kept (isCovered m) (take n (drop at d)) 0) gone
-          ∙ ap (λ (l : List ℕ). kept (isCovered m) (take (length m) l) 0) mask-rest
+          ∙ ap (λ (l : List ℕ). kept (is_covered l) (take (at + length m - at) (drop at d)) 0) lent
+          ∙ ap (λ (n : ℕ). kept (is_covered m) (take n (drop at d)) 0) gone
+          ∙ ap (λ (l : List ℕ). kept (is_covered m) (take (length m) l) 0) mask-rest
 
       y-length : length y ≡ length m
-      y-length = ap length y_kept ∙ length-kept (isCovered m) a 0 ∙ a-length
+      y-length = ap length y_kept ∙ length-kept (is_covered m) a 0 ∙ a-length
 
-      split : drop at x ≡ y ++ kept (coveredIn (placedFrom (at + length m) here.left.ms)) b (at + length m)
+      split : drop at x ≡ y ++ kept (covered_in (placed_from (at + length m) here.left.ms)) b (at + length m)
       unfolding a b
       split =
           on.come
-          ∙ ap (λ (ms : List (List ℕ)). kept (coveredIn (placedFrom at ms)) (drop at d₀) at) here.messages
-          ∙ ap (λ (l : List ℕ). kept (coveredIn (placedFrom at (m ∷ here.left.ms))) l at) (sym (take-append-drop (length m) (drop at d₀)))
+          ∙ ap (λ (ms : List (List ℕ)). kept (covered_in (placed_from at ms)) (drop at d₀) at) here.messages
+          ∙ ap (λ (l : List ℕ). kept (covered_in (placed_from at (m ∷ here.left.ms))) l at) (sym (take-append-drop (length m) (drop at d₀)))
           ∙ kept-first at m here.left.ms a b a-length
-          ∙ ap (λ (l : List ℕ). l ++ kept (coveredIn (placedFrom (at + length m) here.left.ms)) b (at + length m)) (sym y_kept)
+          ∙ ap (λ (l : List ℕ). l ++ kept (covered_in (placed_from (at + length m) here.left.ms)) b (at + length m)) (sym y_kept)
 
       pub mask-on : Masking x token d₀ next (at + length m)
       unfolding a b
@@ -190,13 +190,13 @@ module _ (x token d₀ d : List ℕ) (at : ℕ) (on : Masking x token d₀ d at)
             ∙ sym (append_assoc (take at x) y (drop (at + length m) d₀))
             ∙ ap (λ (l : List ℕ). l ++ drop (at + length m) d₀)
             (ap (λ (l : List ℕ). take at x ++ l)
-            (sym (ap (take (length m)) split ∙ take_at y (kept (coveredIn (placedFrom (at + length m) here.left.ms)) b (at + length m))
+            (sym (ap (take (length m)) split ∙ take_at y (kept (covered_in (placed_from (at + length m) here.left.ms)) b (at + length m))
             (length m) y-length)) ∙ sym (take-add at (length m) x));
         come =
             sym (drop-drop (length m) at x)
             ∙ ap (drop (length m)) split
-            ∙ drop_at y (kept (coveredIn (placedFrom (at + length m) here.left.ms)) b (at + length m)) (length m) y-length
-            ∙ ap (λ (l : List ℕ). kept (coveredIn (placedFrom (at + length m) here.left.ms)) l (at + length m)) (drop-drop (length m) at d₀);
+            ∙ drop_at y (kept (covered_in (placed_from (at + length m) here.left.ms)) b (at + length m)) (length m) y-length
+            ∙ ap (λ (l : List ℕ). kept (covered_in (placed_from (at + length m) here.left.ms)) l (at + length m)) (drop-drop (length m) at d₀);
         sized = on.sized;
         beside = on.beside;
         short = on.short;
@@ -211,28 +211,28 @@ pub ruleset masks =
     (mask_start, blank-start, unread-token, unread-mask, mask-length, mask_end, mask_fits, mask-within, mask-small, mask-less, mask-room, mask-beside, mask-on)
 
 -- ---- `cover`
-module _ (s : List ℕ) (r : Answer) (r-is : told r ≡ outcomeOf (tokenOf s)) (d : List ℕ) where
+module _ (s : List ℕ) (r : Answer) (r-is : told r ≡ outcome_of (token_of s)) (d : List ℕ) where
   pub cover-other : (n : ℕ) → r ≡ answer.Messages n → (length d ≡ length s → ⊥)
-      → ◌≡◌ {A = Blanking} (record { outcome = told (answer.Messages n); octets = d }) (maskingOf s d)
+      → ◌≡◌ {A = Blanking} (record { outcome = told (answer.Messages n); octets = d }) (masking_of s d)
   cover-other n here h =
-      let e : d ≡ maskedBy (tokenOf s) s d =
-      sym (ap (λ (q : Reading). maskedBy q s d) (answer-accepts s r r-is n here) ∙ simp (ne_eqb (length d) (length s) h)) in
+      let e : d ≡ masked_by (token_of s) s d =
+      sym (ap (λ (q : Reading). masked_by q s d) (answer-accepts s r r-is n here) ∙ simp (ne_eqb (length d) (length s) h)) in
       ap (λ (o : Outcome). record { outcome = o; octets = d }) (sym (ap told here) ∙ r-is)
-      ∙ ap (λ (l : List ℕ). record { outcome = outcomeOf (tokenOf s); octets = l }) e
+      ∙ ap (λ (l : List ℕ). record { outcome = outcome_of (token_of s); octets = l }) e
 
   pub cover-done : (n : ℕ) → r ≡ answer.Messages n → length d ≡ length s → (x : List ℕ) → x ≡ kept (covered s) d 0
-      → ◌≡◌ {A = Blanking} (record { outcome = told (answer.Messages n); octets = x }) (maskingOf s d)
+      → ◌≡◌ {A = Blanking} (record { outcome = told (answer.Messages n); octets = x }) (masking_of s d)
   cover-done n here h x x-is =
-      let e : x ≡ maskedBy (tokenOf s) s d =
-      x-is ∙ sym (ap (λ (q : Reading). maskedBy q s d) (answer-accepts s r r-is n here) ∙ simp (eq-eqb (length d) (length s) h)) in
+      let e : x ≡ masked_by (token_of s) s d =
+      x-is ∙ sym (ap (λ (q : Reading). masked_by q s d) (answer-accepts s r r-is n here) ∙ simp (eq-eqb (length d) (length s) h)) in
       ap (λ (o : Outcome). record { outcome = o; octets = x }) (sym (ap told here) ∙ r-is)
-      ∙ ap (λ (l : List ℕ). record { outcome = outcomeOf (tokenOf s); octets = l }) e
+      ∙ ap (λ (l : List ℕ). record { outcome = outcome_of (token_of s); octets = l }) e
 
   pub cover-refused : (n : ℕ) (place : TokenPlace) → r ≡ answer.Refused n place
-      → ◌≡◌ {A = Blanking} (record { outcome = told (answer.Refused n place); octets = d }) (maskingOf s d)
+      → ◌≡◌ {A = Blanking} (record { outcome = told (answer.Refused n place); octets = d }) (masking_of s d)
   cover-refused n place here =
-      let e : d ≡ maskedBy (tokenOf s) s d = sym (ap (λ (q : Reading). maskedBy q s d) (answer-refuses s r r-is n place here)) in
+      let e : d ≡ masked_by (token_of s) s d = sym (ap (λ (q : Reading). masked_by q s d) (answer-refuses s r r-is n place here)) in
       ap (λ (o : Outcome). record { outcome = o; octets = d }) (sym (ap told here) ∙ r-is)
-      ∙ ap (λ (l : List ℕ). record { outcome = outcomeOf (tokenOf s); octets = l }) e
+      ∙ ap (λ (l : List ℕ). record { outcome = outcome_of (token_of s); octets = l }) e
 
 pub ruleset covering = (answer-accepts, cover-other, cover-done, cover-refused)

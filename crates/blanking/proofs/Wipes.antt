@@ -13,16 +13,16 @@ use borrow.Author.Tests.{le-leb, lt-leb, lt-ltb, le-ltb}
 use Rattle.octets.specs.Octets.{le}
 use Rattle.vector.specs.declared.TokenPlace.{TokenPlace}
 use Rattle.vector.specs.declared.Vector.{Vector}
-use Rattle.message.specs.Layout.{head_of, shape_of, headerOf, padsOf, contentOf, contentIn, vectors_of}
+use Rattle.message.specs.Layout.{head_of, shape_of, header_of, pads_of, content_of, content_in, vectors_of}
 use Rattle.message.proofs.Shapes.{shape-nego, shape-exchange, shape-verify, shape-alert, header-least}
 use Rattle.token.specs.declared.Answer.{Answer}
 use Rattle.token.specs.declared.Answer.TheVariants as answer
-use Rattle.token.specs.Token.{Reading, Outcome, tokenOf, outcomeOf, told}
+use Rattle.token.specs.Token.{Reading, Outcome, token_of, outcome_of, told}
 use Rattle.token.proofs.Walks.{answer-accepts, answer-refuses}
-use Rattle.coverage.specs.Coverage.{headerIn, vectorsIn, liesInPad, liesInOne, isCovered}
-use Rattle.coverage.specs.Sweep.{Clear, markedAll}
-use Rattle.coverage.proofs.Sweeps.{endBefore, end_none, vectors-end, far-next}
-use Rattle.blanking.specs.Blanked.{kept, blankedBy, blanked, Blanking, blankingOf}
+use Rattle.coverage.specs.Coverage.{header_in, vectors_in, lies_in_pad, lies_in_one, is_covered}
+use Rattle.coverage.specs.Sweep.{Clear, marked_all}
+use Rattle.coverage.proofs.Sweeps.{end_before, end_none, vectors-end, far-next}
+use Rattle.blanking.specs.Blanked.{kept, blanked_by, blanked, Blanking, blanking_of}
 use Rattle.blanking.specs.Wiped.{headed, wiped, Room}
 use Rattle.blanking.proofs.Sames.{or_r}
 
@@ -49,40 +49,40 @@ second-pad a b c d e f g = rw (sym e ∙ f) (last-pad b d g)
 
 module _ (kind at : ℕ) where
   abbrev InPad : Bool → Type 0
-  InPad b = b ≡ liesInPad (padsOf (shape_of kind)) at
+  InPad b = b ≡ lies_in_pad (pads_of (shape_of kind)) at
 
   module _ (a : Bool) (first : a ≡ (leb 86 at && ltb at 88)) where
     pub nego-first : kind ≤ 1 → a ≡ true → InPad true
-    unfolding liesInPad
+    unfolding lies_in_pad
     nego-first h e = rw (shape-nego kind h) (first-pad _ _ (sym first ∙ e))
 
     pub nego-second : kind ≤ 1 → a ≡ false → (b : Bool) → b ≡ (leb 94 at && ltb at 96) → InPad b
-    unfolding liesInPad
+    unfolding lies_in_pad
     nego-second h e b g = rw (shape-nego kind h) (second-pad a b _ _ first e g)
 
   module _ (not-nego : 1 < kind) where
     pub exchange-none : kind ≤ 5 → InPad false
-    unfolding liesInPad
+    unfolding lies_in_pad
     exchange-none h = rw (shape-exchange kind not-nego h) refl
 
     module _ (not-exchange : 5 < kind) where
       pub verify-only : kind ≡ 6 → (b : Bool) → b ≡ (leb 76 at && ltb at 80) → InPad b
-      unfolding liesInPad
+      unfolding lies_in_pad
       verify-only h b g = rw (shape-verify kind not-nego not-exchange h) (last-pad b _ g)
 
       module _ (not-verify : kind ≡ 6 → ⊥) (a : Bool) (first : a ≡ (leb 66 at && ltb at 68)) where
         pub alert-first : a ≡ true → InPad true
-        unfolding liesInPad
+        unfolding lies_in_pad
         alert-first e = rw (shape-alert kind not-nego not-exchange not-verify) (first-pad _ _ (sym first ∙ e))
 
         pub alert-second : a ≡ false → (b : Bool) → b ≡ (leb 68 at && ltb at 72) → InPad b
-        unfolding liesInPad
+        unfolding lies_in_pad
         alert-second e b g = rw (shape-alert kind not-nego not-exchange not-verify) (second-pad a b _ _ first e g)
 
 pub ruleset pads = (nego-first, nego-second, exchange-none, verify-only, alert-first, alert-second)
 
 -- ---- `is_covered`
-module _ (kind header far at : ℕ) (header_is : header ≡ headerOf (shape_of kind)) where
+module _ (kind header far at : ℕ) (header_is : header ≡ header_of (shape_of kind)) where
   abbrev IsCovered : Bool → Type 0
   IsCovered b = b ≡ (headed kind at || ltb at far)
 
@@ -91,14 +91,14 @@ module _ (kind header far at : ℕ) (header_is : header ≡ headerOf (shape_of k
 
   module _ (no-vector : far ≤ at) where
     pub covered-behind : header ≤ at → IsCovered false
-    covered-behind h = rw (le-ltb at (headerOf (shape_of kind)) (omega arith), le-ltb at far no-vector)
+    covered-behind h = rw (le-ltb at (header_of (shape_of kind)) (omega arith), le-ltb at far no-vector)
 
-    module _ (in-header : at < header) (b : Bool) (b-is : b ≡ liesInPad (padsOf (shape_of kind)) at) where
+    module _ (in-header : at < header) (b : Bool) (b-is : b ≡ lies_in_pad (pads_of (shape_of kind)) at) where
       pub covered-pad : b ≡ true → IsCovered false
-      covered-pad e = rw (lt-ltb at (headerOf (shape_of kind)) (omega arith), sym b-is ∙ e, le-ltb at far no-vector)
+      covered-pad e = rw (lt-ltb at (header_of (shape_of kind)) (omega arith), sym b-is ∙ e, le-ltb at far no-vector)
 
       pub covered-header : b ≡ false → IsCovered true
-      covered-header e = rw (lt-ltb at (headerOf (shape_of kind)) (omega arith), sym b-is ∙ e)
+      covered-header e = rw (lt-ltb at (header_of (shape_of kind)) (omega arith), sym b-is ∙ e)
 
 pub ruleset covers = (covered-far, covered-behind, covered-pad, covered-header)
 
@@ -130,28 +130,28 @@ pub ruleset wipes = (wipe-done, wipe-more)
 -- ---- `blank_kind` and `cover_kind`: what a sweep with the farthest end keeps is what is covered
 module _ (f : ℕ → Bool) (map : List ℕ) (clear : Clear map) (vs : List Vector) where
   wiped-kept : (s : List ℕ) (at : ℕ) → at + length s ≤ length map
-      → wiped f (markedAll map vs) (endBefore (length map) vs at) s at ≡ kept (λ p. f p || liesInOne vs p) s at
+      → wiped f (marked_all map vs) (end_before (length map) vs at) s at ≡ kept (λ p. f p || lies_in_one vs p) s at
   unfolding wiped kept
   wiped-kept [] at h = refl
   wiped-kept (x ∷ s) at h =
       rw (far-next map vs clear at (omega arith), vectors-end (length map) at vs (omega arith))
-      (ap (λ (l : List ℕ). cond (f at || ltb at (endBefore (length map) vs (at + 1))) x 0 ∷ l) (wiped-kept s (at + 1) (omega arith)))
+      (ap (λ (l : List ℕ). cond (f at || ltb at (end_before (length map) vs (at + 1))) x 0 ∷ l) (wiped-kept s (at + 1) (omega arith)))
 
-module _ (m : List ℕ) (kind : ℕ) (kind-is : kind ≡ (head_of m).kind) (h : headerOf (shape_of kind) ≤ length m)
+module _ (m : List ℕ) (kind : ℕ) (kind-is : kind ≡ (head_of m).kind) (h : header_of (shape_of kind) ≤ length m)
     (map map0 map1 : List ℕ) (sized : length map ≡ length m) (same : length map0 ≡ length map) (clear : Clear map0)
-    (e : map1 ≡ markedAll map0 (vectors_of (contentOf (shape_of kind) m))) where
-  all : vectors_of (contentIn m) ≡ vectorsIn m
-  unfolding vectorsIn
-  all = let fits : headerIn m ≤ length m = rw kind-is at h in sym (rw (le-leb _ _ fits) refl)
+    (e : map1 ≡ marked_all map0 (vectors_of (content_of (shape_of kind) m))) where
+  all : vectors_of (content_in m) ≡ vectors_in m
+  unfolding vectors_in
+  all = let fits : header_in m ≤ length m = rw kind-is at h in sym (rw (le-leb _ _ fits) refl)
 
-  pub cover-kept : (d : List ℕ) → length d ≡ length m → (x : List ℕ) → x ≡ wiped (headed kind) map1 0 d 0 → x ≡ kept (isCovered m) d 0
+  pub cover-kept : (d : List ℕ) → length d ≡ length m → (x : List ℕ) → x ≡ wiped (headed kind) map1 0 d 0 → x ≡ kept (is_covered m) d 0
   cover-kept d d-is x x-is =
-      let vs = vectors_of (contentOf (shape_of kind) m) in
+      let vs = vectors_of (content_of (shape_of kind) m) in
       x-is ∙ ap (λ (l : List ℕ). wiped (headed kind) l 0 d 0) e
-      ∙ ap (λ (n : ℕ). wiped (headed kind) (markedAll map0 vs) n d 0) (sym (end_none (length map0) vs))
+      ∙ ap (λ (n : ℕ). wiped (headed kind) (marked_all map0 vs) n d 0) (sym (end_none (length map0) vs))
       ∙ wiped-kept (headed kind) map0 clear vs d 0 (omega arith)
-      ∙ ap (λ (k : ℕ). kept (λ p. headed k p || liesInOne (vectors_of (contentOf (shape_of k) m)) p) d 0) kind-is
-      ∙ ap (λ (ws : List Vector). kept (λ p. headed (head_of m).kind p || liesInOne ws p) d 0) all
+      ∙ ap (λ (k : ℕ). kept (λ p. headed k p || lies_in_one (vectors_of (content_of (shape_of k) m)) p) d 0) kind-is
+      ∙ ap (λ (ws : List Vector). kept (λ p. headed (head_of m).kind p || lies_in_one ws p) d 0) all
 
 -- ---- `blank_message`
 module _ (map m : List ℕ) (room : Room (length map) m) where
@@ -172,22 +172,22 @@ module _ (map m : List ℕ) (room : Room (length map) m) where
     unfolding head_of
     room-own = kind-is
 
-    pub room-header : headerOf (shape_of kind) ≤ length m
+    pub room-header : header_of (shape_of kind) ≤ length m
     room-header = rw room-own room.header
 
 pub ruleset rooms = (room-kind, room-cells, room-few, room_within, room-own, room-header)
 
 -- ---- `blank`
-module _ (s : List ℕ) (r : Answer) (r-is : told r ≡ outcomeOf (tokenOf s)) where
+module _ (s : List ℕ) (r : Answer) (r-is : told r ≡ outcome_of (token_of s)) where
   pub blank-done : (n : ℕ) → r ≡ answer.Messages n → (x : List ℕ) → x ≡ blanked s
-      → ◌≡◌ {A = Blanking} (record { outcome = told (answer.Messages n); octets = x }) (blankingOf s)
+      → ◌≡◌ {A = Blanking} (record { outcome = told (answer.Messages n); octets = x }) (blanking_of s)
   blank-done n here x x-is = rw (x-is, sym (ap told here) ∙ r-is)
 
   pub blank-refused : (n : ℕ) (place : TokenPlace) → r ≡ answer.Refused n place
-      → ◌≡◌ {A = Blanking} (record { outcome = told (answer.Refused n place); octets = s }) (blankingOf s)
+      → ◌≡◌ {A = Blanking} (record { outcome = told (answer.Refused n place); octets = s }) (blanking_of s)
   blank-refused n place here =
-      let e : s ≡ blanked s = sym (ap (λ (q : Reading). blankedBy q s) (answer-refuses s r r-is n place here)) in
+      let e : s ≡ blanked s = sym (ap (λ (q : Reading). blanked_by q s) (answer-refuses s r r-is n place here)) in
       ap (λ (o : Outcome). record { outcome = o; octets = s }) (sym (ap told here) ∙ r-is)
-      ∙ ap (λ (l : List ℕ). record { outcome = outcomeOf (tokenOf s); octets = l }) e
+      ∙ ap (λ (l : List ℕ). record { outcome = outcome_of (token_of s); octets = l }) e
 
 pub ruleset answers = (answer-accepts, blank-done, blank-refused)

@@ -4,25 +4,25 @@
 --   headed k p             the place p lies in the header of a message of the type k and in no pad of it
 --   wiped f map far s at   s, whose first octet has the place `at`, with each octet zero whose place fails the test f and does not lie before the farthest
 --                          end met so far, which is `far` at the start
---   keptMessage m          the message m with each octet zero that is not covered
+--   kept_message m          the message m with each octet zero that is not covered
 --   Room n m               m has its header, and a map of n cells has one for each of its octets
 use Rattle.std.specs.Prelude.{ℕ, ◌+◌, ◌<◌, ◌≤◌, ◌^◌, max, Bool, cond, not, ◌&&◌, ◌||◌, List, [], ◌∷◌, length, get_or, ltb}
-use Rattle.message.specs.Layout.{shape_of, headerOf, padsOf}
-use Rattle.coverage.specs.Coverage.{headerIn, liesInPad, isCovered}
+use Rattle.message.specs.Layout.{shape_of, header_of, pads_of}
+use Rattle.coverage.specs.Coverage.{header_in, lies_in_pad, is_covered}
 use Rattle.blanking.specs.Blanked.{kept}
 
 abbrev pub headed : ℕ → ℕ → Bool
-headed kind p = ltb p (headerOf (shape_of kind)) && not (liesInPad (padsOf (shape_of kind)) p)
+headed kind p = ltb p (header_of (shape_of kind)) && not (lies_in_pad (pads_of (shape_of kind)) p)
 
 unfoldable pub wiped : (ℕ → Bool) → List ℕ → ℕ → List ℕ → ℕ → List ℕ
 wiped f map far [] at = []
 wiped f map far (x ∷ xs) at =
     cond (f at || ltb at (max far (get_or map at 0))) x 0 ∷ wiped f map (max far (get_or map at 0)) xs (at + 1)
 
-abbrev pub keptMessage : List ℕ → List ℕ
-keptMessage m = kept (isCovered m) m 0
+abbrev pub kept_message : List ℕ → List ℕ
+kept_message m = kept (is_covered m) m 0
 
 pub record Room (n : ℕ) (m : List ℕ) : Type 0 where
-  pub header : headerIn m ≤ length m
+  pub header : header_in m ≤ length m
   pub few : length m < 2 ^ 32
   pub within : length m ≤ n

@@ -1,12 +1,12 @@
 // Which octets of a token are covered, in a mask beside it.
 ghost use Rattle.std.specs.Prelude.{◌≡◌, ◌≤◌, ◌<◌, ◌^◌, length};
-ghost use Rattle.message.specs.Layout.{head_of, shape_of, headerOf};
+ghost use Rattle.message.specs.Layout.{head_of, shape_of, header_of};
 ghost use Rattle.token.specs.Token.{told};
 ghost use Rattle.token.specs.Walk.{Accepts};
-ghost use Rattle.coverage.specs.Coverage.{isCovered};
+ghost use Rattle.coverage.specs.Coverage.{is_covered};
 ghost use Rattle.blanking.specs.Covered.{covered};
 ghost use Rattle.blanking.specs.Blanked.{kept, Blanking};
-ghost use Rattle.blanking.specs.Masked.{maskingOf};
+ghost use Rattle.blanking.specs.Masked.{masking_of};
 ghost use Rattle.blanking.specs.Wiped.{Room};
 
 use super::wipe;
@@ -18,9 +18,9 @@ use token::{Answer, read_token};
 
 // Zeroes the mask where nothing covers a message of a kind.
 fn cover_kind(map: &mut [u32], kind: Kind, m: &[u8], mask: &mut [u8])
-    requires { (length map.old < 2 ^ 32) × (length map.old ≡ length m.now) × (headerOf (shape_of kind.0) ≤ length m.now)
+    requires { (length map.old < 2 ^ 32) × (length map.old ≡ length m.now) × (header_of (shape_of kind.0) ≤ length m.now)
         × (kind.0 ≡ (head_of m.now).kind) × (length mask.old ≡ length m.now) }
-    ensures { mask.new ≡ kept (isCovered m.now) mask.old 0 }
+    ensures { mask.new ≡ kept (is_covered m.now) mask.old 0 }
 {
     clear(map);
     mark_kind(map, kind, m);
@@ -30,7 +30,7 @@ fn cover_kind(map: &mut [u32], kind: Kind, m: &[u8], mask: &mut [u8])
 // Zeroes the mask where nothing covers a message. The map is room to work in.
 fn cover_message(map: &mut [u32], m: &[u8], mask: &mut [u8])
     requires { Room (length map.old) m.now × (length mask.old ≡ length m.now) }
-    ensures { mask.new ≡ kept (isCovered m.now) mask.old 0 }
+    ensures { mask.new ≡ kept (is_covered m.now) mask.old 0 }
 {
     let len = m.len();
     let kind = Kind(le_u32(m, field::TYPE));
@@ -54,7 +54,7 @@ fn cover_messages(map: &mut [u32], token: &[u8], mask: &mut [u8])
 // answer is the structural reading's.
 pub fn cover(token: &[u8], mask: &mut [u8]) -> Answer
     ensures { ◌≡◌ {A = Blanking} (record { outcome = told result; octets = mask.new })
-        (maskingOf token.now mask.old) }
+        (masking_of token.now mask.old) }
 {
     let reading = read_token(token);
     match reading {

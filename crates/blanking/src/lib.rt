@@ -1,11 +1,11 @@
 // A token with each octet that nothing points at zero.
 ghost use Rattle.std.specs.Prelude.{◌≡◌, cond, ◌&&◌, ◌||◌, ◌≤◌, ◌<◌, ◌^◌, leb, ltb, length};
-ghost use Rattle.message.specs.Layout.{head_of, shape_of, headerOf, padsOf};
+ghost use Rattle.message.specs.Layout.{head_of, shape_of, header_of, pads_of};
 ghost use Rattle.token.specs.Token.{told};
 ghost use Rattle.token.specs.Walk.{Accepts};
-ghost use Rattle.coverage.specs.Coverage.{liesInPad};
-ghost use Rattle.blanking.specs.Blanked.{blanked, Blanking, blankingOf};
-ghost use Rattle.blanking.specs.Wiped.{headed, wiped, keptMessage, Room};
+ghost use Rattle.coverage.specs.Coverage.{lies_in_pad};
+ghost use Rattle.blanking.specs.Blanked.{blanked, Blanking, blanking_of};
+ghost use Rattle.blanking.specs.Wiped.{headed, wiped, kept_message, Room};
 
 use coverage::{clear, greatest, mark_kind};
 use message::walk::first;
@@ -27,7 +27,7 @@ fn lies(at: usize, from: usize, end: usize) -> bool
 
 // Whether a place of a header lies in a pad.
 fn in_pad(kind: Kind, at: usize) -> bool
-    ensures { result ≡ liesInPad (padsOf (shape_of kind.0)) at }
+    ensures { result ≡ lies_in_pad (pads_of (shape_of kind.0)) at }
 {
     if kind.0 <= Kind::ACCEPTOR_NEGO {
         if lies(at, field::SCHEMES_PAD, field::EXTENSIONS) {
@@ -49,7 +49,7 @@ fn in_pad(kind: Kind, at: usize) -> bool
 
 // Whether a place is covered: it lies in the header and in no pad, or before the farthest end of the vectors that start at it or before it.
 fn is_covered(kind: Kind, header: u32, far: u32, at: usize) -> bool
-    requires { header ≡ headerOf (shape_of kind.0) }
+    requires { header ≡ header_of (shape_of kind.0) }
     ensures { result ≡ (headed kind.0 at || ltb at far) }
 {
     if at < far as usize {
@@ -88,9 +88,9 @@ fn wipe(m: &mut [u8], map: &[u32], kind: Kind)
 
 // Blanks a message of a kind, in a map with a cell for each of its octets.
 fn blank_kind(map: &mut [u32], kind: Kind, m: &mut [u8])
-    requires { (length map.old < 2 ^ 32) × (length map.old ≡ length m.old) × (headerOf (shape_of kind.0) ≤ length m.old)
+    requires { (length map.old < 2 ^ 32) × (length map.old ≡ length m.old) × (header_of (shape_of kind.0) ≤ length m.old)
         × (kind.0 ≡ (head_of m.old).kind) }
-    ensures { m.new ≡ keptMessage m.old }
+    ensures { m.new ≡ kept_message m.old }
 {
     clear(map);
     mark_kind(map, kind, &m[..]);
@@ -100,7 +100,7 @@ fn blank_kind(map: &mut [u32], kind: Kind, m: &mut [u8])
 // Blanks a message. The map is room to work in.
 fn blank_message(map: &mut [u32], m: &mut [u8])
     requires { Room (length map.old) m.old }
-    ensures { m.new ≡ keptMessage m.old }
+    ensures { m.new ≡ kept_message m.old }
 {
     let len = m.len();
     let kind = Kind(le_u32(&m[..], field::TYPE));
@@ -122,7 +122,7 @@ fn blank_messages(map: &mut [u32], token: &mut [u8])
 
 // Zeroes each octet of a token that nothing points at; a refused token is left as it is. The answer is the structural reading's.
 pub fn blank(token: &mut [u8]) -> Answer
-    ensures { ◌≡◌ {A = Blanking} (record { outcome = told result; octets = token.new }) (blankingOf token.old) }
+    ensures { ◌≡◌ {A = Blanking} (record { outcome = told result; octets = token.new }) (blanking_of token.old) }
 {
     let reading = read_token(&token[..]);
     match reading {

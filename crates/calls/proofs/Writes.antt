@@ -14,15 +14,15 @@ use Rattle.put.specs.Put.{put}
 use Rattle.encode.specs.declared.Heading.{Heading}
 use Rattle.encode.specs.declared.Stored.{Stored}
 use Rattle.encode.specs.declared.Stored.TheVariants as variant
-use Rattle.encode.specs.Encode.{Whole, Contents, size_of, hasKind, encodable, written, told, storing, storingHanded}
+use Rattle.encode.specs.Encode.{Whole, Contents, size_of, has_kind, encodable, written, told, storing, storing_handed}
 use Rattle.encode.proofs.Sizes.{length-encoded}
 use Rattle.conversation.specs.declared.Record.{Record}
 use Rattle.conversation.specs.declared.Answer.{Answer}
-use Rattle.conversation.specs.Turns.{type_of, placeAfter, may_write}
+use Rattle.conversation.specs.Turns.{type_of, place_after, may_write}
 use Rattle.conversation.specs.Outcomes.{Outcome, WrittenAs, answered, decide, row, fits, wrote, unchanged, appended}
-use Rattle.conversation.specs.Writing.{heading, messageOf, stageRows, thenFits}
+use Rattle.conversation.specs.Writing.{heading, message_of, stage_rows, then_fits}
 use Rattle.conversation.proofs.Sends.{WholeIds, fields_fit}
-use Rattle.calls.specs.Calls.{writeRefusal, Inside, Ready, Appended}
+use Rattle.calls.specs.Calls.{write_refusal, Inside, Ready, Appended}
 use Rattle.calls.proofs.Refusals.{call-refused, call-passed, passed-inside, passed-room, measured}
 use Rattle.conversation.specs.Claims.{Arrays}
 
@@ -48,9 +48,9 @@ changed n w = record {
 }
 
 -- a message of a kind that both ends write, and of the size that has passed 16
-pub write-ready : (r : Record) (d : List ℕ) (kind : ℕ) (rows : List Row) (size n : ℕ) → n ≡ writeRefusal r kind rows size (length d) → n ≡ 0
+pub write-ready : (r : Record) (d : List ℕ) (kind : ℕ) (rows : List Row) (size n : ℕ) → n ≡ write_refusal r kind rows size (length d) → n ≡ 0
     → without 0 (rows ++ (fits r d size ∷ [])) ≡ true
-    → (c : Contents) → size_of c ≡ size → WholeIds c → hasKind c (type_of false kind) ≡ true → hasKind c (type_of true kind) ≡ true → Ready r d kind c
+    → (c : Contents) → size_of c ≡ size → WholeIds c → has_kind c (type_of false kind) ≡ true → has_kind c (type_of true kind) ≡ true → Ready r d kind c
 unfolding encodable
 write-ready r d kind rows size n n-is z sure c s ids e f =
     let l : r.used + size ≤ min (length d) 65535 = passed-room r kind rows size (length d) n n-is z sure in
@@ -61,30 +61,30 @@ write-ready r d kind rows size n n-is z sure c s ids e f =
       fits = omega arith;
     }
   where
-    either : (a : Bool) → hasKind c (type_of a kind) ≡ true
+    either : (a : Bool) → has_kind c (type_of a kind) ≡ true
     either true = f
     either false = e
 
 -- a call that writes a message, with the tests of its own between 18 and 16
 abbrev pub called : Record → List ℕ → ℕ → List Row → Contents → Outcome → Outcome
-called r d kind rows c action = decide (stageRows r kind ++ thenFits rows r d (messageOf r kind c)) r d action
+called r d kind rows c action = decide (stage_rows r kind ++ then_fits rows r d (message_of r kind c)) r d action
 
 module _ (r : Record) (arrays : Arrays r) (d : List ℕ) (kind : ℕ) (rows : List Row) (c : Contents) (size : ℕ)
-    (whole : Inside r → AllTrue rows → Whole c × (size_of c ≡ size)) (n : ℕ) (n-is : n ≡ writeRefusal r kind rows size (length d)) where
-  by_length : (action : Outcome) → decide (stageRows r kind ++ (rows ++ (fits r d size ∷ []))) r d action ≡ called r d kind rows c action
+    (whole : Inside r → AllTrue rows → Whole c × (size_of c ≡ size)) (n : ℕ) (n-is : n ≡ write_refusal r kind rows size (length d)) where
+  by_length : (action : Outcome) → decide (stage_rows r kind ++ (rows ++ (fits r d size ∷ []))) r d action ≡ called r d kind rows c action
   by_length =
-      measured r d kind rows size (length (messageOf r kind c))
+      measured r d kind rows size (length (message_of r kind c))
       (λ i t. let w = whole i t in length-encoded (heading r kind) arrays.conversation c w.0 ∙ w.1)
 
   pub write-refused : (n ≡ 0 → ⊥) → (a : Answer) → a ≡ answered n 0 r → (action : Outcome)
       → ◌≡◌ {A = Outcome} (record { answer = a; transcript = d }) (called r d kind rows c action)
-  unfolding writeRefusal
+  unfolding write_refusal
   write-refused h a a-is action =
       rw a-is (call-refused r (row 18 (may_write r kind) ∷ (rows ++ (fits r d size ∷ []))) n n-is d action h ∙ by_length action)
 
   module _ (z : n ≡ 0) (sure : without 0 (rows ++ (fits r d size ∷ [])) ≡ true) where
     pub write-passed : (action : Outcome) → action ≡ called r d kind rows c action
-    unfolding writeRefusal
+    unfolding write_refusal
     write-passed action = call-passed r (row 18 (may_write r kind) ∷ (rows ++ (fits r d size ∷ []))) n n-is sure z d action ∙ by_length action
 
     -- w says what the call changes in the record after the message
@@ -92,12 +92,12 @@ module _ (r : Record) (arrays : Arrays r) (d : List ℕ) (kind : ℕ) (rows : Li
         → a ≡ answered 0 0 (changed next (w next))
         → ◌≡◌ {A = Outcome} (record { answer = a; transcript = d' })
         (called r d kind rows c
-        (appended r d (placeAfter r kind) (messageOf r kind c) (w (wrote r (placeAfter r kind) (length (messageOf r kind c)) (unchanged r)))))
+        (appended r d (place_after r kind) (message_of r kind c) (w (wrote r (place_after r kind) (length (message_of r kind c)) (unchanged r)))))
     write-written w v v-is d' next y a a-is =
         let x : Appended r d kind c d' next = rw v-is at y in
         rw (a-is, x.counted, x.holds)
         (write-passed
-        (appended r d (placeAfter r kind) (messageOf r kind c) (w (wrote r (placeAfter r kind) (length (messageOf r kind c)) (unchanged r)))))
+        (appended r d (place_after r kind) (message_of r kind c) (w (wrote r (place_after r kind) (length (message_of r kind c)) (unchanged r)))))
 
 -- ---- a message at the transcript's end
 stored : (s : Stored) (d e : List ℕ) (k : ℕ) → told s d ≡ written k e → d ≡ e
@@ -106,26 +106,26 @@ stored variant.Nothing d e k h = let z : ◌≡◌ {A = ℕ} 0 1 = cc in absurd 
 
 pub appends : (r : Record) → Arrays r → (d : List ℕ) (kind : ℕ) (c : Contents) → Whole c → Ready r d kind c → (h : Heading) → h ≡ heading r kind
     → (s : Stored) (d' : List ℕ) (v : Contents) → told s d' ≡ storing d r.used h v → v ≡ c → (next : Record)
-    → next ≡ wrote r (placeAfter r kind) (size_of c) (unchanged r)
+    → next ≡ wrote r (place_after r kind) (size_of c) (unchanged r)
     → Appended r d kind c d' next
 unfolding storing
 appends r arrays d kind c whole ready h h-is s d' v t v-is next n-is =
-    let l : length (messageOf r kind c) ≡ size_of c = length-encoded (heading r kind) arrays.conversation c whole in
-    let f : leb (r.used + length (messageOf r kind c)) (length d) ≡ true = rw l (le-leb _ _ ready.fits) in
+    let l : length (message_of r kind c) ≡ size_of c = length-encoded (heading r kind) arrays.conversation c whole in
+    let f : leb (r.used + length (message_of r kind c)) (length d) ≡ true = rw l (le-leb _ _ ready.fits) in
     record {
       counted = n-is ∙ rw l;
       holds =
-          stored s d' (put d r.used (messageOf r kind c)) (r.used + length (messageOf r kind c))
+          stored s d' (put d r.used (message_of r kind c)) (r.used + length (message_of r kind c))
           (t ∙ ap (λ (g : Heading). storing d r.used g v) h-is ∙ ap (storing d r.used (heading r kind)) v-is ∙ simp (ready.can, f));
     }
 
 -- what is handed over apart and keeps its limits is stored as a list; its size is that of the code
 pub handed-appends : (r : Record) → Arrays r → (d : List ℕ) (kind : ℕ) (c : Contents) → Whole c → Ready r d kind c → (b : Bool) → b ≡ true
     → (h : Heading) → h ≡ heading r kind
-    → (s : Stored) (d' : List ℕ) (v : Contents) → told s d' ≡ storingHanded b d r.used h v → v ≡ c → (size : ℕ) → size ≡ size_of c → (next : Record)
-    → next ≡ wrote r (placeAfter r kind) size (unchanged r)
+    → (s : Stored) (d' : List ℕ) (v : Contents) → told s d' ≡ storing_handed b d r.used h v → v ≡ c → (size : ℕ) → size ≡ size_of c → (next : Record)
+    → next ≡ wrote r (place_after r kind) size (unchanged r)
     → Appended r d kind c d' next
-unfolding storingHanded
+unfolding storing_handed
 handed-appends r arrays d kind c whole ready b keeps h h-is s d' v t v-is size size_is next n-is =
     appends r arrays d kind c whole ready h h-is s d' v (t ∙ rw keeps) v-is next
-    (n-is ∙ ap (λ (k : ℕ). wrote r (placeAfter r kind) k (unchanged r)) size_is)
+    (n-is ∙ ap (λ (k : ℕ). wrote r (place_after r kind) k (unchanged r)) size_is)

@@ -3,36 +3,36 @@
 --
 -- Glossary
 --   room_for              16: used plus the length to add is within the room of a transcript of a length
---   callRefusal r rows   the first refusal of a call that makes these tests after a record's limits, or 0
---   stageRefusal         18 for a call that writes a class, or 0
---   writeRefusal         the first refusal of a call that writes a message of a class and size: 18, the tests of its own, 16; or 0
+--   call_refusal r rows   the first refusal of a call that makes these tests after a record's limits, or 0
+--   stage_refusal         18 for a call that writes a class, or 0
+--   write_refusal         the first refusal of a call that writes a message of a class and size: 18, the tests of its own, 16; or 0
 --   Inside r             what the calls rely on of a record inside its limits
 --   Ready r d class c    a message of this class with the contents c may be written into d
 --   Appended             a message was put at the transcript's end, and the record counts it
 use Rattle.std.specs.Prelude.{ℕ, ◌+◌, ◌^◌, ◌≤◌, ◌<◌, min, ◌≡◌, Bool, true, List, [], ◌∷◌, ◌++◌, length, leb}
-use Rattle.message.specs.Check.{Row, firstFailing}
+use Rattle.message.specs.Check.{Row, first_failing}
 use Rattle.put.specs.Put.{put}
 use Rattle.encode.specs.Encode.{Contents, size_of, encodable}
 use Rattle.schemes.specs.Lists.{distinct}
 use Rattle.conversation.specs.declared.Record.{Record}
-use Rattle.conversation.specs.State.{own_of, limitRows}
-use Rattle.conversation.specs.Turns.{placeAfter, may_write}
+use Rattle.conversation.specs.State.{own_of, limit_rows}
+use Rattle.conversation.specs.Turns.{place_after, may_write}
 use Rattle.conversation.specs.Outcomes.{row, wrote, unchanged}
-use Rattle.conversation.specs.Writing.{heading, messageOf}
+use Rattle.conversation.specs.Writing.{heading, message_of}
 
 -- "used plus the length to add is above the room", "the smaller of the buffer's length and 65,535"
 abbrev pub room_for : ℕ → ℕ → ℕ → Bool
 room_for used size len = leb (used + size) (min len 65535)
 
-unfoldable pub callRefusal : Record → List Row → ℕ
-callRefusal r rows = firstFailing (limitRows r ++ rows)
+unfoldable pub call_refusal : Record → List Row → ℕ
+call_refusal r rows = first_failing (limit_rows r ++ rows)
 
-unfoldable pub stageRefusal : Record → ℕ → ℕ
-stageRefusal r class = callRefusal r (row 18 (may_write r class) ∷ [])
+unfoldable pub stage_refusal : Record → ℕ → ℕ
+stage_refusal r class = call_refusal r (row 18 (may_write r class) ∷ [])
 
 -- "Other calls check 18, 19, 15, 17, 16."
-unfoldable pub writeRefusal : Record → ℕ → List Row → ℕ → ℕ → ℕ
-writeRefusal r class rows size len = callRefusal r (row 18 (may_write r class) ∷ (rows ++ (row 16 (room_for r.used size len) ∷ [])))
+unfoldable pub write_refusal : Record → ℕ → List Row → ℕ → ℕ → ℕ
+write_refusal r class rows size len = call_refusal r (row 18 (may_write r class) ∷ (rows ++ (row 16 (room_for r.used size len) ∷ [])))
 
 pub record Inside (r : Record) : Type 0 where
   pub few : r.count ≤ 16
@@ -49,5 +49,5 @@ pub record Ready (r : Record) (d : List ℕ) (class : ℕ) (c : Contents) : Type
 
 -- "Each written message .. is put at its end; no other octet changes."
 pub record Appended (r : Record) (d : List ℕ) (class : ℕ) (c : Contents) (d' : List ℕ) (next : Record) : Type 0 where
-  pub counted : next ≡ wrote r (placeAfter r class) (length (messageOf r class c)) (unchanged r)
-  pub holds : d' ≡ put d r.used (messageOf r class c)
+  pub counted : next ≡ wrote r (place_after r class) (length (message_of r class c)) (unchanged r)
+  pub holds : d' ≡ put d r.used (message_of r class c)

@@ -3,7 +3,7 @@ ghost use Rattle.std.specs.Prelude.{◌≡◌, ◌+◌, min};
 ghost use Rattle.schemes.specs.Lists.{mem, place};
 ghost use Rattle.conversation.specs.State.{own_of, replied};
 ghost use Rattle.conversation.specs.Outcomes.{answered};
-ghost use Rattle.calls.specs.Calls.{room_for, stageRefusal, Inside};
+ghost use Rattle.calls.specs.Calls.{room_for, stage_refusal, Inside};
 
 use conversation::limits::outside;
 use conversation::turns::own_place;
@@ -66,7 +66,7 @@ pub fn has_room(used: usize, header: usize, n: usize, len: usize) -> bool
 
 // 18 where a record is outside its limits or may not write this class, else 0.
 pub fn stage_refusal(r: Record, class: u8) -> u32
-    ensures { result ≡ stageRefusal r class }
+    ensures { result ≡ stage_refusal r class }
 {
     let number = outside(r);
     if number != 0 {

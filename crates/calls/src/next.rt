@@ -1,6 +1,6 @@
 // The next message of an end: its common fields, and the record after it.
 ghost use Rattle.std.specs.Prelude.{◌≡◌, cond, ◌+◌, ◌≤◌};
-ghost use Rattle.conversation.specs.Turns.{type_of, placeAfter};
+ghost use Rattle.conversation.specs.Turns.{type_of, place_after};
 ghost use Rattle.conversation.specs.Outcomes.{wrote, unchanged};
 ghost use Rattle.conversation.specs.Writing.{heading};
 
@@ -55,7 +55,7 @@ pub fn heading_of(r: Record, class: u8) -> Heading
 // is written.
 pub fn after_message(r: Record, class: u8, size: usize) -> Record
     requires { (r.sequence ≤ 1023) × (r.used + size ≤ 65535) }
-    ensures { result ≡ wrote r (placeAfter r class) size (unchanged r) }
+    ensures { result ≡ wrote r (place_after r class) size (unchanged r) }
 {
     let position = own_place(r, class);
     let mut next = r;

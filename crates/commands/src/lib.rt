@@ -1,7 +1,7 @@
 // The calls of the library that a script's commands stand for.
 ghost use Rattle.std.specs.Prelude.{◌≡◌, ◌%◌, drop};
 ghost use Rattle.conversation.specs.Outcomes.{leaving};
-ghost use Rattle.commands.specs.Commands.{randomIn, negoOf, writer_of, chooserOf, call_of};
+ghost use Rattle.commands.specs.Commands.{random_in, nego_of, writer_of, chooser_of, call_of};
 
 use calls::answer;
 use conversation::{Answer, Record};
@@ -28,7 +28,7 @@ fn bits(marks: u32) -> u16
 
 // RANDOM, which is the first 32 octets; zeros where there are fewer.
 fn random(octets: &[u8]) -> [u8; 32]
-    ensures { result ≡ randomIn octets.now }
+    ensures { result ≡ random_in octets.now }
 {
     let mut value = [0u8; 32];
     if octets.len() < 32 {
@@ -47,7 +47,7 @@ fn values(octets: &[u8]) -> &[u8]
 
 // The writers of a NEGO. What is no call is not of this stage: 18.
 fn write_nego(c: Command, r: Record, transcript: &mut [u8], octets: &[u8]) -> Answer
-    ensures { leaving result transcript.new ≡ negoOf c r transcript.old octets.now }
+    ensures { leaving result transcript.new ≡ nego_of c r transcript.old octets.now }
 {
     let extensions = c.elements;
     let values = values(octets);
@@ -92,7 +92,7 @@ fn write(c: Command, r: Record, transcript: &mut [u8], octets: &[u8]) -> Answer
 
 // The calls that choose and write, and all that write.
 fn choose(c: Command, r: Record, transcript: &mut [u8], octets: &[u8]) -> Answer
-    ensures { leaving result transcript.new ≡ chooserOf c r transcript.old octets.now }
+    ensures { leaving result transcript.new ≡ chooser_of c r transcript.old octets.now }
 {
     let marks = bits(c.marks);
     if c.verb == Command::CHOOSE_EXCHANGE {

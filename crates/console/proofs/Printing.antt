@@ -13,13 +13,13 @@ use borrow.Author.Tests.{leb-true, leb-false}
 use Rattle.octets.proofs.Bools.{which}
 use Rattle.io.specs.Counts.{IsPrefixLen}
 use Rattle.windows.specs.declared.Shown.{Shown}
-use Rattle.windows.specs.Windows.{Window, asWindow, windowOf}
+use Rattle.windows.specs.Windows.{Window, as_window, window_of}
 use Rattle.windows.proofs.Covers.{gets-on, window-octets, window-lines}
 use Rattle.listing.specs.Listing.{lines_of}
 use Rattle.listing.proofs.Bounds.{few-lines}
 use Rattle.console.specs.declared.Loaded.{Loaded}
 use Rattle.console.specs.declared.Loaded.TheVariants as answer
-use Rattle.console.specs.Console.{holds}
+use Rattle.console.specs.Console.{Holds}
 
 -- the end of every range that is asked for
 abbrev pub END : ℕ
@@ -28,7 +28,7 @@ END = 18446744073709551615
 -- any lines that have room in a buffer, and are not too many for a number of 64 bits
 module _ (ls : List (List ℕ)) (few : length ls < END) (short : (k : ℕ) → length (get_or ls k []) < 128)
     (first : ℕ) (inside : first ≤ length ls) (d d' : List ℕ) (size : length d ≡ 65536) (r : Shown)
-    (is : asWindow r d' ≡ windowOf ls first END d) where
+    (is : as_window r d' ≡ window_of ls first END d) where
   -- a window lies in its buffer and in the lines
   pub within-buffer : r.octets ≤ 65536
   within-buffer = omega (arith, window-octets ls first END d d' r is)
@@ -36,8 +36,8 @@ module _ (ls : List (List ℕ)) (few : length ls < END) (short : (k : ℕ) → l
   pub behind-inside : (first + r.lines ≤ length ls) × (length ls < END)
   behind-inside = (omega (arith, window-lines ls first END d d' r is), few)
 
-  pub all_shown : r.lines ≡ 0 → first ≡ length ls
-  all_shown z = go (which (leb (length ls) first)) where
+  pub all_shown_lem : r.lines ≡ 0 → first ≡ length ls
+  all_shown_lem z = go (which (leb (length ls) first)) where
     go : (leb (length ls) first ≡ true) ⊎ (leb (length ls) first ≡ false) → first ≡ length ls
     go (inl e) = let done : length ls ≤ first = leb-true _ _ e in omega arith
     go (inr e) =
@@ -57,5 +57,5 @@ pub counted-front : (n : ℕ) (d e : List ℕ) → n ≤ length d → IsPrefixLe
 counted-front n d e h = counted n (take n d ++ e) (omega (arith, length-append (take n d) e, length-take-le n d h))
 
 -- the octets of a file that was loaded
-pub loaded : (r : Loaded) (d : List ℕ) (k : ℕ) → holds r d → r ≡ answer.Octets k → IsPrefixLen k d
-loaded r d k h e = subst (λ (x : Loaded). holds x d) e h
+pub loaded : (r : Loaded) (d : List ℕ) (k : ℕ) → Holds r d → r ≡ answer.Octets k → IsPrefixLen k d
+loaded r d k h e = subst (λ (x : Loaded). Holds x d) e h

@@ -1,7 +1,7 @@
 // What the programs share: a file's octets in a lent buffer, and a token's listing on a file descriptor.
 ghost use Rattle.std.specs.Prelude.{◌≡◌, length};
 ghost use Rattle.listing.specs.Listing.{lines_of};
-ghost use Rattle.console.specs.Console.{holds};
+ghost use Rattle.console.specs.Console.{Holds};
 
 // What loading a file answers: how many octets stand at the buffer's front, or that there is no file to be read.
 #[derive(Drop)]
@@ -12,7 +12,7 @@ pub enum Loaded {
 
 // Reads until the buffer is full or the input ends. A read that fails, as that of a folder, leaves nothing to list.
 fn fill(fd: i32, buf: &mut [u8]) -> Loaded
-    ensures { holds result buf.new }
+    ensures { Holds result buf.new }
 {
     let mut count = 0;
     while count < buf.len() {
@@ -31,7 +31,7 @@ fn fill(fd: i32, buf: &mut [u8]) -> Loaded
 
 // The octets of the file with a name, from its first on, as many as the buffer has room for. What is read is the system's to say.
 pub fn load(name: &[u8], buf: &mut [u8]) -> Loaded
-    ensures { holds result buf.new }
+    ensures { Holds result buf.new }
 {
     let fd = os::open_read(name);
     if fd < 0 {
@@ -61,7 +61,7 @@ pub fn print(fd: i32, token: &[u8]) -> usize
 
 // Lists the token in the file with a name, by way of a buffer that the caller lends.
 pub fn list_file(fd: i32, name: &[u8], buf: &mut [u8]) -> Loaded
-    ensures { holds result buf.new }
+    ensures { Holds result buf.new }
 {
     let loaded = load(name, buf);
     match loaded {

@@ -11,31 +11,31 @@ use Rattle.message.specs.Check.{Row, FirstFails}
 use Rattle.message.proofs.Tables.{AllTrue}
 use Rattle.schemes.specs.Sets.{named, below}
 use Rattle.conversation.specs.declared.Record.{Record}
-use Rattle.conversation.specs.State.{own_of, limitRows}
+use Rattle.conversation.specs.State.{own_of, limit_rows}
 use Rattle.conversation.specs.Outcomes.{row, room, fits}
-use Rattle.conversation.specs.Writing.{thenFits, someLeft, Speech, classIn, speechFits, spoken}
-use Rattle.conversation.specs.Choosing.{openTo, chose, mayChoose, maySpeak, choiceRows}
+use Rattle.conversation.specs.Writing.{then_fits, some_left, Speech, class_in, speech_fits, spoken}
+use Rattle.conversation.specs.Choosing.{open_to, chose, may_choose, may_speak, choice_rows}
 use Rattle.conversation.proofs.Rows.{front-true, back-true, true-behind, fails-one, fails-each, fails-until}
 
 module _ (r : Record) (d : List ℕ) (m : ℕ) (s : Speech) where
-  abbrev pub choiceTable : List Row
-  choiceTable = limitRows r ++ thenFits (choiceRows r m (speechFits s) (classIn s)) (chose r m) d (spoken (chose r m) s)
+  abbrev pub choice_table : List Row
+  choice_table = limit_rows r ++ then_fits (choice_rows r m (speech_fits s) (class_in s)) (chose r m) d (spoken (chose r m) s)
 
   pub record Chosen : Type 0 where
-    pub limits : AllTrue (limitRows r)
-    pub may : mayChoose r ≡ true
-    pub speaks : maySpeak r m (classIn s) ≡ true
+    pub limits : AllTrue (limit_rows r)
+    pub may : may_choose r ≡ true
+    pub speaks : may_speak r m (class_in s) ≡ true
     pub marks : below r.count m ≡ true
-    pub keeps : speechFits s ≡ true
-    pub left : someLeft (named (own_of r) (openTo r m)) ≡ true
+    pub keeps : speech_fits s ≡ true
+    pub left : some_left (named (own_of r) (open_to r m)) ≡ true
     pub fitting : leb (r.used + length (spoken (chose r m) s)) (room d) ≡ true
 
-  pub choice-passed : AllTrue choiceTable → Chosen
+  pub choice-passed : AllTrue choice_table → Chosen
   choice-passed g =
       let (may, (marks, (fits-limits, (left, (speaks, (fitting, end)))))) =
-      back-true (limitRows r) (thenFits (choiceRows r m (speechFits s) (classIn s)) (chose r m) d (spoken (chose r m) s)) g in
+      back-true (limit_rows r) (then_fits (choice_rows r m (speech_fits s) (class_in s)) (chose r m) d (spoken (chose r m) s)) g in
       record {
-        limits = front-true (limitRows r) (thenFits (choiceRows r m (speechFits s) (classIn s)) (chose r m) d (spoken (chose r m) s)) g;
+        limits = front-true (limit_rows r) (then_fits (choice_rows r m (speech_fits s) (class_in s)) (chose r m) d (spoken (chose r m) s)) g;
         may = may;
         speaks = speaks;
         marks = marks;
@@ -45,21 +45,21 @@ module _ (r : Record) (d : List ℕ) (m : ℕ) (s : Speech) where
       }
 
   -- 17 is given where the stage is right and none is left
-  pub choice-17 : (n : ℕ) → FirstFails n choiceTable → n ≡ 17 → (mayChoose r ≡ true) × (someLeft (named (own_of r) (openTo r m)) ≡ false)
+  pub choice-17 : (n : ℕ) → FirstFails n choice_table → n ≡ 17 → (may_choose r ≡ true) × (some_left (named (own_of r) (open_to r m)) ≡ false)
   choice-17 n g z =
-      let l = someLeft (named (own_of r) (openTo r m)) in
-      let before : List Row = row 19 (below r.count m) ∷ row 25 (speechFits s) ∷ [] in
+      let l = some_left (named (own_of r) (open_to r m)) in
+      let before : List Row = row 19 (below r.count m) ∷ row 25 (speech_fits s) ∷ [] in
       let w =
-      fails-one 17 (limitRows r ++ (row 18 (mayChoose r) ∷ before)) l
-      (row 18 (maySpeak r m (classIn s)) ∷ fits (chose r m) d (length (spoken (chose r m) s)) ∷ []) n refl refl g z in
-      (true-behind (limitRows r) (row 18 (mayChoose r)) before w.0, w.1)
+      fails-one 17 (limit_rows r ++ (row 18 (may_choose r) ∷ before)) l
+      (row 18 (may_speak r m (class_in s)) ∷ fits (chose r m) d (length (spoken (chose r m) s)) ∷ []) n refl refl g z in
+      (true-behind (limit_rows r) (row 18 (may_choose r)) before w.0, w.1)
 
   -- in another stage, and at the acceptor, it is 18
-  pub choice-barred : mayChoose r ≡ false → (n : ℕ) → FirstFails n choiceTable → n ≡ 18
+  pub choice-barred : may_choose r ≡ false → (n : ℕ) → FirstFails n choice_table → n ≡ 18
   choice-barred f n g =
       let more : List Row =
-      row 19 (below r.count m) ∷ row 25 (speechFits s) ∷ row 17 (someLeft (named (own_of r) (openTo r m))) ∷ row 18 (maySpeak r m (classIn s))
+      row 19 (below r.count m) ∷ row 25 (speech_fits s) ∷ row 17 (some_left (named (own_of r) (open_to r m))) ∷ row 18 (may_speak r m (class_in s))
       ∷ fits (chose r m) d (length (spoken (chose r m) s)) ∷ [] in
       eqb-true _ _
-      (fails-each (λ k. eqb k 18) (limitRows r ++ (row 18 (mayChoose r) ∷ [])) n refl
-      (fails-until (limitRows r) (row 18 (mayChoose r)) more n f g))
+      (fails-each (λ k. eqb k 18) (limit_rows r ++ (row 18 (may_choose r) ∷ [])) n refl
+      (fails-until (limit_rows r) (row 18 (may_choose r)) more n f g))

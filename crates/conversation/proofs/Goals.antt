@@ -16,12 +16,12 @@ use Rattle.schemes.specs.Lists.{Id}
 use Rattle.conversation.specs.declared.Record.{Record}
 use Rattle.conversation.specs.declared.Answer.{Answer}
 use Rattle.conversation.specs.declared.Scan.{Scan}
-use Rattle.conversation.specs.State.{limitRows}
-use Rattle.conversation.specs.Turns.{NEGO, METADATA, afterOpening, afterFurther, after, reads, placeAfter, may_write, may_read}
+use Rattle.conversation.specs.State.{limit_rows}
+use Rattle.conversation.specs.Turns.{NEGO, METADATA, after_opening, after_further, after, reads, place_after, may_write, may_read}
 use Rattle.conversation.specs.Outcomes.{Outcome, answered, refused, decide, row, room, WrittenAs, wrote, appended}
-use Rattle.conversation.specs.Writing.{stageRows, thenFits, someLeft, metadataRows, metadataMessage, writingMetadata, namedRows, Speech, request, checksum, alarm, classIn, speechFits, spoken, spokenAs, speaking}
-use Rattle.conversation.specs.Reading.{Judged, whole, halted, judged, taken, finish, tokenRows, readingToken}
-use Rattle.conversation.specs.Runs.{Sized, Call, metadata, speak, read, End, turnAfter, moved}
+use Rattle.conversation.specs.Writing.{stage_rows, then_fits, some_left, metadata_rows, metadata_message, writing_metadata, named_rows, Speech, request, checksum, alarm, class_in, speech_fits, spoken, spoken_as, speaking}
+use Rattle.conversation.specs.Reading.{Judged, whole, halted, judged, taken, finish, token_rows, reading_token}
+use Rattle.conversation.specs.Runs.{Sized, Call, metadata, speak, read, End, turn_after, moved}
 use Rattle.message.proofs.Tables.{without, fails-other}
 use Rattle.conversation.proofs.Rows.{decide-out, true-behind}
 use Rattle.conversation.proofs.Tokens.{judged-number}
@@ -47,11 +47,11 @@ abbrev pub NotFirst : ℕ → Type 0
 NotFirst kind = (token : ℕ) (v : Bool) → leb token 1 ≡ true → after token 0 v kind ≡ 0
 
 metadata-not-first : NotFirst METADATA
-unfolding after afterOpening
+unfolding after after_opening
 metadata-not-first token v e = rw e
 
-speech-not-first : (s : Speech) → NotFirst (classIn s)
-unfolding after afterOpening
+speech-not-first : (s : Speech) → NotFirst (class_in s)
+unfolding after after_opening
 speech-not-first (request value) token v e = rw e
 speech-not-first (checksum type value) token true e = refl
 speech-not-first (checksum type value) token false e = rw e
@@ -59,7 +59,7 @@ speech-not-first (alarm code) token v e = rw e
 
 -- a NEGO stands at the start of the first token or of the reply
 pub nego-start : (token position : ℕ) (v : Bool) → not (eqb (after token position v NEGO) 0) ≡ true → (leb token 1 ≡ true) × (position ≡ 0)
-unfolding after afterOpening afterFurther
+unfolding after after_opening after_further
 nego-start token position v e = elim (which (leb token 1)) [
   | inl a ↦ elim (which (eqb position 0)) [
     | inl b ↦ (a, eqb-true _ _ b)
@@ -73,13 +73,13 @@ nego-start token position v e = elim (which (leb token 1)) [
 
 -- A call at an end: what is kept of an end (Inv), of its stage beside the other's (Tog), and what is said of the answer (P)
 
-abbrev pub no17 : Answer → Type 0
-no17 a = a.refusal ≡ 17 → ⊥
+abbrev pub No17 : Answer → Type 0
+No17 a = a.refusal ≡ 17 → ⊥
 
-abbrev pub no12 : Answer → Type 0
-no12 a = a.refusal ≡ 12 → ⊥
+abbrev pub No12 : Answer → Type 0
+No12 a = a.refusal ≡ 12 → ⊥
 
-pub not_some : (l : List Id) → someLeft l ≡ false → l ≡ []
+pub not_some : (l : List Id) → some_left l ≡ false → l ≡ []
 not_some [] h = refl
 not_some (x ∷ l) h = no_true (sym h)
 
@@ -101,52 +101,52 @@ module _ (e : End) (Inv : End → Type 0) (Tog : ℕ → Type 0) where
 
     -- a refusal by a table that has no 17
     pub stopped : (k : Call) (rows : List Row) → without 0 rows ≡ true → without 17 rows ≡ true → (n : ℕ) → FirstFails n rows
-        → Goal k no17 (refused r d n 0)
-    stopped k rows z s n g = refusal k no17 n 0 (fails-other 0 rows n z g) (λ q. fails-other 17 rows n s g q)
+        → Goal k No17 (refused r d n 0)
+    stopped k rows z s n g = refusal k No17 n 0 (fails-other 0 rows n z g) (λ q. fails-other 17 rows n s g q)
 
     -- a message that begins no turn
     module _
         (more : (kind : ℕ) (w : WrittenAs) (x d' : List ℕ) → NotFirst kind → may_write r kind ≡ true
-        → Inv (record { record_of = wrote r (placeAfter r kind) (length x) w; transcript = d'; turn = e.turn ++ x })) where
-      write : (k : Call) (kind : ℕ) (rows : List Row) (x : List ℕ) (w : WrittenAs) → NotFirst kind → turnAfter e k ≡ e.turn ++ x
-          → without 0 (thenFits rows r d x) ≡ true → without 17 (thenFits rows r d x) ≡ true
-          → Goal k no17 (decide (stageRows r kind ++ thenFits rows r d x) r d (appended r d (placeAfter r kind) x w))
+        → Inv (record { record_of = wrote r (place_after r kind) (length x) w; transcript = d'; turn = e.turn ++ x })) where
+      write : (k : Call) (kind : ℕ) (rows : List Row) (x : List ℕ) (w : WrittenAs) → NotFirst kind → turn_after e k ≡ e.turn ++ x
+          → without 0 (then_fits rows r d x) ≡ true → without 17 (then_fits rows r d x) ≡ true
+          → Goal k No17 (decide (stage_rows r kind ++ then_fits rows r d x) r d (appended r d (place_after r kind) x w))
       write k kind rows x w nf t z s =
-          let table : List Row = stageRows r kind ++ thenFits rows r d x in
-          decide-out (Goal k no17) table r d (appended r d (placeAfter r kind) x w) (stopped k table z s)
+          let table : List Row = stage_rows r kind ++ then_fits rows r d x in
+          decide-out (Goal k No17) table r d (appended r d (place_after r kind) x w) (stopped k table z s)
           (λ g. record {
-            then_ok = rw t (more kind w x (put d r.used x) nf (true-behind (limitRows r) (row 18 (may_write r kind)) (thenFits rows r d x) g));
+            then_ok = rw t (more kind w x (put d r.used x) nf (true-behind (limit_rows r) (row 18 (may_write r kind)) (then_fits rows r d x) g));
             then-together = tg;
             fair = λ q. omega arith;
           })
 
-      pub metadata-goal : (id : Sized 16) (value : List ℕ) → Goal (metadata id value) no17 (writingMetadata r d id.0 value)
-      unfolding writingMetadata
+      pub metadata-goal : (id : Sized 16) (value : List ℕ) → Goal (metadata id value) No17 (writing_metadata r d id.0 value)
+      unfolding writing_metadata
       metadata-goal id value =
-          write (metadata id value) METADATA (metadataRows r id.0 (length value))
-          (metadataMessage r id.0 value) _ metadata-not-first refl refl refl
+          write (metadata id value) METADATA (metadata_rows r id.0 (length value))
+          (metadata_message r id.0 value) _ metadata-not-first refl refl refl
 
-      pub speak-goal : (s : Speech) → Goal (speak s) no17 (speaking r d s)
+      pub speak-goal : (s : Speech) → Goal (speak s) No17 (speaking r d s)
       unfolding speaking
-      speak-goal s = write (speak s) (classIn s) (namedRows r (speechFits s)) (spoken r s) (spokenAs r s) (speech-not-first s) refl refl refl
+      speak-goal s = write (speak s) (class_in s) (named_rows r (speech_fits s)) (spoken r s) (spoken_as r s) (speech-not-first s) refl refl refl
 
     -- a reading of the other end's turn so far
     module _ (peer : List ℕ)
         (reads_on : (n : ℕ) (c : Scan) (d' : List ℕ) → may_read r ≡ true → judged r peer ≡ whole n c
         → Inv (record { record_of = taken r peer n c; transcript = d'; turn = [] }) × Tog (reads r + 1)) where
       -- one that is not refused with 12 leaves the record open
-      pub read-goal : no12 (readingToken r d peer).answer → Goal read no17 (readingToken r d peer)
-      unfolding readingToken
+      pub read-goal : No12 (reading_token r d peer).answer → Goal read No17 (reading_token r d peer)
+      unfolding reading_token
       read-goal =
-          let rows : List Row = limitRows r ++ tokenRows r (length peer) in
-          decide-out (λ out. no12 out.answer → Goal read no17 out) rows r d (finish r d peer (judged r peer))
+          let rows : List Row = limit_rows r ++ token_rows r (length peer) in
+          decide-out (λ out. No12 out.answer → Goal read No17 out) rows r d (finish r d peer (judged r peer))
           (λ n g ask. stopped read rows refl refl n g)
-          (λ g. token (judged r peer) refl (true-behind (limitRows r) (row 18 (may_read r)) (row 1 (leb (length peer) 65535) ∷ []) g)) where
-            token : (j : Judged) → judged r peer ≡ j → may_read r ≡ true → no12 (finish r d peer j).answer → Goal read no17 (finish r d peer j)
+          (λ g. token (judged r peer) refl (true-behind (limit_rows r) (row 18 (may_read r)) (row 1 (leb (length peer) 65535) ∷ []) g)) where
+            token : (j : Judged) → judged r peer ≡ j → may_read r ≡ true → No12 (finish r d peer j).answer → Goal read No17 (finish r d peer j)
             token (halted n p) w h ask =
-                unfold finish in (let z = judged-number r peer n p w in rw (ne_eqb n 12 ask) (refusal read no17 n p z.0 z.1.0))
+                unfold finish in (let z = judged-number r peer n p w in rw (ne_eqb n 12 ask) (refusal read No17 n p z.0 z.1.0))
             token (whole n c) w h ask = unfold finish in elim (which (leb (r.used + length peer) (room d))) [
-              | inr b ↦ rw b (refusal read no17 16 0 (λ z. omega arith) (λ z. omega arith))
+              | inr b ↦ rw b (refusal read No17 16 0 (λ z. omega arith) (λ z. omega arith))
               | inl b ↦ rw b
                   (let g = reads_on n c (put d r.used peer) h w in record { then_ok = g.0; then-together = g.1; fair = λ z. omega arith })
             ]

@@ -12,10 +12,10 @@ use lib.Seq.{take_at, take-length, drop_at, drop-nil}
 use lib.Dec.{eqb}
 use borrow.Author.Tests.{ne_eqb}
 use Rattle.octets.proofs.Bools.{which, no_true}
-use Rattle.message.specs.Layout.{Head, shape_of, headerOf, head_of, contentOf, vectors_of, size, front}
-use Rattle.message.specs.Check.{SIGNATURE, Row, FirstFails, commonRows, versionOk, allKeepRule, criticalOk, checksumOk, contentRows, bodyRows, frontRows}
+use Rattle.message.specs.Layout.{Head, shape_of, header_of, head_of, content_of, vectors_of, size, front}
+use Rattle.message.specs.Check.{SIGNATURE, Row, FirstFails, common_rows, version_ok, all_keep_rule, critical_ok, checksum_ok, content_rows, body_rows, front_rows}
 use Rattle.message.proofs.Tables.{AllTrue, given, refuses-first, without}
-use Rattle.token.specs.Token.{orderRows, nextRows, passes, Chain, end, refused as cut_at, message, chainOf}
+use Rattle.token.specs.Token.{order_rows, next_rows, passes, Chain, end, refused as cut_at, message, chain_of}
 use Rattle.token.specs.Split.{Message, Numbered, join}
 use Rattle.token.proofs.Cuts.{passes-sized, drop-one, turn-pass, turn-fail}
 use Rattle.token.proofs.Splits.{front-message, message-head, message-order, message-length}
@@ -23,7 +23,7 @@ use Rattle.token.proofs.Joins.{join-append}
 use Rattle.put.specs.Put.{joined}
 use Rattle.put.proofs.Laws.{joined-append}
 use Rattle.encode.specs.declared.Heading.{Heading}
-use Rattle.encode.specs.Encode.{Whole, Contents, ofNego, ofExchange, ofVerify, ofAlert, size_of, headFields, bodyFields, encoded}
+use Rattle.encode.specs.Encode.{Whole, Contents, of_nego, of_exchange, of_verify, of_alert, size_of, head_fields, body_fields, encoded}
 use Rattle.encode.proofs.Sizes.{length-encoded}
 use Rattle.roundtrip.proofs.Heads.{head-fields}
 use Rattle.conversation.specs.declared.Record.{Record}
@@ -31,8 +31,8 @@ use Rattle.conversation.specs.declared.Scan.{Scan}
 use Rattle.conversation.specs.Turns.{NEGO, type_of}
 use Rattle.conversation.specs.Outcomes.{row}
 use Rattle.conversation.specs.Admitting.{Admitted, on, stop, admit}
-use Rattle.conversation.specs.Reading.{conversationOf, start_of, whole, halted, judge, chainFor, judged}
-use Rattle.conversation.specs.Logs.{messagesIn, InOrder}
+use Rattle.conversation.specs.Reading.{conversation_of, start_of, whole, halted, judge, chain_for, judged}
+use Rattle.conversation.specs.Logs.{messages_in, InOrder}
 use Rattle.conversation.proofs.Rows.{fails-one, true-behind}
 use Rattle.conversation.proofs.Tokens.{empty-judged, Numbers, judged-numbers}
 
@@ -70,7 +70,7 @@ framed-order q (m ∷ ms) a = (ap (λ (s : List ℕ). (head_of s).sequence) (sym
 
 -- messages without a critical extension
 abbrev pub Plain : List ℕ → Type 0
-Plain m = (rest : List ℕ) → criticalOk (contentOf (shape_of (head_of (m ++ rest)).kind) m) ≡ true
+Plain m = (rest : List ℕ) → critical_ok (content_of (shape_of (head_of (m ++ rest)).kind) m) ≡ true
 
 abbrev pub AllPlain : List (List ℕ) → Type 0
 AllPlain [] = Unit {0}
@@ -123,10 +123,10 @@ same_start q p (m ∷ ms) (n ∷ ns) a b e h = (same-front q p m n (join ms) (jo
 -- 3. a written message
 
 pub least : (c : Contents) → 64 ≤ size_of c
-least (ofNego o) = omega arith
-least (ofExchange p) = omega arith
-least (ofVerify k) = omega arith
-least (ofAlert p) = omega arith
+least (of_nego o) = omega arith
+least (of_exchange p) = omega arith
+least (of_verify k) = omega arith
+least (of_alert p) = omega arith
 
 module _ (h : Heading) (c : Contents) (known : h.kind.0 ≤ 7) (number : h.sequence < 4294967296) (id : length h.conversation ≡ 16) (w : Whole c)
     (short : length (encoded h c) ≤ 65535) where
@@ -135,16 +135,16 @@ module _ (h : Heading) (c : Contents) (known : h.kind.0 ≤ 7) (number : h.seque
         signature = SIGNATURE;
         kind = h.kind.0;
         sequence = h.sequence;
-        header = headerOf (shape_of h.kind.0);
+        header = header_of (shape_of h.kind.0);
         length = size_of c;
         conversation = h.conversation;
       }
   unfolding encoded
   head-written rest =
       let n : length (encoded h c) ≡ size_of c = length-encoded h id c w in
-      let fs : List (List ℕ) = headFields h (size_of c) ++ bodyFields c in
+      let fs : List (List ℕ) = head_fields h (size_of c) ++ body_fields c in
       ap head_of (sym (joined-append fs (rest ∷ []) ∙ ap (λ (l : List ℕ). joined fs ++ l) (append-nil rest)))
-      ∙ head-fields h (size_of c) (bodyFields c ++ (rest ∷ [])) known number (omega arith) id
+      ∙ head-fields h (size_of c) (body_fields c ++ (rest ∷ [])) known number (omega arith) id
 
   pub written-framed : Framed h.sequence (encoded h c)
   written-framed =
@@ -155,20 +155,20 @@ module _ (h : Heading) (c : Contents) (known : h.kind.0 ≤ 7) (number : h.seque
         number = λ rest. ap (λ (g : Head). g.sequence) (head-written rest);
       }
 
-  pub written-plain : criticalOk (contentOf (shape_of h.kind.0) (encoded h c)) ≡ true → Plain (encoded h c)
-  written-plain plain rest = ap (λ (g : Head). criticalOk (contentOf (shape_of g.kind) (encoded h c))) (head-written rest) ∙ plain
+  pub written-plain : critical_ok (content_of (shape_of h.kind.0) (encoded h c)) ≡ true → Plain (encoded h c)
+  written-plain plain rest = ap (λ (g : Head). critical_ok (content_of (shape_of g.kind) (encoded h c))) (head-written rest) ∙ plain
 
 -- no kind of message but a NEGO has extensions
-pub plain-kind : (a : Bool) (kind : ℕ) (m : List ℕ) → eqb kind NEGO ≡ false → criticalOk (contentOf (shape_of (type_of a kind)) m) ≡ true
-unfolding type_of shape_of contentOf
+pub plain-kind : (a : Bool) (kind : ℕ) (m : List ℕ) → eqb kind NEGO ≡ false → critical_ok (content_of (shape_of (type_of a kind)) m) ≡ true
+unfolding type_of shape_of content_of
 plain-kind true kind m e = rw e (go (eqb kind 2) (eqb kind 3) (eqb kind 4)) where
-  go : (x y z : Bool) → criticalOk (contentOf (shape_of (cond x 3 (cond y 4 (cond z 6 7)))) m) ≡ true
+  go : (x y z : Bool) → critical_ok (content_of (shape_of (cond x 3 (cond y 4 (cond z 6 7)))) m) ≡ true
   go true y z = refl
   go false true z = refl
   go false false true = refl
   go false false false = refl
 plain-kind false kind m e = rw e (go (eqb kind 2) (eqb kind 3) (eqb kind 4)) where
-  go : (x y z : Bool) → criticalOk (contentOf (shape_of (cond x 2 (cond y 5 (cond z 6 7)))) m) ≡ true
+  go : (x y z : Bool) → critical_ok (content_of (shape_of (cond x 2 (cond y 5 (cond z 6 7)))) m) ≡ true
   go true y z = refl
   go false true z = refl
   go false false true = refl
@@ -179,28 +179,28 @@ plain-kind false kind m e = rw e (go (eqb kind 2) (eqb kind 3) (eqb kind 4)) whe
 -- the row of 12 in a message's table, between those before it and the one after it
 abbrev before-12 : List ℕ → ℕ → List ℕ → List Row
 before-12 s q v =
-    commonRows (length s) (head_of s)
-    ++ (orderRows (head_of s) q v
-    ++ (row 10 (versionOk (contentOf (shape_of (head_of s).kind) (front s)))
-    ∷ row 11 (allKeepRule (headerOf (shape_of (head_of s).kind)) (size s) (vectors_of (contentOf (shape_of (head_of s).kind) (front s))))
+    common_rows (length s) (head_of s)
+    ++ (order_rows (head_of s) q v
+    ++ (row 10 (version_ok (content_of (shape_of (head_of s).kind) (front s)))
+    ∷ row 11 (all_keep_rule (header_of (shape_of (head_of s).kind)) (size s) (vectors_of (content_of (shape_of (head_of s).kind) (front s))))
     ∷ []))
 
 abbrev critical-row : List ℕ → Bool
-critical-row s = criticalOk (contentOf (shape_of (head_of s).kind) (front s))
+critical-row s = critical_ok (content_of (shape_of (head_of s).kind) (front s))
 
 abbrev behind-12 : List ℕ → List Row
-behind-12 s = row 13 (checksumOk (contentOf (shape_of (head_of s).kind) (front s))) ∷ []
+behind-12 s = row 13 (checksum_ok (content_of (shape_of (head_of s).kind) (front s))) ∷ []
 
-next-12 : (s : List ℕ) (q : ℕ) (v : List ℕ) → nextRows s q v ≡ before-12 s q v ++ (row 12 (critical-row s) ∷ behind-12 s)
-unfolding nextRows commonRows orderRows frontRows bodyRows contentRows
+next-12 : (s : List ℕ) (q : ℕ) (v : List ℕ) → next_rows s q v ≡ before-12 s q v ++ (row 12 (critical-row s) ∷ behind-12 s)
+unfolding next_rows common_rows order_rows front_rows body_rows content_rows
 next-12 s q v = refl
 
-passed-plain : (q : ℕ) (v m : List ℕ) → Message q v m → criticalOk (contentOf (shape_of (head_of m).kind) m) ≡ true
+passed-plain : (q : ℕ) (v m : List ℕ) → Message q v m → critical_ok (content_of (shape_of (head_of m).kind) m) ≡ true
 passed-plain q v m e =
     let all : AllTrue (before-12 m q v ++ (row 12 (critical-row m) ∷ behind-12 m)) =
-    subst AllTrue (next-12 m q v) (given (nextRows m q v) e.pass) in
+    subst AllTrue (next-12 m q v) (given (next_rows m q v) e.pass) in
     let is : front m ≡ m = ap (λ (k : ℕ). take k m) e.exact ∙ take-length m in
-    subst (λ (f : List ℕ). criticalOk (contentOf (shape_of (head_of m).kind) f) ≡ true) is
+    subst (λ (f : List ℕ). critical_ok (content_of (shape_of (head_of m).kind) f) ≡ true) is
     (true-behind (before-12 m q v) (row 12 (critical-row m)) (behind-12 m) all)
 
 pub numbered-framed : (q : ℕ) (v : List ℕ) (ms : List (List ℕ)) → Numbered q v ms → FramedFrom q ms
@@ -217,7 +217,7 @@ numbered-framed q v (m ∷ ms) e = (
 numbered-plain : (q : ℕ) (v : List ℕ) (ms : List (List ℕ)) → Numbered q v ms → AllPlain ms
 numbered-plain q v [] e = tt
 numbered-plain q v (m ∷ ms) e = (
-  λ rest. ap (λ (g : Head). criticalOk (contentOf (shape_of g.kind) m)) (message-head q v m rest e.0) ∙ passed-plain q v m e.0,
+  λ rest. ap (λ (g : Head). critical_ok (content_of (shape_of g.kind) m)) (message-head q v m rest e.0) ∙ passed-plain q v m e.0,
   numbered-plain (q + 1) v ms e.1,
 )
 
@@ -231,15 +231,15 @@ record Cut (s : List ℕ) (q : ℕ) (v : List ℕ) (ms : List (List ℕ)) : Type
   joins : join ms ≡ s
   numbered : Numbered q v ms
 
-cut-whole : (xs : List ℕ) (k place q : ℕ) (v : List ℕ) → Ends (chainOf xs k place q v) → Cut (drop k xs) q v (messagesIn (chainOf xs k place q v))
-unfolding chainOf messagesIn
+cut-whole : (xs : List ℕ) (k place q : ℕ) (v : List ℕ) → Ends (chain_of xs k place q v) → Cut (drop k xs) q v (messages_in (chain_of xs k place q v))
+unfolding chain_of messages_in
 cut-whole [] k place q v h = record { joins = sym (drop-nil k); numbered = tt }
 cut-whole (x ∷ xs) (suc k) place q v h = cut-whole xs k place q v h
 cut-whole (x ∷ xs) zero place q v h = go (which (passes (x ∷ xs) q v)) (cut-whole xs (size (x ∷ xs) - 1) (place + size (x ∷ xs)) (q + 1) v) h where
   go : (passes (x ∷ xs) q v ≡ true) ⊎ (passes (x ∷ xs) q v ≡ false)
-      → (Ends (chainOf xs (size (x ∷ xs) - 1) (place + size (x ∷ xs)) (q + 1) v)
-      → Cut (drop (size (x ∷ xs) - 1) xs) (q + 1) v (messagesIn (chainOf xs (size (x ∷ xs) - 1) (place + size (x ∷ xs)) (q + 1) v)))
-      → Ends (chainOf (x ∷ xs) 0 place q v) → Cut (x ∷ xs) q v (messagesIn (chainOf (x ∷ xs) 0 place q v))
+      → (Ends (chain_of xs (size (x ∷ xs) - 1) (place + size (x ∷ xs)) (q + 1) v)
+      → Cut (drop (size (x ∷ xs) - 1) xs) (q + 1) v (messages_in (chain_of xs (size (x ∷ xs) - 1) (place + size (x ∷ xs)) (q + 1) v)))
+      → Ends (chain_of (x ∷ xs) 0 place q v) → Cut (x ∷ xs) q v (messages_in (chain_of (x ∷ xs) 0 place q v))
   go (inl e) ih g =
       let z = passes-sized (x ∷ xs) q v e in
       let d : drop (size (x ∷ xs) - 1) xs ≡ drop (size (x ∷ xs)) (x ∷ xs) = drop-one x xs (size (x ∷ xs)) (omega (arith, z)) in
@@ -252,10 +252,10 @@ cut-whole (x ∷ xs) zero place q v h = go (which (passes (x ∷ xs) q v)) (cut-
 
 record Counts (k n : ℕ) (ch : Chain) : Type 0 where
   ends : Ends ch
-  count : k ≡ n + length (messagesIn ch)
+  count : k ≡ n + length (messages_in ch)
 
 judge-counts : (r : Record) (t : List ℕ) (n : ℕ) (c : Scan) (ch : Chain) (k : ℕ) (d : Scan) → judge r t n c ch ≡ whole k d → Counts k n ch
-unfolding judge messagesIn
+unfolding judge messages_in
 judge-counts r t n c end k d e = let z : n ≡ k = cc in record { ends = tt; count = omega arith }
 judge-counts r t n c (cut_at m a) k d e = let z : ◌≡◌ {A = ℕ} 0 1 = cc in absurd (omega arith)
 judge-counts r t n c (message m ms) k d e = go (admit r t c m.octets) refl (λ c'. judge-counts r t (n + 1) c' ms k d) where
@@ -277,29 +277,29 @@ judge-keeps P r t f n c (message m ms) k d p e = go (admit r t c m.octets) refl 
 
 pub record Taken (r : Record) (t : List ℕ) (n : ℕ) : Type 0 where
   pub some : 0 < length t
-  pub joins : join (messagesIn (chainFor r t)) ≡ t
-  pub framed : FramedFrom r.sequence (messagesIn (chainFor r t))
-  pub plain : AllPlain (messagesIn (chainFor r t))
-  pub count : n ≡ length (messagesIn (chainFor r t))
+  pub joins : join (messages_in (chain_for r t)) ≡ t
+  pub framed : FramedFrom r.sequence (messages_in (chain_for r t))
+  pub plain : AllPlain (messages_in (chain_for r t))
+  pub count : n ≡ length (messages_in (chain_for r t))
 
 pub token-taken : (r : Record) (t : List ℕ) (n : ℕ) (c : Scan) → judged r t ≡ whole n c → Taken r t n
 unfolding judged
 token-taken r [] n c e = absurd (empty-judged r n c (unfold judged in e))
 token-taken r (x ∷ t) n c e =
     let some : length (x ∷ t) ≡ 0 → ⊥ = λ z. omega arith in
-    let v : List ℕ = conversationOf r (x ∷ t) in
-    let is : chainFor r (x ∷ t) ≡ chainOf (x ∷ t) 0 0 r.sequence v = rw (ne_eqb _ _ some) in
-    let k = judge-counts r (x ∷ t) 0 (start_of r) (chainFor r (x ∷ t)) n c e in
+    let v : List ℕ = conversation_of r (x ∷ t) in
+    let is : chain_for r (x ∷ t) ≡ chain_of (x ∷ t) 0 0 r.sequence v = rw (ne_eqb _ _ some) in
+    let k = judge-counts r (x ∷ t) 0 (start_of r) (chain_for r (x ∷ t)) n c e in
     let g = cut-whole (x ∷ t) 0 0 r.sequence v (subst Ends is k.ends) in
     record {
       some = omega arith;
-      joins = ap (λ (h : Chain). join (messagesIn h)) is ∙ g.joins;
+      joins = ap (λ (h : Chain). join (messages_in h)) is ∙ g.joins;
       framed =
-          subst (λ (h : Chain). FramedFrom r.sequence (messagesIn h)) (sym is)
-          (numbered-framed r.sequence v (messagesIn (chainOf (x ∷ t) 0 0 r.sequence v)) g.numbered);
+          subst (λ (h : Chain). FramedFrom r.sequence (messages_in h)) (sym is)
+          (numbered-framed r.sequence v (messages_in (chain_of (x ∷ t) 0 0 r.sequence v)) g.numbered);
       plain =
-          subst (λ (h : Chain). AllPlain (messagesIn h)) (sym is)
-          (numbered-plain r.sequence v (messagesIn (chainOf (x ∷ t) 0 0 r.sequence v)) g.numbered);
+          subst (λ (h : Chain). AllPlain (messages_in h)) (sym is)
+          (numbered-plain r.sequence v (messages_in (chain_of (x ∷ t) 0 0 r.sequence v)) g.numbered);
       count = let h = k.count in omega arith;
     }
 
@@ -309,41 +309,41 @@ abbrev pub Not12 : ℕ → Type 0
 Not12 n = n ≡ 12 → ⊥
 
 without-12 : (s : List ℕ) (q : ℕ) (v : List ℕ) → without 12 (before-12 s q v) ≡ true
-unfolding commonRows orderRows
+unfolding common_rows order_rows
 without-12 s q v = refl
 
-never-12 : (m rest : List ℕ) (p q : ℕ) (v : List ℕ) → Framed p m → Plain m → (n : ℕ) → FirstFails n (nextRows (m ++ rest) q v) → Not12 n
+never-12 : (m rest : List ℕ) (p q : ℕ) (v : List ℕ) → Framed p m → Plain m → (n : ℕ) → FirstFails n (next_rows (m ++ rest) q v) → Not12 n
 never-12 m rest p q v f u n g e =
     let s : List ℕ = m ++ rest in
     let h : FirstFails n (before-12 s q v ++ (row 12 (critical-row s) ∷ behind-12 s)) = subst (FirstFails n) (next-12 s q v) g in
     let is : front s ≡ m = ap (λ (k : ℕ). take k s) (f.exact rest) ∙ take_at m rest (length m) refl in
-    let plain : critical-row s ≡ true = ap (λ (l : List ℕ). criticalOk (contentOf (shape_of (head_of s).kind) l)) is ∙ u rest in
+    let plain : critical-row s ≡ true = ap (λ (l : List ℕ). critical_ok (content_of (shape_of (head_of s).kind) l)) is ∙ u rest in
     no_true (sym (fails-one 12 (before-12 s q v) (critical-row s) (behind-12 s) n (without-12 s q v) refl h e).1 ∙ plain)
 
-chain-12 : (p : ℕ) (ms : List (List ℕ)) → FramedFrom p ms → AllPlain ms → (place q : ℕ) (v : List ℕ) → Numbers Not12 (chainOf (join ms) 0 place q v)
-chain-12 p [] f u place q v = unfold chainOf in tt
+chain-12 : (p : ℕ) (ms : List (List ℕ)) → FramedFrom p ms → AllPlain ms → (place q : ℕ) (v : List ℕ) → Numbers Not12 (chain_of (join ms) 0 place q v)
+chain-12 p [] f u place q v = unfold chain_of in tt
 chain-12 p (m ∷ ms) f u place q v = go (which (passes (m ++ join ms) q v)) (chain-12 (p + 1) ms f.1 u.1 (place + length m) (q + 1) v) where
-  go : (passes (m ++ join ms) q v ≡ true) ⊎ (passes (m ++ join ms) q v ≡ false) → Numbers Not12 (chainOf (join ms) 0 (place + length m) (q + 1) v)
-      → Numbers Not12 (chainOf (m ++ join ms) 0 place q v)
+  go : (passes (m ++ join ms) q v ≡ true) ⊎ (passes (m ++ join ms) q v ≡ false) → Numbers Not12 (chain_of (join ms) 0 (place + length m) (q + 1) v)
+      → Numbers Not12 (chain_of (m ++ join ms) 0 place q v)
   go (inl e) ih =
       let z : size (m ++ join ms) ≡ length m = f.0.exact (join ms) in
-      let same : chainOf (drop (size (m ++ join ms)) (m ++ join ms)) 0 (place + size
-      (m ++ join ms)) (q + 1) v ≡ chainOf (join ms) 0 (place + length m) (q + 1) v =
-      ap (λ (k : ℕ). chainOf (drop k (m ++ join ms)) 0 (place + k) (q + 1) v) z
-      ∙ ap (λ (l : List ℕ). chainOf l 0 (place + length m) (q + 1) v) (drop_at m (join ms) (length m) refl) in
+      let same : chain_of (drop (size (m ++ join ms)) (m ++ join ms)) 0 (place + size
+      (m ++ join ms)) (q + 1) v ≡ chain_of (join ms) 0 (place + length m) (q + 1) v =
+      ap (λ (k : ℕ). chain_of (drop k (m ++ join ms)) 0 (place + k) (q + 1) v) z
+      ∙ ap (λ (l : List ℕ). chain_of l 0 (place + length m) (q + 1) v) (drop_at m (join ms) (length m) refl) in
       subst (Numbers Not12) (sym (turn-pass place q v (m ++ join ms) e)) (subst (Numbers Not12) (sym same) ih)
   go (inr e) ih =
       let some : 0 < length (m ++ join ms) = (let l = f.0.long in omega (arith, length-append m (join ms))) in
       subst (Numbers Not12) (sym (turn-fail place q v (m ++ join ms) some e))
-      (never-12 m (join ms) p q v f.0 u.0 _ (refuses-first (nextRows (m ++ join ms) q v) e))
+      (never-12 m (join ms) p q v f.0 u.0 _ (refuses-first (next_rows (m ++ join ms) q v) e))
 
 pub turn-12 : (r : Record) (t : List ℕ) (p : ℕ) (ms : List (List ℕ)) → FramedFrom p ms → AllPlain ms → join ms ≡ t → (n place : ℕ)
     → judged r t ≡ halted n place → Not12 n
 turn-12 r t p ms f u is n place e = judged-numbers Not12 (λ z. omega arith) (λ z. omega arith) r t (numbers t is) n place e where
-  numbers : (s : List ℕ) → join ms ≡ s → Numbers Not12 (chainFor r s)
+  numbers : (s : List ℕ) → join ms ≡ s → Numbers Not12 (chain_for r s)
   numbers [] is = λ z. omega arith
   numbers (x ∷ s) is =
       let some : length (x ∷ s) ≡ 0 → ⊥ = λ z. omega arith in
       rw (ne_eqb _ _ some)
-      (subst (λ (l : List ℕ). Numbers Not12 (chainOf l 0 0 r.sequence (conversationOf r (x ∷ s)))) is
-      (chain-12 p ms f u 0 r.sequence (conversationOf r (x ∷ s))))
+      (subst (λ (l : List ℕ). Numbers Not12 (chain_of l 0 0 r.sequence (conversation_of r (x ∷ s)))) is
+      (chain-12 p ms f u 0 r.sequence (conversation_of r (x ∷ s))))

@@ -10,9 +10,9 @@ use lib.Dec.{leb}
 use Rattle.octets.proofs.Bools.{which}
 use Rattle.message.proofs.Tables.{fails-other}
 use Rattle.conversation.specs.declared.Record.{Record}
-use Rattle.conversation.specs.State.{limitRows}
+use Rattle.conversation.specs.State.{limit_rows}
 use Rattle.conversation.specs.Outcomes.{room}
-use Rattle.conversation.specs.Reading.{Judged, whole, halted, judged, finish, tokenRows, readingToken}
+use Rattle.conversation.specs.Reading.{Judged, whole, halted, judged, finish, token_rows, reading_token}
 use Rattle.conversation.specs.Claims.{NineNeverRead}
 use Rattle.conversation.proofs.Rows.{decide-out}
 use Rattle.conversation.proofs.Tokens.{judged-number}
@@ -25,8 +25,8 @@ finished r d t (whole n c) e nine =
     [ inl b ↦ (let z : ◌≡◌ {A = ℕ} 0 9 = rw b at nine in omega arith) | inr b ↦ (let z : ◌≡◌ {A = ℕ} 16 9 = rw b at nine in omega arith) ]
 
 pub nine-never-read : NineNeverRead
-unfolding readingToken
+unfolding reading_token
 nine-never-read r d t =
-    decide-out (λ o. o.answer.refusal ≡ 9 → ⊥) (limitRows r ++ tokenRows r (length t)) r d (finish r d t (judged r t))
-    (λ n f. fails-other 9 (limitRows r ++ tokenRows r (length t)) n refl f)
+    decide-out (λ o. o.answer.refusal ≡ 9 → ⊥) (limit_rows r ++ token_rows r (length t)) r d (finish r d t (judged r t))
+    (λ n f. fails-other 9 (limit_rows r ++ token_rows r (length t)) n refl f)
     (λ g. finished r d t (judged r t) refl)

@@ -17,17 +17,17 @@ use Rattle.schemes.specs.Sets.{left, below}
 use Rattle.conversation.specs.declared.Record.{Record}
 use Rattle.conversation.specs.declared.Answer.{Answer}
 use Rattle.conversation.specs.declared.Scan.{Scan}
-use Rattle.conversation.specs.State.{closed, own_of, limitRows}
-use Rattle.conversation.specs.Turns.{NEGO, METADATA, writing, reading, writes, placeAfter, may_write}
-use Rattle.conversation.specs.Outcomes.{Outcome, refused, closedBy, decide, row, room, fits, WrittenAs, appended, wrote}
-use Rattle.conversation.specs.Writing.{extensionRows, stageRows, thenFits, offered, offerRows, offering, someLeft, replyMessage, replyRows, naming, replying, metadataMessage, metadataRows, writingMetadata, namedRows, speaking, spoken, Speech, classIn, speechFits, spokenAs}
-use Rattle.conversation.specs.Reading.{Judged, whole, halted, judged, taken, finish, tokenRows, readingToken}
-use Rattle.conversation.specs.Choosing.{mayChoose, chose, choosing}
-use Rattle.conversation.specs.Runs.{NegoCall, Call, offer, reply, metadata, speak, read, choose, End, act, World, world, outcomeAt, next, Entry, run, isAccepted}
-use Rattle.conversation.specs.Claims.{atEnd, acceptedAt, withMarks, MarksOnce}
+use Rattle.conversation.specs.State.{closed, own_of, limit_rows}
+use Rattle.conversation.specs.Turns.{NEGO, METADATA, writing, reading, writes, place_after, may_write}
+use Rattle.conversation.specs.Outcomes.{Outcome, refused, closed_by, decide, row, room, fits, WrittenAs, appended, wrote}
+use Rattle.conversation.specs.Writing.{extension_rows, stage_rows, then_fits, offered, offer_rows, offering, some_left, reply_message, reply_rows, naming, replying, metadata_message, metadata_rows, writing_metadata, named_rows, speaking, spoken, Speech, class_in, speech_fits, spoken_as}
+use Rattle.conversation.specs.Reading.{Judged, whole, halted, judged, taken, finish, token_rows, reading_token}
+use Rattle.conversation.specs.Choosing.{may_choose, chose, choosing}
+use Rattle.conversation.specs.Runs.{NegoCall, Call, offer, reply, metadata, speak, read, choose, End, act, World, world, outcome_at, next, Entry, run, is_accepted}
+use Rattle.conversation.specs.Claims.{at_end, accepted_at, with_marks, MarksOnce}
 use Rattle.message.proofs.Tables.{without, fails-other}
 use Rattle.conversation.proofs.Rows.{decide-out, true-behind}
-use Rattle.conversation.proofs.Chosen.{choiceTable, choice-passed}
+use Rattle.conversation.proofs.Chosen.{choice_table, choice-passed}
 use Rattle.conversation.proofs.Goals.{positive, nego-start}
 use Rattle.conversation.proofs.Tokens.{judged-number}
 
@@ -42,7 +42,7 @@ Spent false r = (r.stage ≡ 3) ⊎ (r.stage ≡ 4)
 record Behind (x : Bool) (r : Record) (k : Call) (a : Answer) : Type 0 where
   role : a.next.acceptor ≡ x
   stays : Spent x r → Spent x a.next
-  spends : withMarks k ≡ true → isAccepted a ≡ true → (Spent x r → ⊥) × Spent x a.next
+  spends : with_marks k ≡ true → is_accepted a ≡ true → (Spent x r → ⊥) × Spent x a.next
 
 -- the acceptor writes its NEGO at stage 1 only
 reply-stage : (stage : ℕ) → leb (writing true stage) 1 ≡ true → stage ≡ 1
@@ -63,30 +63,30 @@ module _ (x : Bool) (r : Record) (d : List ℕ) (role : r.acceptor ≡ x) where
   stopped k rows z n g = refusal k n 0 (fails-other 0 rows n z g)
 
   -- a written message leaves the stage, and stands at a place after the turn's start
-  wrote-stays : (b : Bool) (kind n : ℕ) (w : WrittenAs) → may_write r kind ≡ true → Spent b r → Spent b (wrote r (placeAfter r kind) n w)
-  wrote-stays true kind n w h (inl s) = inl (s.0, positive (placeAfter r kind) h)
+  wrote-stays : (b : Bool) (kind n : ℕ) (w : WrittenAs) → may_write r kind ≡ true → Spent b r → Spent b (wrote r (place_after r kind) n w)
+  wrote-stays true kind n w h (inl s) = inl (s.0, positive (place_after r kind) h)
   wrote-stays true kind n w h (inr s) = inr s
   wrote-stays false kind n w h s = s
 
-  write : (k : Call) (kind : ℕ) (rows : List Row) (m : List ℕ) (w : WrittenAs) → withMarks k ≡ false → without 0 (thenFits rows r d m) ≡ true
-      → Goes k (decide (stageRows r kind ++ thenFits rows r d m) r d (appended r d (placeAfter r kind) m w))
+  write : (k : Call) (kind : ℕ) (rows : List Row) (m : List ℕ) (w : WrittenAs) → with_marks k ≡ false → without 0 (then_fits rows r d m) ≡ true
+      → Goes k (decide (stage_rows r kind ++ then_fits rows r d m) r d (appended r d (place_after r kind) m w))
   write k kind rows m w plain z =
-      let table : List Row = stageRows r kind ++ thenFits rows r d m in
-      decide-out (Goes k) table r d (appended r d (placeAfter r kind) m w) (stopped k table z)
+      let table : List Row = stage_rows r kind ++ then_fits rows r d m in
+      decide-out (Goes k) table r d (appended r d (place_after r kind) m w) (stopped k table z)
       (λ g. record {
         role = role;
-        stays = wrote-stays x kind (length m) w (true-behind (limitRows r) (row 18 (may_write r kind)) (thenFits rows r d m) g);
+        stays = wrote-stays x kind (length m) w (true-behind (limit_rows r) (row 18 (may_write r kind)) (then_fits rows r d m) g);
         spends = λ m a. no_true (sym plain ∙ m);
       })
 
   replied : (b : Bool) → r.acceptor ≡ b → r.acceptor ≡ true → may_write r NEGO ≡ true → (n : ℕ) (w : WrittenAs)
-      → (Spent b r → ⊥) × Spent b (wrote r (placeAfter r NEGO) n w)
+      → (Spent b r → ⊥) × Spent b (wrote r (place_after r NEGO) n w)
   unfolding writing
   replied false e f h n w = no_true (sym e ∙ f)
   replied true e f h n w =
       let z = nego-start (writes r) r.position r.attested h in
       let st : r.stage ≡ 1 = reply-stage r.stage (rw e at z.0) in
-      (spent st z.1, inl (st, positive (placeAfter r NEGO) h)) where
+      (spent st z.1, inl (st, positive (place_after r NEGO) h)) where
         spent : r.stage ≡ 1 → r.position ≡ 0 → Spent true r → ⊥
         spent st p (inl s) = omega (arith, s.1)
         spent st p (inr (inl s)) = omega arith
@@ -97,20 +97,20 @@ module _ (x : Bool) (r : Record) (d : List ℕ) (role : r.acceptor ≡ x) where
   write-reply m nego =
       let l : List Id = left (own_of r) r.common m in
       let rest : List Row =
-      row 19 (below r.count m) ∷ (extensionRows nego.0 ++ (row 17 (someLeft l) ∷ fits r d (length (replyMessage r m nego.0)) ∷ [])) in
+      row 19 (below r.count m) ∷ (extension_rows nego.0 ++ (row 17 (some_left l) ∷ fits r d (length (reply_message r m nego.0)) ∷ [])) in
       let w : WrittenAs = record { marks = m; metadata = r.metadata; requested = r.requested; attested = r.attested } in
-      decide-out (Goes (reply m nego)) (stageRows r NEGO ++ thenFits (replyRows r m nego.0) r d (replyMessage r m nego.0)) r d
-      (naming l (appended r d (placeAfter r NEGO) (replyMessage r m nego.0) w))
-      (stopped (reply m nego) (stageRows r NEGO ++ thenFits (replyRows r m nego.0) r d (replyMessage r m nego.0)) refl)
+      decide-out (Goes (reply m nego)) (stage_rows r NEGO ++ then_fits (reply_rows r m nego.0) r d (reply_message r m nego.0)) r d
+      (naming l (appended r d (place_after r NEGO) (reply_message r m nego.0) w))
+      (stopped (reply m nego) (stage_rows r NEGO ++ then_fits (reply_rows r m nego.0) r d (reply_message r m nego.0)) refl)
       (λ g.
-      let h = true-behind (limitRows r) (row 18 (may_write r NEGO)) (thenFits (replyRows r m nego.0) r d (replyMessage r m nego.0)) g in
+      let h = true-behind (limit_rows r) (row 18 (may_write r NEGO)) (then_fits (reply_rows r m nego.0) r d (reply_message r m nego.0)) g in
       record {
         role = role;
-        stays = wrote-stays x NEGO (length (replyMessage r m nego.0)) w h;
-        spends = λ k a. replied x role (true-behind (stageRows r NEGO) (row 18 r.acceptor) rest g) h (length (replyMessage r m nego.0)) w;
+        stays = wrote-stays x NEGO (length (reply_message r m nego.0)) w h;
+        spends = λ k a. replied x role (true-behind (stage_rows r NEGO) (row 18 r.acceptor) rest g) h (length (reply_message r m nego.0)) w;
       })
 
-  chosen : (b : Bool) → r.acceptor ≡ b → mayChoose r ≡ true → (m position n : ℕ) (w : WrittenAs)
+  chosen : (b : Bool) → r.acceptor ≡ b → may_choose r ≡ true → (m position n : ℕ) (w : WrittenAs)
       → (Spent b r → ⊥) × Spent b (wrote (chose r m) position n w)
   chosen true e h m position n w = no_true (rw e at h)
   chosen false e h m position n w =
@@ -120,12 +120,12 @@ module _ (x : Bool) (r : Record) (d : List ℕ) (role : r.acceptor ≡ x) where
   choose-goes : (m : ℕ) (s : Speech) → Goes (choose m s) (choosing r d m s)
   unfolding choosing
   choose-goes m s =
-      decide-out (Goes (choose m s)) (choiceTable r d m s) r d _
-      (stopped (choose m s) (choiceTable r d m s) refl)
+      decide-out (Goes (choose m s)) (choice_table r d m s) r d _
+      (stopped (choose m s) (choice_table r d m s) refl)
       (λ g.
       let c =
-      chosen x role (choice-passed r d m s g).may m (placeAfter (chose r m) (classIn s)) (length (spoken (chose r m) s))
-      (spokenAs (chose r m) s) in
+      chosen x role (choice-passed r d m s g).may m (place_after (chose r m) (class_in s)) (length (spoken (chose r m) s))
+      (spoken_as (chose r m) s) in
       record { role = role; stays = λ h. absurd (c.0 h); spends = λ k a. c })
 
   -- a later token is read into stage 3
@@ -142,16 +142,16 @@ module _ (x : Bool) (r : Record) (d : List ℕ) (role : r.acceptor ≡ x) where
   shut true = inr (inr refl)
   shut false = inr refl
 
-  halted-goes : (n p : ℕ) → (n ≡ 0 → ⊥) → Goes read (refused (closedBy n r) d n p)
+  halted-goes : (n p : ℕ) → (n ≡ 0 → ⊥) → Goes read (refused (closed_by n r) d n p)
   halted-goes n p z = elim (which (eqb n 12)) [
     | inl h ↦ rw h (record { role = role; stays = λ s. shut x; spends = λ m a. no_true m })
     | inr h ↦ rw h (refusal read n p z)
   ]
 
-  read_goes : (t : List ℕ) → Goes read (readingToken r d t)
-  unfolding readingToken
+  read_goes : (t : List ℕ) → Goes read (reading_token r d t)
+  unfolding reading_token
   read_goes t =
-      let rows : List Row = limitRows r ++ tokenRows r (length t) in
+      let rows : List Row = limit_rows r ++ token_rows r (length t) in
       decide-out (Goes read) rows r d (finish r d t (judged r t)) (stopped read rows refl) (λ g. token (judged r t) refl) where
         token : (j : Judged) → judged r t ≡ j → Goes read (finish r d t j)
         token (halted n p) w = unfold finish in halted-goes n p (judged-number r t n p w).0
@@ -161,17 +161,17 @@ module _ (x : Bool) (r : Record) (d : List ℕ) (role : r.acceptor ≡ x) where
         ]
 
 behind : (x : Bool) (e : End) (peer : List ℕ) (k : Call) → e.record_of.acceptor ≡ x → Behind x e.record_of k (act e peer k).answer
-unfolding act offering writingMetadata speaking
+unfolding act offering writing_metadata speaking
 behind x e peer (offer nego) h =
     write x e.record_of e.transcript h (offer nego) NEGO
-    (offerRows e.record_of nego.0) (offered e.record_of nego.0) _ refl refl
+    (offer_rows e.record_of nego.0) (offered e.record_of nego.0) _ refl refl
 behind x e peer (reply m nego) h = write-reply x e.record_of e.transcript h m nego
 behind x e peer (metadata id value) h =
     write x e.record_of e.transcript h (metadata id value) METADATA
-    (metadataRows e.record_of id.0 (length value)) (metadataMessage e.record_of id.0 value) _ refl refl
+    (metadata_rows e.record_of id.0 (length value)) (metadata_message e.record_of id.0 value) _ refl refl
 behind x e peer (speak s) h =
-    write x e.record_of e.transcript h (speak s) (classIn s)
-    (namedRows e.record_of (speechFits s)) (spoken e.record_of s) (spokenAs e.record_of s) refl refl
+    write x e.record_of e.transcript h (speak s) (class_in s)
+    (named_rows e.record_of (speech_fits s)) (spoken e.record_of s) (spoken_as e.record_of s) refl refl
 behind x e peer read h = read_goes x e.record_of e.transcript h peer
 behind x e peer (choose m s) h = choose-goes x e.record_of e.transcript h m s
 
@@ -189,14 +189,14 @@ roles-kept : (w : World) (y : Bool) (k : Call) → Roles w → Roles (next w y k
 roles-kept w false k h = ((behind false w.i w.a.turn k h.0).role, h.1)
 roles-kept w true k h = (h.0, (behind true w.a w.i.turn k h.1).role)
 
-at-end : (x : Bool) (y : Entry) → atEnd x y ≡ true → y.acceptor ≡ x
+at-end : (x : Bool) (y : Entry) → at_end x y ≡ true → y.acceptor ≡ x
 at-end true y e = e
 at-end false y e = not-true y.acceptor e
 
 module _ (Gone : Bool → Record → Type 0) (sort : Call → Bool)
     (stays : (x : Bool) (e : End) (peer : List ℕ) (k : Call) → e.record_of.acceptor ≡ x → Gone x e.record_of
     → Gone x (act e peer k).answer.next)
-    (spends : (x : Bool) (e : End) (peer : List ℕ) (k : Call) → e.record_of.acceptor ≡ x → sort k ≡ true → isAccepted (act e peer k).answer ≡ true
+    (spends : (x : Bool) (e : End) (peer : List ℕ) (k : Call) → e.record_of.acceptor ≡ x → sort k ≡ true → is_accepted (act e peer k).answer ≡ true
     → (Gone x e.record_of → ⊥) × Gone x (act e peer k).answer.next) where
   -- what is gone at the end x stays so, whichever end the call is at
   gone-kept : (w : World) (x y : Bool) (k : Call) → Roles w → Gone x (end_of x w).record_of → Gone x (end_of x (next w y k)).record_of
@@ -205,35 +205,35 @@ module _ (Gone : Bool → Record → Type 0) (sort : Call → Bool)
   gone-kept w true false k h s = s
   gone-kept w true true k h s = stays true w.a w.i.turn k h.1 s
 
-  spends-at : (w : World) (x : Bool) (k : Call) → Roles w → sort k ≡ true → isAccepted (outcomeAt w x k).answer ≡ true
+  spends-at : (w : World) (x : Bool) (k : Call) → Roles w → sort k ≡ true → is_accepted (outcome_at w x k).answer ≡ true
       → (Gone x (end_of x w).record_of → ⊥) × Gone x (end_of x (next w x k)).record_of
   spends-at w false k h c a = spends false w.i w.a.turn k h.0 c a
   spends-at w true k h c a = spends true w.a w.i.turn k h.1 c a
 
   -- the first call of a list, where it is one of them: not before, and then gone
   first-spends : (x : Bool) (w : World) (y : Bool) (k : Call) → Roles w
-      → acceptedAt x sort (record { acceptor = y; call = k; said = (outcomeAt w y k).answer }) ≡ true
+      → accepted_at x sort (record { acceptor = y; call = k; said = (outcome_at w y k).answer }) ≡ true
       → (Gone x (end_of x w).record_of → ⊥) × Gone x (end_of x (next w y k)).record_of
   first-spends x w y k h e =
-      let first : Entry = record { acceptor = y; call = k; said = (outcomeAt w y k).answer } in
-      let rest = and_r (atEnd x first) (isAccepted first.said && sort k) e in
-      let g = spends-at w y k h (and_r (isAccepted first.said) (sort k) rest) (and_l (isAccepted first.said) (sort k) rest) in
+      let first : Entry = record { acceptor = y; call = k; said = (outcome_at w y k).answer } in
+      let rest = and_r (at_end x first) (is_accepted first.said && sort k) e in
+      let g = spends-at w y k h (and_r (is_accepted first.said) (sort k) rest) (and_l (is_accepted first.said) (sort k) rest) in
       subst (λ (z : Bool). (Gone z (end_of z w).record_of → ⊥) × Gone z (end_of z (next w y k)).record_of)
-      (at-end x first (and_l (atEnd x first) (isAccepted first.said && sort k) e)) g
+      (at-end x first (and_l (at_end x first) (is_accepted first.said && sort k) e)) g
 
-  none-behind : (x : Bool) (w : World) (cs : List (Bool × Call)) → Roles w → Gone x (end_of x w).record_of → keep (acceptedAt x sort) (run w cs) ≡ []
+  none-behind : (x : Bool) (w : World) (cs : List (Bool × Call)) → Roles w → Gone x (end_of x w).record_of → keep (accepted_at x sort) (run w cs) ≡ []
   none-behind x w [] h s = refl
   none-behind x w (c ∷ cs) h s =
-      elim (which (acceptedAt x sort (record { acceptor = c.0; call = c.1; said = (outcomeAt w c.0 c.1).answer }))) [
+      elim (which (accepted_at x sort (record { acceptor = c.0; call = c.1; said = (outcome_at w c.0 c.1).answer }))) [
         | inl e ↦ absurd ((first-spends x w c.0 c.1 h e).0 s)
         | inr e ↦ rw e (none-behind x (next w c.0 c.1) cs (roles-kept w c.0 c.1 h) (gone-kept w x c.0 c.1 h s))
       ]
 
-  once : (x : Bool) (w : World) (cs : List (Bool × Call)) → Roles w → length (keep (acceptedAt x sort) (run w cs)) ≤ 1
+  once : (x : Bool) (w : World) (cs : List (Bool × Call)) → Roles w → length (keep (accepted_at x sort) (run w cs)) ≤ 1
   once x w [] h = omega arith
   once x w (c ∷ cs) h =
       let roles = roles-kept w c.0 c.1 h in
-      elim (which (acceptedAt x sort (record { acceptor = c.0; call = c.1; said = (outcomeAt w c.0 c.1).answer }))) [
+      elim (which (accepted_at x sort (record { acceptor = c.0; call = c.1; said = (outcome_at w c.0 c.1).answer }))) [
         | inl e ↦ rw (e, none-behind x (next w c.0 c.1) cs roles (first-spends x w c.0 c.1 h e).1) (omega arith)
         | inr e ↦ rw e (once x (next w c.0 c.1) cs roles)
       ]
@@ -242,7 +242,7 @@ module _ (Gone : Bool → Record → Type 0) (sort : Call → Bool)
 
 pub marks-once : MarksOnce
 marks-once o cs x =
-    once Spent withMarks (λ b e p c h. (behind b e p c h).stays) (λ b e p c h. (behind b e p c h).spends) x (world o) cs (refl, refl)
+    once Spent with_marks (λ b e p c h. (behind b e p c h).stays) (λ b e p c h. (behind b e p c h).spends) x (world o) cs (refl, refl)
 
 -- two that are kept, where at most one is, are the same
 kept_in : {A : Type 0} (p : A → Bool) (l : List A) (y : A) → Memᴰ y l → p y ≡ true → Memᴰ y (keep p l)

@@ -12,7 +12,7 @@ use Rattle.message.specs.Check.{Row, FirstFails}
 use Rattle.message.proofs.Tables.{AllTrue, without, fails-other}
 use Rattle.conversation.specs.declared.Record.{Record}
 use Rattle.conversation.specs.Outcomes.{Outcome, refused, decide, row}
-use Rattle.conversation.specs.Runs.{isAccepted}
+use Rattle.conversation.specs.Runs.{is_accepted}
 
 -- what holds of every refusal and of the action holds of the outcome
 pub decide-out : (P : Outcome → Type 0) (rows : List Row) (r : Record) (d : List ℕ) (action : Outcome)
@@ -26,15 +26,15 @@ decide-out P (x ∷ xs) r d action f h = go x.test refl (decide-out P xs r d act
 
 -- what holds of the action, accepted behind tests that all hold, holds of an accepted outcome
 pub accepted-out : (P : Outcome → Type 0) (rows : List Row) (r : Record) (d : List ℕ) (action : Outcome) → without 0 rows ≡ true
-    → (AllTrue rows → isAccepted action.answer ≡ true → P action)
-    → isAccepted (decide rows r d action).answer ≡ true → P (decide rows r d action)
+    → (AllTrue rows → is_accepted action.answer ≡ true → P action)
+    → is_accepted (decide rows r d action).answer ≡ true → P (decide rows r d action)
 accepted-out P rows r d action z =
-    decide-out (λ out. isAccepted out.answer ≡ true → P out) rows r d action
+    decide-out (λ out. is_accepted out.answer ≡ true → P out) rows r d action
     (λ n f a. no_true (sym (ne_eqb n 0 (fails-other 0 rows n z f)) ∙ a))
 
 -- the tests of an accepted call hold
 pub passed-by : (rows : List Row) (r : Record) (d : List ℕ) (action : Outcome) → without 0 rows ≡ true
-    → isAccepted (decide rows r d action).answer ≡ true → AllTrue rows
+    → is_accepted (decide rows r d action).answer ≡ true → AllTrue rows
 passed-by rows r d action z = accepted-out (λ out. AllTrue rows) rows r d action z (λ g a. g)
 
 -- a number that one row has is given where that row's test is the first that fails
@@ -55,14 +55,14 @@ fails-parts (x ∷ xs) ys n (inl f) = inl (inl f)
 fails-parts (x ∷ xs) ys n (inr f) = elim (fails-parts xs ys n f.1) [ inl g ↦ inl (inr (f.0, g)) | inr g ↦ inr ((f.0, g.0), g.1) ]
 
 -- what every number of the table has, the one that is given has
-abbrev pub eachNumber : (ℕ → Bool) → List Row → Bool
-eachNumber p [] = true
-eachNumber p (x ∷ xs) = p x.number && eachNumber p xs
+abbrev pub each_number : (ℕ → Bool) → List Row → Bool
+each_number p [] = true
+each_number p (x ∷ xs) = p x.number && each_number p xs
 
-pub fails-each : (p : ℕ → Bool) (rows : List Row) (n : ℕ) → eachNumber p rows ≡ true → FirstFails n rows → p n ≡ true
+pub fails-each : (p : ℕ → Bool) (rows : List Row) (n : ℕ) → each_number p rows ≡ true → FirstFails n rows → p n ≡ true
 fails-each p [] n w f = absurd f
-fails-each p (x ∷ xs) n w (inl f) = ap p (sym f.1) ∙ and_l (p x.number) (eachNumber p xs) w
-fails-each p (x ∷ xs) n w (inr f) = fails-each p xs n (and_r (p x.number) (eachNumber p xs) w) f.1
+fails-each p (x ∷ xs) n w (inl f) = ap p (sym f.1) ∙ and_l (p x.number) (each_number p xs) w
+fails-each p (x ∷ xs) n w (inr f) = fails-each p xs n (and_r (p x.number) (each_number p xs) w) f.1
 
 -- a test in the middle of a table that passes
 pub true-behind : (xs : List Row) (x : Row) (ys : List Row) → AllTrue (xs ++ (x ∷ ys)) → x.test ≡ true

@@ -11,17 +11,17 @@ use Rattle.message.specs.Check.{Row}
 use Rattle.conversation.specs.declared.Record.{Record}
 use Rattle.schemes.specs.Lists.{Id, place}
 use Rattle.schemes.specs.Sets.{left, named}
-use Rattle.conversation.specs.State.{own_of, limitRows}
-use Rattle.conversation.specs.Turns.{NEGO, METADATA, placeAfter}
+use Rattle.conversation.specs.State.{own_of, limit_rows}
+use Rattle.conversation.specs.Turns.{NEGO, METADATA, place_after}
 use Rattle.conversation.specs.Outcomes.{Outcome, decide, room, WrittenAs, unchanged, appended}
-use Rattle.conversation.specs.Writing.{stageRows, thenFits, offered, offerRows, replyMessage, replyRows, naming, metadataMessage, metadataRows, namedRows, offering, replying, writingMetadata, speaking, spoken, classIn, speechFits, spokenAs}
-use Rattle.conversation.specs.Reading.{Judged, whole, halted, judged, finish, tokenRows, readingToken}
-use Rattle.conversation.specs.Choosing.{openTo, chose, choosing}
+use Rattle.conversation.specs.Writing.{stage_rows, then_fits, offered, offer_rows, reply_message, reply_rows, naming, metadata_message, metadata_rows, named_rows, offering, replying, writing_metadata, speaking, spoken, class_in, speech_fits, spoken_as}
+use Rattle.conversation.specs.Reading.{Judged, whole, halted, judged, finish, token_rows, reading_token}
+use Rattle.conversation.specs.Choosing.{open_to, chose, choosing}
 use Rattle.conversation.specs.Runs.{Call, offer, reply, metadata, speak, read, choose, End, act}
 use Rattle.conversation.specs.Claims.{Unchanged, RefusedUnchanged}
 use Rattle.message.proofs.Tables.{without, fails-other}
 use Rattle.conversation.proofs.Rows.{decide-out}
-use Rattle.conversation.proofs.Chosen.{choiceTable}
+use Rattle.conversation.proofs.Chosen.{choice_table}
 
 -- a call whose table has no 12, and whose action keeps this
 decided : (rows : List Row) (r : Record) (d : List ℕ) (action : Outcome) → without 12 rows ≡ true → Unchanged r d action
@@ -53,27 +53,27 @@ module _ (e : End) (peer : List ℕ) where
   d = e.transcript
 
   unchanged-behind : (k : Call) → Unchanged r d (act e peer k)
-  unfolding act offering replying writingMetadata speaking readingToken choosing
+  unfolding act offering replying writing_metadata speaking reading_token choosing
   unchanged-behind (offer nego) =
-      wrote-unchanged (stageRows r NEGO ++ thenFits (offerRows r nego.0) r d (offered r nego.0)) r d (placeAfter r NEGO) (offered r nego.0)
+      wrote-unchanged (stage_rows r NEGO ++ then_fits (offer_rows r nego.0) r d (offered r nego.0)) r d (place_after r NEGO) (offered r nego.0)
       (unchanged r) refl
   unchanged-behind (reply m nego) =
-      named-unchanged (stageRows r NEGO ++ thenFits (replyRows r m nego.0) r d (replyMessage r m nego.0)) r d
+      named-unchanged (stage_rows r NEGO ++ then_fits (reply_rows r m nego.0) r d (reply_message r m nego.0)) r d
       (left (own_of r) r.common m)
-      (appended r d (placeAfter r NEGO) (replyMessage r m nego.0)
+      (appended r d (place_after r NEGO) (reply_message r m nego.0)
       (record { marks = m; metadata = r.metadata; requested = r.requested; attested = r.attested })) refl refl
   unchanged-behind (metadata id value) =
-      wrote-unchanged (stageRows r METADATA ++ thenFits (metadataRows r id.0 (length value)) r d (metadataMessage r id.0 value)) r d
-      (placeAfter r METADATA) (metadataMessage r id.0 value)
+      wrote-unchanged (stage_rows r METADATA ++ then_fits (metadata_rows r id.0 (length value)) r d (metadata_message r id.0 value)) r d
+      (place_after r METADATA) (metadata_message r id.0 value)
       (record { marks = r.marks; metadata = r.metadata + 2 ^ place (own_of r) id.0; requested = r.requested; attested = r.attested }) refl
   unchanged-behind (speak s) =
-      wrote-unchanged (stageRows r (classIn s) ++ thenFits (namedRows r (speechFits s)) r d (spoken r s)) r d (placeAfter r (classIn s)) (spoken r s)
-      (spokenAs r s) refl
+      wrote-unchanged (stage_rows r (class_in s) ++ then_fits (named_rows r (speech_fits s)) r d (spoken r s)) r d (place_after r (class_in s)) (spoken r s)
+      (spoken_as r s) refl
   unchanged-behind read =
-      decided (limitRows r ++ tokenRows r (length peer)) r d (finish r d peer (judged r peer)) refl (finished r d peer (judged r peer))
+      decided (limit_rows r ++ token_rows r (length peer)) r d (finish r d peer (judged r peer)) refl (finished r d peer (judged r peer))
   unchanged-behind (choose m s) =
-      named-unchanged (choiceTable r d m s) r d
-      (named (own_of r) (openTo r m)) (appended (chose r m) d (placeAfter (chose r m) (classIn s)) (spoken (chose r m) s) (spokenAs (chose r m) s))
+      named-unchanged (choice_table r d m s) r d
+      (named (own_of r) (open_to r m)) (appended (chose r m) d (place_after (chose r m) (class_in s)) (spoken (chose r m) s) (spoken_as (chose r m) s))
       refl refl
 
 pub refused-unchanged : RefusedUnchanged

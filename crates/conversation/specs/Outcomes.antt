@@ -2,10 +2,10 @@
 --
 -- Glossary
 --   Outcome          an answer, and the lent transcript afterwards; leaving a d: the answer a, which leaves the transcript d
---   zeroId           sixteen zeros: no choice
+--   zero_id           sixteen zeros: no choice
 --   answered n p r   the answer with the number n, the place p and the record r, and nothing else to say
 --   refused r d n p  "Each returns its number and the token place of the message at fault": n and p, with the record r and the transcript d
---   closedBy n r     the record after a reading that the number n refuses: closed by 12, else as it was
+--   closed_by n r     the record after a reading that the number n refuses: closed by 12, else as it was
 --   decide           the first row that fails refuses; where all hold, the action; row makes a row
 --   room d           "Its room is the smaller of the buffer's length and 65,535."
 --   fits             16: used plus the length to add is within the room
@@ -26,18 +26,18 @@ pub record Outcome : Type 0 where
 abbrev pub leaving : Answer → List ℕ → Outcome
 leaving a d = record { answer = a; transcript = d }
 
-abbrev pub zeroId : List ℕ
-zeroId = replicate 16 0
+abbrev pub zero_id : List ℕ
+zero_id = replicate 16 0
 
 abbrev pub answered : ℕ → ℕ → Record → Answer
-answered number place r = record { refusal = number; place = record { 0 = place }; messages = 0; choice = zeroId; left = 0; next = r }
+answered number place r = record { refusal = number; place = record { 0 = place }; messages = 0; choice = zero_id; left = 0; next = r }
 
 abbrev pub refused : Record → List ℕ → ℕ → ℕ → Outcome
 refused r d number place = leaving (answered number place r) d
 
 -- C-18: "Refusal 12 now returns the record closed, everything else in it unchanged"
-abbrev pub closedBy : ℕ → Record → Record
-closedBy number r = cond (eqb number 12) (closed r) r
+abbrev pub closed_by : ℕ → Record → Record
+closed_by number r = cond (eqb number 12) (closed r) r
 
 abbrev pub decide : List Row → Record → List ℕ → Outcome → Outcome
 decide [] r d action = action

@@ -8,16 +8,16 @@
 --   CHOOSING     the initiator has read the reply
 --   LATER        the initiator has chosen, or the acceptor has read a later token
 --   CLOSED       a reading was refused with 12: every call is refused with 18
---   withStage    a record at another stage; closed r: the record r at the stage CLOSED
+--   with_stage    a record at another stage; closed r: the record r at the stage CLOSED
 --   own_of r      the own list, as ids; schemeAt: the scheme at an own place
 --   replied r    the reply's list: the common schemes less the marks, in the acceptor's order
---   limitRows r  a record's limits, as one table; limit: a row of it, 18
+--   limit_rows r  a record's limits, as one table; limit: a row of it, 18
 --   fresh        the record that opening answers
 use Rattle.std.specs.Prelude.{ℕ, ◌*◌, ◌/◌, Bool, false, ◌||◌, List, [], ◌∷◌, length, get_or, replicate, eqb, leb, ltb}
-use Rattle.message.specs.Show.{idsAt}
+use Rattle.message.specs.Show.{ids_at}
 use Rattle.message.specs.Check.{Row}
 use Rattle.schemes.specs.Lists.{Id, distinct}
-use Rattle.schemes.specs.Sets.{left, below, keptBelow, padTo}
+use Rattle.schemes.specs.Sets.{left, below, kept_below, pad_to}
 use Rattle.conversation.specs.declared.Record.{Record}
 
 abbrev pub NONE : ℕ
@@ -39,8 +39,8 @@ LATER = 3
 abbrev pub CLOSED : ℕ
 CLOSED = 4
 
-abbrev pub withStage : ℕ → Record → Record
-withStage stage r = record {
+abbrev pub with_stage : ℕ → Record → Record
+with_stage stage r = record {
   acceptor = r.acceptor;
   stage = stage;
   position = r.position;
@@ -60,13 +60,13 @@ withStage stage r = record {
 }
 
 abbrev pub closed : Record → Record
-closed r = withStage CLOSED r
+closed r = with_stage CLOSED r
 
 abbrev pub own_of : Record → List Id
-own_of r = idsAt r.count r.list
+own_of r = ids_at r.count r.list
 
-abbrev pub schemeAt : Record → ℕ → Id
-schemeAt r k = get_or (own_of r) k []
+abbrev pub scheme_at : Record → ℕ → Id
+scheme_at r k = get_or (own_of r) k []
 
 -- "the acceptor into its own the common schemes less its marks, in its own order"
 abbrev pub replied : Record → List Id
@@ -77,15 +77,15 @@ limit test = record { number = 18; test = test }
 
 -- "A record is outside its limits if a list breaks 19, a set or a kept or chosen place goes beyond the list, used is above 65,535, the sequence is
 -- above 1,023, or 64 times the sequence is above used."
-abbrev pub limitRows : Record → List Row
-limitRows r =
+abbrev pub limit_rows : Record → List Row
+limit_rows r =
     limit (leb 1 r.count)
     ∷ limit (leb r.count 16)
     ∷ limit (distinct (own_of r))
     ∷ limit (below r.count r.marks)
     ∷ limit (below r.count r.common)
     ∷ limit (below r.count r.metadata)
-    ∷ limit (r.acceptor || keptBelow r.count r.kept r.common)
+    ∷ limit (r.acceptor || kept_below r.count r.kept r.common)
     ∷ limit (eqb r.chosen NONE || ltb r.chosen r.count)
     ∷ limit (leb r.used 65535)
     ∷ limit (leb r.sequence 1023)
@@ -98,7 +98,7 @@ fresh acceptor own conversation = record {
   acceptor = acceptor;
   stage = OPENING;
   position = 0;
-  list = padTo 256 own;
+  list = pad_to 256 own;
   count = length own / 16;
   conversation = conversation;
   marks = 0;

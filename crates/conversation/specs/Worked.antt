@@ -1,8 +1,8 @@
 -- Document 01's examples P1 to P13 as one list of cases; a conversation to its end; and demand 3 with longer lists.
 --
 -- Glossary
---   negoToken       a token of one INITIATOR_NEGO: its length, its scheme and extension vectors, its payload; withScheme, withExtension: the examples'
---   Extension       an extension as it is shown: its type, and its value's octets; extensionsIn m: those of the NEGO m
+--   nego_token       a token of one INITIATOR_NEGO: its length, its scheme and extension vectors, its payload; with_scheme, withExtension: the examples'
+--   Extension       an extension as it is shown: its type, and its value's octets; extensions_in m: those of the NEGO m
 --   Reads           what the reading of an example says: a refusal, or one NEGO with what is shown of it; readsAs: that of a token
 --   scheme n        a scheme; plain: the contents of a NEGO without extensions; negoWith: with some; pulse: an ALERT with a pulse
 --   opened          what the examples' runs start with; negotiation: their calls, with the marks of either end
@@ -11,7 +11,7 @@
 --   Case, cases     an example: a token, or the calls of a run, and what it says; all of them
 --   Right, AllRight a case holds; all of a list do
 --   Worked          document 01's examples hold
---   longerLists     a second opening, with longer lists than the first
+--   longer_lists     a second opening, with longer lists than the first
 --   LongerRun       demand 3, for that opening after the first's choice; LongerChoice: what is chosen there
 --   conversation    calls of a whole conversation; allAccepted: every entry of a run is accepted
 --   WholeConversation   every call of it is accepted; WholeLogs: and each end has all of its messages
@@ -20,90 +20,90 @@
 --                   choice
 --   EarlyVerify     C-15: what they answer, where the early ones count and where they do not
 --   two t           two extensions or alerts, of the types t and 5, the second with an empty value; nine: one more than there may be; octets: the values of two
---   ordinary, critical, tooMany   contents of a NEGO with these: no critical type; the type minus 2, in a test call or not; nine
+--   ordinary, critical, too_many   contents of a NEGO with these: no critical type; the type minus 2, in a test call or not; nine
 --   extended        C-22: calls with extensions and alerts, those of each refusal, and test calls; Extended: what they answer
---   readInTurn      the numbers that an end answers to tokens, read one after the other
+--   read_in_turn      the numbers that an end answers to tokens, read one after the other
 --   StaysRejected   C-18, with the examples' tokens
 use Rattle.std.specs.Prelude.{ℕ, ◌≡◌, refl, Bool, true, false, ◌&&◌, length, replicate, ℤ, pos, negsuc}
 use mathlib.Core.List.{List, [], ◌∷◌, ◌++◌, map, Memᴰ}
-use Rattle.octets.specs.Octets.{signed32, sameOctets}
+use Rattle.octets.specs.Octets.{signed32, same_octets}
 use Rattle.vector.specs.Vector.{shown}
-use Rattle.message.specs.Layout.{elementsOf, extensionVector}
-use Rattle.message.specs.Show.{schemesIn}
-use Rattle.put.specs.Put.{octetsOf, joined}
-use Rattle.token.specs.Token.{Reading, Accepted, Refused, tokenOf}
+use Rattle.message.specs.Layout.{elements_of, extension_vector}
+use Rattle.message.specs.Show.{schemes_in}
+use Rattle.put.specs.Put.{octets_of, joined}
+use Rattle.token.specs.Token.{Reading, Accepted, Refused, token_of}
 use Rattle.elements.specs.declared.Elements.{Elements}
-use Rattle.elements.specs.Elements.{items_of, noElements, pulseValue, pulseElements}
+use Rattle.elements.specs.Elements.{items_of, no_elements, pulse_value, pulse_elements}
 use Rattle.schemes.specs.Lists.{Id, mem, distinct}
-use Rattle.conversation.specs.Outcomes.{zeroId}
+use Rattle.conversation.specs.Outcomes.{zero_id}
 use Rattle.conversation.specs.Writing.{NegoContent, Speech, request, checksum, alarm}
-use Rattle.conversation.specs.Runs.{NegoCall, Call, offer, reply, metadata, speak, read, choose, End, act, moved, Opening, world, Entry, run, isAccepted, NotLost}
+use Rattle.conversation.specs.Runs.{NegoCall, Call, offer, reply, metadata, speak, read, choose, End, act, moved, Opening, world, Entry, run, is_accepted, NotLost}
 use Rattle.conversation.specs.Logs.{logs_of}
 
-abbrev pub negoToken : ℕ → ℕ → ℕ → ℕ → ℕ → List ℕ → List ℕ
-negoToken len schemesAt schemes extensionsAt extensions payload =
+abbrev pub nego_token : ℕ → ℕ → ℕ → ℕ → ℕ → List ℕ → List ℕ
+nego_token len schemesAt schemes extensionsAt extensions payload =
     joined (
     (0x4E ∷ 0x45 ∷ 0x47 ∷ 0x4F ∷ 0x45 ∷ 0x58 ∷ 0x54 ∷ 0x53 ∷ [])
-    ∷ octetsOf 4 0 ∷ octetsOf 4 0 ∷ octetsOf 4 96 ∷ octetsOf 4 len ∷ replicate 16 7
-    ∷ replicate 32 3 ∷ octetsOf 8 0
-    ∷ octetsOf 4 schemesAt ∷ octetsOf 2 schemes ∷ octetsOf 2 0
-    ∷ octetsOf 4 extensionsAt ∷ octetsOf 2 extensions ∷ octetsOf 2 0
+    ∷ octets_of 4 0 ∷ octets_of 4 0 ∷ octets_of 4 96 ∷ octets_of 4 len ∷ replicate 16 7
+    ∷ replicate 32 3 ∷ octets_of 8 0
+    ∷ octets_of 4 schemesAt ∷ octets_of 2 schemes ∷ octets_of 2 0
+    ∷ octets_of 4 extensionsAt ∷ octets_of 2 extensions ∷ octets_of 2 0
     ∷ payload
     ∷ []
     )
 
 -- "NEGO of 112, one scheme", its vector given
-abbrev pub withScheme : ℕ → ℕ → List ℕ
-withScheme at count = negoToken 112 at count 0 0 (replicate 16 5)
+abbrev pub with_scheme : ℕ → ℕ → List ℕ
+with_scheme at count = nego_token 112 at count 0 0 (replicate 16 5)
 
 -- "NEGO of 108, one extension at 96, empty value", the octets of its type given
-abbrev pub withExtension : List ℕ → List ℕ
-withExtension type = negoToken 108 0 0 96 1 (type ++ replicate 8 0)
+abbrev pub with_extension : List ℕ → List ℕ
+with_extension type = nego_token 108 0 0 96 1 (type ++ replicate 8 0)
 
 pub record Extension : Type 0 where
   pub type : ℤ
   pub value : List ℕ
 
-abbrev pub extensionsIn : List ℕ → List Extension
-extensionsIn m = map (λ e. record { type = signed32 e.type; value = shown 96 m e.value }) (elementsOf (shown 96 m (extensionVector m)))
+abbrev pub extensions_in : List ℕ → List Extension
+extensions_in m = map (λ e. record { type = signed32 e.type; value = shown 96 m e.value }) (elements_of (shown 96 m (extension_vector m)))
 
 pub data Reads : Type 0 where
   refused : (number place : ℕ) → Reads
   nego : (schemes : List Id) (extensions : List Extension) → Reads
   other : Reads
 
-abbrev pub readsAs : Reading → Reads
-readsAs (Refused n p) = refused n p
-readsAs (Accepted []) = other
-readsAs (Accepted (m ∷ [])) = nego (schemesIn m.octets) (extensionsIn m.octets)
-readsAs (Accepted (m ∷ k ∷ ms)) = other
+abbrev pub reads_as : Reading → Reads
+reads_as (Refused n p) = refused n p
+reads_as (Accepted []) = other
+reads_as (Accepted (m ∷ [])) = nego (schemes_in m.octets) (extensions_in m.octets)
+reads_as (Accepted (m ∷ k ∷ ms)) = other
 
 abbrev pub scheme : ℕ → Id
 scheme n = replicate 16 n
 
-abbrev pub negoWith : Bool → Elements → List ℕ → NegoContent
-negoWith test extensions values = record { random = replicate 32 7; test = test; extensions = extensions; values = values }
+abbrev pub nego_with : Bool → Elements → List ℕ → NegoContent
+nego_with test extensions values = record { random = replicate 32 7; test = test; extensions = extensions; values = values }
 
 unfoldable pub plain : NegoCall
 unfolding items_of
-plain = (negoWith false noElements [], record { random = refl; types = refl })
+plain = (nego_with false no_elements [], record { random = refl; types = refl })
 
 abbrev pub pulse : ℤ → Speech
-pulse code = alarm (record { code = code; alerts = pulseElements; values = pulseValue })
+pulse code = alarm (record { code = code; alerts = pulse_elements; values = pulse_value })
 
 -- "Acceptor A, B, C, initiator C, B."
 unfoldable pub opened : Opening
-unfolding distinct mem sameOctets
+unfolding distinct mem same_octets
 opened = record {
   initiator = scheme 3 ∷ scheme 2 ∷ [];
   acceptor = scheme 1 ∷ scheme 2 ∷ scheme 3 ∷ [];
   conversation = (scheme 9, refl);
-  initiator-buffer = replicate 1100 0;
-  acceptor-buffer = replicate 1100 0;
-  initiator-whole = refl;
-  acceptor-whole = refl;
-  initiator-ok = refl;
-  acceptor-ok = refl;
+  initiator_buffer = replicate 1100 0;
+  acceptor_buffer = replicate 1100 0;
+  initiator_whole = refl;
+  acceptor_whole = refl;
+  initiator_ok = refl;
+  acceptor_ok = refl;
 }
 
 abbrev pub negotiation : ℕ → ℕ → List (Bool × Call)
@@ -124,10 +124,10 @@ abbrev pub says_of : Entry → Says
 says_of x = record { number = x.said.refusal; choice = x.said.choice; left = x.said.left }
 
 abbrev pub done : Says
-done = record { number = 0; choice = zeroId; left = 0 }
+done = record { number = 0; choice = zero_id; left = 0 }
 
 abbrev pub refuses : ℕ → Says
-refuses n = record { number = n; choice = zeroId; left = 0 }
+refuses n = record { number = n; choice = zero_id; left = 0 }
 
 abbrev pub names : Id → ℕ → Says
 names id left = record { number = 0; choice = id; left = left }
@@ -143,21 +143,21 @@ cases =
     -- P2
     ∷ reads (replicate 39 0) (refused 2 0)
     -- P3
-    ∷ reads (withScheme 96 1) (nego (replicate 16 5 ∷ []) [])
+    ∷ reads (with_scheme 96 1) (nego (replicate 16 5 ∷ []) [])
     -- P4
-    ∷ reads (withScheme 95 1) (refused 11 0)
+    ∷ reads (with_scheme 95 1) (refused 11 0)
     -- P5
-    ∷ reads (withScheme 97 1) (refused 11 0)
+    ∷ reads (with_scheme 97 1) (refused 11 0)
     -- P6
-    ∷ reads (withScheme 4294967295 0) (nego [] [])
+    ∷ reads (with_scheme 4294967295 0) (nego [] [])
     -- P7
-    ∷ reads (withScheme 4294967280 2) (refused 11 0)
+    ∷ reads (with_scheme 4294967280 2) (refused 11 0)
     -- P8
-    ∷ reads (withExtension (0xFE ∷ 0xFF ∷ 0xFF ∷ 0xFF ∷ [])) (refused 12 0)
+    ∷ reads (with_extension (0xFE ∷ 0xFF ∷ 0xFF ∷ 0xFF ∷ [])) (refused 12 0)
     -- P9
-    ∷ reads (withExtension (0xFF ∷ 0xFF ∷ 0xFF ∷ 0x7F ∷ [])) (nego [] (record { type = pos 2147483647; value = [] } ∷ []))
+    ∷ reads (with_extension (0xFF ∷ 0xFF ∷ 0xFF ∷ 0x7F ∷ [])) (nego [] (record { type = pos 2147483647; value = [] } ∷ []))
     -- P10
-    ∷ reads (withExtension (0x00 ∷ 0x00 ∷ 0x00 ∷ 0x80 ∷ [])) (refused 12 0)
+    ∷ reads (with_extension (0x00 ∷ 0x00 ∷ 0x00 ∷ 0x80 ∷ [])) (refused 12 0)
     -- P11
     ∷ runs (negotiation 0 0) (done ∷ done ∷ names (scheme 2) 2 ∷ done ∷ names (scheme 2) 2 ∷ [])
     -- P12, the acceptor's mark; the initiator's mark
@@ -168,7 +168,7 @@ cases =
     ∷ []
 
 abbrev pub Right : Case → Type 0
-Right (reads token says) = readsAs (tokenOf token) ≡ says
+Right (reads token says) = reads_as (token_of token) ≡ says
 Right (runs calls say) = map says_of (run (world opened) calls) ≡ say
 
 abbrev pub AllRight : List Case → Type 0
@@ -180,27 +180,27 @@ abbrev pub Worked : Type 0
 Worked = AllRight cases
 
 -- the acceptor's list keeps its order and gains three schemes, the initiator's is reordered and gains one
-unfoldable pub longerLists : Opening
-unfolding distinct mem sameOctets
-longerLists = record {
+unfoldable pub longer_lists : Opening
+unfolding distinct mem same_octets
+longer_lists = record {
   initiator = scheme 2 ∷ scheme 5 ∷ scheme 3 ∷ [];
   acceptor = scheme 4 ∷ scheme 1 ∷ scheme 5 ∷ scheme 2 ∷ scheme 3 ∷ scheme 6 ∷ [];
   conversation = (scheme 8, refl);
-  initiator-buffer = replicate 900 0;
-  acceptor-buffer = replicate 800 1;
-  initiator-whole = refl;
-  acceptor-whole = refl;
-  initiator-ok = refl;
-  acceptor-ok = refl;
+  initiator_buffer = replicate 900 0;
+  acceptor_buffer = replicate 800 1;
+  initiator_whole = refl;
+  acceptor_whole = refl;
+  initiator_ok = refl;
+  acceptor_ok = refl;
 }
 
 -- the first run's choice is scheme 2: P11
 abbrev pub LongerRun : Type 0
-LongerRun = (y : Entry) → Memᴰ y (run (world longerLists) (negotiation 0 0)) → NotLost opened longerLists (negotiation 0 0) (scheme 2) y
+LongerRun = (y : Entry) → Memᴰ y (run (world longer_lists) (negotiation 0 0)) → NotLost opened longer_lists (negotiation 0 0) (scheme 2) y
 
 -- both ends name scheme 5, of three; the first acceptor did not list it
 abbrev pub LongerChoice : Type 0
-LongerChoice = map says_of (run (world longerLists) (negotiation 0 0)) ≡ done ∷ done ∷ names (scheme 5) 3 ∷ done ∷ names (scheme 5) 3 ∷ []
+LongerChoice = map says_of (run (world longer_lists) (negotiation 0 0)) ≡ done ∷ done ∷ names (scheme 5) 3 ∷ done ∷ names (scheme 5) 3 ∷ []
 
 -- metadata and optimistic exchanges, a choice with an exchange, several rounds, VERIFY of both ends, ALERTs
 abbrev pub conversation : List (Bool × Call)
@@ -226,12 +226,12 @@ conversation =
     ∷ (false, read)
     ∷ []
 
-abbrev pub allAccepted : List Entry → Bool
-allAccepted [] = true
-allAccepted (x ∷ xs) = isAccepted x.said && allAccepted xs
+abbrev pub all_accepted : List Entry → Bool
+all_accepted [] = true
+all_accepted (x ∷ xs) = is_accepted x.said && all_accepted xs
 
 abbrev pub WholeConversation : Type 0
-WholeConversation = allAccepted (run (world opened) conversation) ≡ true
+WholeConversation = all_accepted (run (world opened) conversation) ≡ true
 
 abbrev pub WholeLogs : Type 0
 WholeLogs = (length (logs_of opened conversation).i ≡ 13) × (length (logs_of opened conversation).a ≡ 13)
@@ -291,7 +291,7 @@ EarlyVerify =
     (map says_of (run (world opened) (early 2 0 (request [])))
     ≡ done ∷ refuses 18 ∷ done ∷ done ∷ done ∷ names (scheme 3) 1 ∷ done ∷ done ∷ done ∷ refuses 18 ∷ names (scheme 3) 1 ∷ refuses 18 ∷ done ∷ done
     ∷ refuses 18 ∷ done ∷ [])
-    × (map says_of (run (world longerLists) (early 4 1 (checksum (pos 16) [])))
+    × (map says_of (run (world longer_lists) (early 4 1 (checksum (pos 16) [])))
     ≡ done ∷ refuses 18 ∷ done ∷ done ∷ done ∷ names (scheme 2) 2 ∷ done ∷ done ∷ done ∷ refuses 18 ∷ names (scheme 3) 1 ∷ refuses 18 ∷ done ∷ done
     ∷ done ∷ done ∷ [])
 
@@ -306,27 +306,27 @@ nine = record { count = 9; types = replicate 8 1; sizes = replicate 8 0 }
 
 unfoldable pub ordinary : NegoCall
 unfolding items_of
-ordinary = (negoWith false (two 2147483647) octets, record { random = refl; types = refl })
+ordinary = (nego_with false (two 2147483647) octets, record { random = refl; types = refl })
 
 unfoldable pub critical : Bool → NegoCall
 unfolding items_of
-critical test = (negoWith test (two 4294967294) octets, record { random = refl; types = refl })
+critical test = (nego_with test (two 4294967294) octets, record { random = refl; types = refl })
 
-unfoldable pub tooMany : NegoCall
+unfoldable pub too_many : NegoCall
 unfolding items_of
-tooMany = (negoWith false nine [], record { random = refl; types = refl })
+too_many = (nego_with false nine [], record { random = refl; types = refl })
 
 -- C-22, 25 and 26 of either NEGO: after 18 and 19, and before 17; extensions that the peer reads; a critical one in a test call, which closes its reader;
 -- 25 of an ALERT and of the choosing call, before 15 and 17
 abbrev pub extended : List (Bool × Call)
 extended =
-    (true, offer tooMany)
-    ∷ (false, offer tooMany)
+    (true, offer too_many)
+    ∷ (false, offer too_many)
     ∷ (false, offer (critical false))
     ∷ (false, offer ordinary)
     ∷ (true, read)
-    ∷ (true, reply 8 tooMany)
-    ∷ (true, reply 7 tooMany)
+    ∷ (true, reply 8 too_many)
+    ∷ (true, reply 7 too_many)
     ∷ (true, reply 7 (critical false))
     ∷ (true, reply 7 (critical true))
     ∷ (true, reply 0 ordinary)
@@ -336,7 +336,7 @@ extended =
     ∷ (false, choose 0 (alarm (record { code = pos 0; alerts = two 1; values = octets })))
     ∷ (true, read)
     ∷ (true, speak (alarm (record { code = pos 0; alerts = nine; values = [] })))
-    ∷ (true, speak (alarm (record { code = pos 0; alerts = noElements; values = [] })))
+    ∷ (true, speak (alarm (record { code = pos 0; alerts = no_elements; values = [] })))
     ∷ (false, read)
     ∷ []
 
@@ -348,13 +348,13 @@ Extended =
     × (map says_of (run (world opened) ((false, offer (critical true)) ∷ (true, read) ∷ (true, read) ∷ []))
     ≡ done ∷ refuses 12 ∷ refuses 18 ∷ [])
 
-abbrev pub readInTurn : End → List (List ℕ) → List ℕ
-readInTurn e [] = []
-readInTurn e (t ∷ ts) = (act e t read).answer.refusal ∷ readInTurn (moved e read (act e t read)) ts
+abbrev pub read_in_turn : End → List (List ℕ) → List ℕ
+read_in_turn e [] = []
+read_in_turn e (t ∷ ts) = (act e t read).answer.refusal ∷ read_in_turn (moved e read (act e t read)) ts
 
 -- an acceptor that was sent P8's token, a critical extension, does not read P9's; one that was sent P4's, a vector that breaks its rule, does
 abbrev pub StaysRejected : Type 0
 StaysRejected =
-    (readInTurn (world opened).a (withExtension (0xFE ∷ 0xFF ∷ 0xFF ∷ 0xFF ∷ []) ∷ withExtension (0xFF ∷ 0xFF ∷ 0xFF ∷ 0x7F ∷ []) ∷ []) ≡ 12 ∷ 18
+    (read_in_turn (world opened).a (with_extension (0xFE ∷ 0xFF ∷ 0xFF ∷ 0xFF ∷ []) ∷ with_extension (0xFF ∷ 0xFF ∷ 0xFF ∷ 0x7F ∷ []) ∷ []) ≡ 12 ∷ 18
     ∷ [])
-    × (readInTurn (world opened).a (withScheme 95 1 ∷ withExtension (0xFF ∷ 0xFF ∷ 0xFF ∷ 0x7F ∷ []) ∷ []) ≡ 11 ∷ 0 ∷ [])
+    × (read_in_turn (world opened).a (with_scheme 95 1 ∷ with_extension (0xFF ∷ 0xFF ∷ 0xFF ∷ 0x7F ∷ []) ∷ []) ≡ 11 ∷ 0 ∷ [])

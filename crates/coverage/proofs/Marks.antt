@@ -15,12 +15,12 @@ use Rattle.octets.specs.Octets.{le}
 use Rattle.octets.proofs.Bools.{which}
 use Rattle.vector.specs.declared.Vector.{Vector}
 use Rattle.vector.specs.Vector.{extent, part}
-use Rattle.message.specs.Layout.{Shape, head_of, shape_of, headerOf, nego, exchange, verify, alert, values_of, elementsAt, elementsOf, octetVector, schemeVector, extensionVector, exchangeVector, checksumVector, alertVector, vectors_of, contentOf}
+use Rattle.message.specs.Layout.{Shape, head_of, shape_of, header_of, nego, exchange, verify, alert, values_of, elements_at, elements_of, octet_vector, scheme_vector, extension_vector, exchange_vector, checksum_vector, alert_vector, vectors_of, content_of}
 use Rattle.message.proofs.Shapes.{shape-nego, shape-exchange, shape-verify, shape-alert, room-nego, room-exchange, room-verify, room-alert, header-least}
 use Rattle.coverage.specs.declared.Octets.{Octets}
-use Rattle.coverage.specs.Coverage.{headerIn, vectorsIn, liesInOne, inVector, is_bare, one, count, headerOctets, vectorOctets, bareOctets, octetsIn}
-use Rattle.coverage.specs.Sweep.{Clear, marked, markedAll, sweep}
-use Rattle.coverage.proofs.Sweeps.{length-marks, heldBy, sweep-held}
+use Rattle.coverage.specs.Coverage.{header_in, vectors_in, lies_in_one, in_vector, is_bare, one, count, header_octets, vector_octets, bare_octets, octets_in}
+use Rattle.coverage.specs.Sweep.{Clear, marked, marked_all, sweep}
+use Rattle.coverage.proofs.Sweeps.{length-marks, held_by, sweep-held}
 use Rattle.coverage.proofs.Sums.{count_same, count-not, count-below, count-zero}
 
 -- ---- `part`
@@ -60,19 +60,19 @@ module _ (map : List ℕ) (v : Vector) where
   mark-in end far e f = simp (f, e)
 
 -- ---- a turn of `mark_values`
-abbrev pub valuesFrom : ℕ → List ℕ → ℕ → List Vector
-valuesFrom n a at = values_of (elementsAt n a at)
+abbrev pub values_from : ℕ → List ℕ → ℕ → List Vector
+values_from n a at = values_of (elements_at n a at)
 
 module _ (a : List ℕ) (whole map : List ℕ) (at : ℕ) where
-  pub values-done : (n : ℕ) → whole ≡ markedAll map (valuesFrom n a at) → n ≤ 0 → map ≡ whole
-  unfolding markedAll elementsAt
+  pub values-done : (n : ℕ) → whole ≡ marked_all map (values_from n a at) → n ≤ 0 → map ≡ whole
+  unfolding marked_all elements_at
   values-done zero inv h = sym inv
   values-done (suc n) inv h = absurd (omega arith)
 
-  pub values-more : (n : ℕ) (v : Vector) (map' : List ℕ) → whole ≡ markedAll map (valuesFrom n a at) → 0 < n → v ≡ octetVector a (at + 4)
+  pub values-more : (n : ℕ) (v : Vector) (map' : List ℕ) → whole ≡ marked_all map (values_from n a at) → 0 < n → v ≡ octet_vector a (at + 4)
       → map' ≡ marked map v
-      → whole ≡ markedAll map' (valuesFrom (n - 1) a (at + 12))
-  unfolding markedAll elementsAt
+      → whole ≡ marked_all map' (values_from (n - 1) a (at + 12))
+  unfolding marked_all elements_at
   values-more zero v map' inv h e f = absurd (omega arith)
   values-more (suc n) v map' inv h e f = inv ∙ simp (sub-one, f, e)
 
@@ -109,41 +109,41 @@ clear-all map i h inv p = elim (which (ltb p i)) [
 
 -- ---- the vectors of each layout
 module _ (map m : List ℕ) where
-  pub marks-exchange : (v : Vector) (map1 : List ℕ) → v ≡ exchangeVector m → map1 ≡ marked map v
-      → map1 ≡ markedAll map (vectors_of (contentOf exchange m))
-  unfolding markedAll vectors_of contentOf
+  pub marks-exchange : (v : Vector) (map1 : List ℕ) → v ≡ exchange_vector m → map1 ≡ marked map v
+      → map1 ≡ marked_all map (vectors_of (content_of exchange m))
+  unfolding marked_all vectors_of content_of
   marks-exchange v map1 e f = simp (f, e)
 
-  pub marks-verify : (v : Vector) (map1 : List ℕ) → v ≡ checksumVector m → map1 ≡ marked map v → map1 ≡ markedAll map (vectors_of (contentOf verify m))
-  unfolding markedAll vectors_of contentOf
+  pub marks-verify : (v : Vector) (map1 : List ℕ) → v ≡ checksum_vector m → map1 ≡ marked map v → map1 ≡ marked_all map (vectors_of (content_of verify m))
+  unfolding marked_all vectors_of content_of
   marks-verify v map1 e f = simp (f, e)
 
-  pub marks-alert : (a : Vector) (map1 es map2 : List ℕ) → a ≡ alertVector m → map1 ≡ marked map a
-      → es ≡ part m a → map2 ≡ markedAll map1 (values_of (elementsOf es)) → map2 ≡ markedAll map (vectors_of (contentOf alert m))
-  unfolding markedAll vectors_of contentOf
+  pub marks-alert : (a : Vector) (map1 es map2 : List ℕ) → a ≡ alert_vector m → map1 ≡ marked map a
+      → es ≡ part m a → map2 ≡ marked_all map1 (values_of (elements_of es)) → map2 ≡ marked_all map (vectors_of (content_of alert m))
+  unfolding marked_all vectors_of content_of
   marks-alert a map1 es map2 e f g h = h ∙ simp (g, f, e)
 
   pub marks-nego : (v a : Vector) (map1 map2 es map3 : List ℕ)
-      → v ≡ schemeVector m → map1 ≡ marked map v → a ≡ extensionVector m → map2 ≡ marked map1 a
-      → es ≡ part m a → map3 ≡ markedAll map2 (values_of (elementsOf es)) → map3 ≡ markedAll map (vectors_of (contentOf nego m))
-  unfolding markedAll vectors_of contentOf
+      → v ≡ scheme_vector m → map1 ≡ marked map v → a ≡ extension_vector m → map2 ≡ marked map1 a
+      → es ≡ part m a → map3 ≡ marked_all map2 (values_of (elements_of es)) → map3 ≡ marked_all map (vectors_of (content_of nego m))
+  unfolding marked_all vectors_of content_of
   marks-nego v a map1 map2 es map3 e f e2 f2 g h = h ∙ simp (g, f2, e2, f, e)
 
 -- ---- the layout by the kind's number
 module _ (kind : ℕ) (m : List ℕ) where
   module _ (map map1 : List ℕ) where
     abbrev Done : Shape → Type 0
-    Done shape = map1 ≡ markedAll map (vectors_of (contentOf shape m))
+    Done shape = map1 ≡ marked_all map (vectors_of (content_of shape m))
 
     pub by-nego : kind ≤ 1 → Done nego → Done (shape_of kind)
     by-nego h e = rw (shape-nego kind h) e
 
     module _ (not-nego : 1 < kind) where
-      pub by-exchange : kind ≤ 5 → (v : Vector) → v ≡ exchangeVector m → map1 ≡ marked map v → Done (shape_of kind)
+      pub by-exchange : kind ≤ 5 → (v : Vector) → v ≡ exchange_vector m → map1 ≡ marked map v → Done (shape_of kind)
       by-exchange h v e f = rw (shape-exchange kind not-nego h) (marks-exchange map m v map1 e f)
 
       module _ (not-exchange : 5 < kind) where
-        pub by-verify : kind ≡ 6 → (v : Vector) → v ≡ checksumVector m → map1 ≡ marked map v → Done (shape_of kind)
+        pub by-verify : kind ≡ 6 → (v : Vector) → v ≡ checksum_vector m → map1 ≡ marked map v → Done (shape_of kind)
         by-verify h v e f = rw (shape-verify kind not-nego not-exchange h) (marks-verify map m v map1 e f)
 
         pub by-alert : (kind ≡ 6 → ⊥) → Done alert → Done (shape_of kind)
@@ -170,32 +170,32 @@ pub ruleset kinds = (room-nego, room-exchange, room-verify, room-alert, by-nego,
 
 -- ---- `count_octets`: the three counts of a message that has its header, and of one that has not
 module _ (m : List ℕ) where
-  held_none : (p : ℕ) → heldBy 0 (vectorsIn m) p ≡ inVector m p
+  held_none : (p : ℕ) → held_by 0 (vectors_in m) p ≡ in_vector m p
   held_none p = rw (le-ltb p 0 (omega arith))
 
-  header-count : headerOctets m ≡ min (length m) (headerIn m)
-  unfolding headerOctets
-  header-count = omega (arith, count-below (headerIn m) (length m) 0)
+  header-count : header_octets m ≡ min (length m) (header_in m)
+  unfolding header_octets
+  header-count = omega (arith, count-below (header_in m) (length m) 0)
 
-  module _ (short : length m < headerIn m) where
-    no-vectors : (p : ℕ) → inVector m p ≡ false
-    unfolding vectorsIn liesInOne
+  module _ (short : length m < header_in m) where
+    no-vectors : (p : ℕ) → in_vector m p ≡ false
+    unfolding vectors_in lies_in_one
     no-vectors p = rw (lt-leb _ _ short)
 
-    no-vector-octets : vectorOctets m ≡ 0
-    unfolding vectorOctets
-    no-vector-octets = count-zero (inVector m) (length m) 0 (λ p h. no-vectors p)
+    no-vector-octets : vector_octets m ≡ 0
+    unfolding vector_octets
+    no-vector-octets = count-zero (in_vector m) (length m) 0 (λ p h. no-vectors p)
 
-    no-bare-octets : bareOctets m ≡ 0
-    unfolding bareOctets
-    no-bare-octets = count-zero (is_bare m) (length m) 0 (λ p h. rw (lt-ltb p (headerIn m) (omega arith)))
+    no-bare-octets : bare_octets m ≡ 0
+    unfolding bare_octets
+    no-bare-octets = count-zero (is_bare m) (length m) 0 (λ p h. rw (lt-ltb p (header_in m) (omega arith)))
 
-    pub counted-cut : ◌≡◌ {A = Octets} (record { headers = length m; vectors = 0; bare = 0 }) (octetsIn m)
+    pub counted-cut : ◌≡◌ {A = Octets} (record { headers = length m; vectors = 0; bare = 0 }) (octets_in m)
     counted-cut =
-        let e : length m ≡ headerOctets m = omega (arith, header-count) in
+        let e : length m ≡ header_octets m = omega (arith, header-count) in
         rw (no-vector-octets, no-bare-octets, ← e)
 
-  pub counted-short : length m < 64 → ◌≡◌ {A = Octets} (record { headers = length m; vectors = 0; bare = 0 }) (octetsIn m)
+  pub counted-short : length m < 64 → ◌≡◌ {A = Octets} (record { headers = length m; vectors = 0; bare = 0 }) (octets_in m)
   counted-short h = counted-cut (omega (arith, header-least (shape_of (head_of m).kind)))
 
   module _ (kind : ℕ) (kind-is : kind ≡ le 4 m 8) where
@@ -203,59 +203,59 @@ module _ (m : List ℕ) where
     unfolding head_of
     kind-here = kind-is
 
-    pub counted-header : (header : ℕ) → header ≡ headerOf (shape_of kind) → length m < header
-        → ◌≡◌ {A = Octets} (record { headers = length m; vectors = 0; bare = 0 }) (octetsIn m)
+    pub counted-header : (header : ℕ) → header ≡ header_of (shape_of kind) → length m < header
+        → ◌≡◌ {A = Octets} (record { headers = length m; vectors = 0; bare = 0 }) (octets_in m)
     counted-header header e h = counted-cut (rw (sym kind-here) (omega arith))
 
-    pub header-fits : (header : ℕ) → header ≡ headerOf (shape_of kind) → header ≤ length m → headerOf (shape_of kind) ≤ length m
+    pub header-fits : (header : ℕ) → header ≡ header_of (shape_of kind) → header ≤ length m → header_of (shape_of kind) ≤ length m
     header-fits header e h = omega arith
 
 -- the sweeps over a map in which the message's vectors are marked
-module _ (m : List ℕ) (kind : ℕ) (kind-is : kind ≡ (head_of m).kind) (h : headerOf (shape_of kind) ≤ length m)
+module _ (m : List ℕ) (kind : ℕ) (kind-is : kind ≡ (head_of m).kind) (h : header_of (shape_of kind) ≤ length m)
     (map map0 map1 : List ℕ) (sized : length map ≡ length m) (kept : length map0 ≡ length map) (clear : Clear map0)
-    (e : map1 ≡ markedAll map0 (vectors_of (contentOf (shape_of kind) m))) where
+    (e : map1 ≡ marked_all map0 (vectors_of (content_of (shape_of kind) m))) where
   l : length map0 ≡ length m
   l = kept ∙ sized
 
-  fits : headerIn m ≤ length m
+  fits : header_in m ≤ length m
   fits = rw kind-is at h
 
-  all : vectorsIn m ≡ vectors_of (contentOf (shape_of kind) m)
-  unfolding vectorsIn
+  all : vectors_in m ≡ vectors_of (content_of (shape_of kind) m)
+  unfolding vectors_in
   all = rw (le-leb _ _ fits, kind-is)
 
   same : length map1 ≡ length m
   same = ap length e ∙ length-marks map0 _ ∙ l
 
-  swept-is : (start r : ℕ) → r ≡ sweep map1 start (length map1) 0 → r ≡ count (heldBy start (vectorsIn m)) (length m) 0
+  swept-is : (start r : ℕ) → r ≡ sweep map1 start (length map1) 0 → r ≡ count (held_by start (vectors_in m)) (length m) 0
   swept-is start r f =
-      f ∙ ap (λ (n : ℕ). sweep map1 start n 0) (same ∙ sym l) ∙ ap (λ (k : List ℕ). sweep k start (length map0) 0) (e ∙ ap (markedAll map0) (sym all))
-      ∙ sweep-held map0 clear start (vectorsIn m) ∙ ap (λ (n : ℕ). count (heldBy start (vectorsIn m)) n 0) l
+      f ∙ ap (λ (n : ℕ). sweep map1 start n 0) (same ∙ sym l) ∙ ap (λ (k : List ℕ). sweep k start (length map0) 0) (e ∙ ap (marked_all map0) (sym all))
+      ∙ sweep-held map0 clear start (vectors_in m) ∙ ap (λ (n : ℕ). count (held_by start (vectors_in m)) n 0) l
 
-  vectors-swept : (r : ℕ) → r ≡ sweep map1 0 (length map1) 0 → r ≡ vectorOctets m
-  unfolding vectorOctets
-  vectors-swept r f = swept-is 0 r f ∙ count_same (heldBy 0 (vectorsIn m)) (inVector m) (held_none m) (length m) 0
+  vectors-swept : (r : ℕ) → r ≡ sweep map1 0 (length map1) 0 → r ≡ vector_octets m
+  unfolding vector_octets
+  vectors-swept r f = swept-is 0 r f ∙ count_same (held_by 0 (vectors_in m)) (in_vector m) (held_none m) (length m) 0
 
-  bare-swept : (r : ℕ) → r ≡ sweep map1 (headerIn m) (length map1) 0 → r + bareOctets m ≡ length m
-  unfolding bareOctets
+  bare-swept : (r : ℕ) → r ≡ sweep map1 (header_in m) (length map1) 0 → r + bare_octets m ≡ length m
+  unfolding bare_octets
   bare-swept r f =
-      ap (λ (k : ℕ). k + count (is_bare m) (length m) 0) (swept-is (headerIn m) r f) ∙ count-not (heldBy (headerIn m) (vectorsIn m)) (length m) 0
+      ap (λ (k : ℕ). k + count (is_bare m) (length m) 0) (swept-is (header_in m) r f) ∙ count-not (held_by (header_in m) (vectors_in m)) (length m) 0
 
-  module _ (header : ℕ) (header_is : header ≡ headerOf (shape_of kind)) (held : ℕ) (held-is : held ≡ sweep map1 header (length map1) 0) where
-    header-own : header ≡ headerIn m
-    header-own = header_is ∙ ap (λ (k : ℕ). headerOf (shape_of k)) kind-is
+  module _ (header : ℕ) (header_is : header ≡ header_of (shape_of kind)) (held : ℕ) (held-is : held ≡ sweep map1 header (length map1) 0) where
+    header-own : header ≡ header_in m
+    header-own = header_is ∙ ap (λ (k : ℕ). header_of (shape_of k)) kind-is
 
-    bare-sum : held + bareOctets m ≡ length m
+    bare-sum : held + bare_octets m ≡ length m
     bare-sum = bare-swept held (held-is ∙ ap (λ (k : ℕ). sweep map1 k (length map1) 0) header-own)
 
     pub held_fits : held ≤ length m
     held_fits = omega (arith, bare-sum)
 
     pub counted-all : (vectors : ℕ) → vectors ≡ sweep map1 0 (length map1) 0
-        → ◌≡◌ {A = Octets} (record { headers = header; vectors = vectors; bare = length m - held }) (octetsIn m)
+        → ◌≡◌ {A = Octets} (record { headers = header; vectors = vectors; bare = length m - held }) (octets_in m)
     counted-all vectors vectors-is =
-        let b : length m - held ≡ bareOctets m = omega (arith, bare-sum) in
-        let a : header ≡ headerOctets m = omega (arith, header-count m, header-own, fits) in
+        let b : length m - held ≡ bare_octets m = omega (arith, bare-sum) in
+        let a : header ≡ header_octets m = omega (arith, header-count m, header-own, fits) in
         rw (b, vectors-swept vectors vectors-is, a)
 
 -- the front of the map, with a cell for each octet

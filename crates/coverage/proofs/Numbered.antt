@@ -12,79 +12,79 @@ use Rattle.octets.proofs.Bools.{which}
 use Rattle.octets.specs.Octets.{le}
 use Rattle.vector.specs.declared.Vector.{Vector}
 use Rattle.vector.specs.Vector.{part}
-use Rattle.message.specs.Layout.{Shape, head_of, shape_of, headerOf, nego, alert, values_of, elementsAt, elementsOf, octetVector, schemeVector, extensionVector, exchangeVector, checksumVector, alertVector, vectors_of, contentOf}
+use Rattle.message.specs.Layout.{Shape, head_of, shape_of, header_of, nego, alert, values_of, elements_at, elements_of, octet_vector, scheme_vector, extension_vector, exchange_vector, checksum_vector, alert_vector, vectors_of, content_of}
 use Rattle.message.proofs.Shapes.{shape-nego, shape-exchange, shape-verify, shape-alert, room-nego, room-alert, header-least}
-use Rattle.coverage.specs.Coverage.{headerIn, vectorsIn, noVector, vectorIn}
+use Rattle.coverage.specs.Coverage.{header_in, vectors_in, no_vector, vector_in}
 
 -- ---- the values of an array
-pub values_length : (n : ℕ) (a : List ℕ) (at : ℕ) → length (values_of (elementsAt n a at)) ≡ n
-unfolding elementsAt
+pub values_length : (n : ℕ) (a : List ℕ) (at : ℕ) → length (values_of (elements_at n a at)) ≡ n
+unfolding elements_at
 values_length zero a at = refl
 values_length (suc n) a at = ap suc (values_length n a (at + 12))
 
-values-at : (n : ℕ) (a : List ℕ) (at k : ℕ) → k < n → get_or (values_of (elementsAt n a at)) k noVector ≡ octetVector a (at + 12 * k + 4)
-unfolding elementsAt
+values-at : (n : ℕ) (a : List ℕ) (at k : ℕ) → k < n → get_or (values_of (elements_at n a at)) k no_vector ≡ octet_vector a (at + 12 * k + 4)
+unfolding elements_at
 values-at zero a at k h = absurd (omega arith)
-values-at (suc n) a at zero h = let e : at + 4 ≡ at + 12 * 0 + 4 = omega arith in ap (octetVector a) e
+values-at (suc n) a at zero h = let e : at + 4 ≡ at + 12 * 0 + 4 = omega arith in ap (octet_vector a) e
 values-at (suc n) a at (suc k) h =
-    let e : at + 12 + 12 * k + 4 ≡ at + 12 * suc k + 4 = omega arith in values-at n a (at + 12) k (omega arith) ∙ ap (octetVector a) e
+    let e : at + 12 + 12 * k + 4 ≡ at + 12 * suc k + 4 = omega arith in values-at n a (at + 12) k (omega arith) ∙ ap (octet_vector a) e
 
 module _ (a : List ℕ) (k : ℕ) (v : Vector) where
-  pub value_none : length a / 12 ≤ k → v ≡ noVector → v ≡ get_or (values_of (elementsOf a)) k noVector
-  value_none h e = e ∙ sym (get_or-eq_default (values_of (elementsOf a)) noVector {n = k} (omega (arith, values_length (length a / 12) a 0)))
+  pub value_none : length a / 12 ≤ k → v ≡ no_vector → v ≡ get_or (values_of (elements_of a)) k no_vector
+  value_none h e = e ∙ sym (get_or-eq_default (values_of (elements_of a)) no_vector {n = k} (omega (arith, values_length (length a / 12) a 0)))
 
-  pub value-here : k < length a / 12 → v ≡ octetVector a (12 * k + 4) → v ≡ get_or (values_of (elementsOf a)) k noVector
-  value-here h e = let z : 12 * k + 4 ≡ 0 + 12 * k + 4 = omega arith in e ∙ ap (octetVector a) z ∙ sym (values-at (length a / 12) a 0 k h)
+  pub value-here : k < length a / 12 → v ≡ octet_vector a (12 * k + 4) → v ≡ get_or (values_of (elements_of a)) k no_vector
+  value-here h e = let z : 12 * k + 4 ≡ 0 + 12 * k + 4 = omega arith in e ∙ ap (octet_vector a) z ∙ sym (values-at (length a / 12) a 0 k h)
 
 -- ---- a place in a list
 module _ (x : Vector) (k : ℕ) where
-  pub only-first : k ≡ 0 → x ≡ get_or (x ∷ []) k noVector
-  only-first e = ap (λ (i : ℕ). get_or (x ∷ []) i noVector) (sym e)
+  pub only-first : k ≡ 0 → x ≡ get_or (x ∷ []) k no_vector
+  only-first e = ap (λ (i : ℕ). get_or (x ∷ []) i no_vector) (sym e)
 
-  pub only_none : (k ≡ 0 → ⊥) → (v : Vector) → v ≡ noVector → v ≡ get_or (x ∷ []) k noVector
-  only_none h v e = e ∙ sym (get_or-eq_default (x ∷ []) noVector {n = k} (omega arith))
+  pub only_none : (k ≡ 0 → ⊥) → (v : Vector) → v ≡ no_vector → v ≡ get_or (x ∷ []) k no_vector
+  only_none h v e = e ∙ sym (get_or-eq_default (x ∷ []) no_vector {n = k} (omega arith))
 
-behind-one : (x : Vector) (l : List Vector) (k : ℕ) → (k ≡ 0 → ⊥) → get_or (x ∷ l) k noVector ≡ get_or l (k - 1) noVector
+behind-one : (x : Vector) (l : List Vector) (k : ℕ) → (k ≡ 0 → ⊥) → get_or (x ∷ l) k no_vector ≡ get_or l (k - 1) no_vector
 behind-one x l zero h = absurd (h refl)
-behind-one x l (suc k) h = let e : k ≡ suc k - 1 = omega arith in ap (λ (i : ℕ). get_or l i noVector) e
+behind-one x l (suc k) h = let e : k ≡ suc k - 1 = omega arith in ap (λ (i : ℕ). get_or l i no_vector) e
 
 past : {k : ℕ} → (k ≡ 0 → ⊥) → (k ≡ 1 → ⊥) → k - 1 ≡ 0 → ⊥
 past h g e = omega arith
 
 module _ (m : List ℕ) (k : ℕ) (v : Vector) where
   abbrev In : Shape → Type 0
-  In shape = v ≡ get_or (vectors_of (contentOf shape m)) k noVector
+  In shape = v ≡ get_or (vectors_of (content_of shape m)) k no_vector
 
-  pub nego-first : k ≡ 0 → v ≡ schemeVector m → In nego
-  unfolding vectors_of contentOf
+  pub nego-first : k ≡ 0 → v ≡ scheme_vector m → In nego
+  unfolding vectors_of content_of
   nego-first e f =
-      f ∙ ap (λ (i : ℕ). get_or (schemeVector m ∷ extensionVector m ∷ values_of (elementsOf (part m (extensionVector m)))) i noVector) (sym e)
+      f ∙ ap (λ (i : ℕ). get_or (scheme_vector m ∷ extension_vector m ∷ values_of (elements_of (part m (extension_vector m)))) i no_vector) (sym e)
 
-  pub nego-second : k ≡ 1 → v ≡ extensionVector m → In nego
-  unfolding vectors_of contentOf
+  pub nego-second : k ≡ 1 → v ≡ extension_vector m → In nego
+  unfolding vectors_of content_of
   nego-second e f =
-      f ∙ ap (λ (i : ℕ). get_or (schemeVector m ∷ extensionVector m ∷ values_of (elementsOf (part m (extensionVector m)))) i noVector) (sym e)
+      f ∙ ap (λ (i : ℕ). get_or (scheme_vector m ∷ extension_vector m ∷ values_of (elements_of (part m (extension_vector m)))) i no_vector) (sym e)
 
-  pub nego-value : (k ≡ 0 → ⊥) → (k ≡ 1 → ⊥) → (a : Vector) → a ≡ extensionVector m → (es : List ℕ) → es ≡ part m a
-      → v ≡ get_or (values_of (elementsOf es)) (k - 2) noVector → In nego
-  unfolding vectors_of contentOf
+  pub nego-value : (k ≡ 0 → ⊥) → (k ≡ 1 → ⊥) → (a : Vector) → a ≡ extension_vector m → (es : List ℕ) → es ≡ part m a
+      → v ≡ get_or (values_of (elements_of es)) (k - 2) no_vector → In nego
+  unfolding vectors_of content_of
   nego-value h g a a-is es es-is e =
       let z : k - 1 - 1 ≡ k - 2 = omega arith in
-      e ∙ ap (λ (l : List ℕ). get_or (values_of (elementsOf l)) (k - 2) noVector) (es-is ∙ ap (part m) a-is)
-      ∙ ap (λ (i : ℕ). get_or (values_of (elementsOf (part m (extensionVector m)))) i noVector) (sym z)
-      ∙ sym (behind-one (schemeVector m) (extensionVector m ∷ values_of (elementsOf (part m (extensionVector m)))) k h
-      ∙ behind-one (extensionVector m) (values_of (elementsOf (part m (extensionVector m)))) (k - 1) (past h g))
+      e ∙ ap (λ (l : List ℕ). get_or (values_of (elements_of l)) (k - 2) no_vector) (es-is ∙ ap (part m) a-is)
+      ∙ ap (λ (i : ℕ). get_or (values_of (elements_of (part m (extension_vector m)))) i no_vector) (sym z)
+      ∙ sym (behind-one (scheme_vector m) (extension_vector m ∷ values_of (elements_of (part m (extension_vector m)))) k h
+      ∙ behind-one (extension_vector m) (values_of (elements_of (part m (extension_vector m)))) (k - 1) (past h g))
 
-  pub alert-first : k ≡ 0 → v ≡ alertVector m → In alert
-  unfolding vectors_of contentOf
-  alert-first e f = f ∙ ap (λ (i : ℕ). get_or (alertVector m ∷ values_of (elementsOf (part m (alertVector m)))) i noVector) (sym e)
+  pub alert-first : k ≡ 0 → v ≡ alert_vector m → In alert
+  unfolding vectors_of content_of
+  alert-first e f = f ∙ ap (λ (i : ℕ). get_or (alert_vector m ∷ values_of (elements_of (part m (alert_vector m)))) i no_vector) (sym e)
 
-  pub alert-value : (k ≡ 0 → ⊥) → (a : Vector) → a ≡ alertVector m → (es : List ℕ) → es ≡ part m a
-      → v ≡ get_or (values_of (elementsOf es)) (k - 1) noVector → In alert
-  unfolding vectors_of contentOf
+  pub alert-value : (k ≡ 0 → ⊥) → (a : Vector) → a ≡ alert_vector m → (es : List ℕ) → es ≡ part m a
+      → v ≡ get_or (values_of (elements_of es)) (k - 1) no_vector → In alert
+  unfolding vectors_of content_of
   alert-value h a a-is es es-is e =
-      e ∙ ap (λ (l : List ℕ). get_or (values_of (elementsOf l)) (k - 1) noVector) (es-is ∙ ap (part m) a-is)
-      ∙ sym (behind-one (alertVector m) (values_of (elementsOf (part m (alertVector m)))) k h)
+      e ∙ ap (λ (l : List ℕ). get_or (values_of (elements_of l)) (k - 1) no_vector) (es-is ∙ ap (part m) a-is)
+      ∙ sym (behind-one (alert_vector m) (values_of (elements_of (part m (alert_vector m)))) k h)
 
   -- ---- the layout by the kind's number
   module _ (kind : ℕ) where
@@ -92,20 +92,20 @@ module _ (m : List ℕ) (k : ℕ) (v : Vector) where
     kind-nego h e = rw (shape-nego kind h) e
 
     module _ (not-nego : 1 < kind) where
-      pub kind-exchange : kind ≤ 5 → (x : Vector) → x ≡ exchangeVector m → v ≡ get_or (x ∷ []) k noVector → In (shape_of kind)
-      unfolding vectors_of contentOf
-      kind-exchange h x x-is e = rw (shape-exchange kind not-nego h) (e ∙ ap (λ (y : Vector). get_or (y ∷ []) k noVector) x-is)
+      pub kind-exchange : kind ≤ 5 → (x : Vector) → x ≡ exchange_vector m → v ≡ get_or (x ∷ []) k no_vector → In (shape_of kind)
+      unfolding vectors_of content_of
+      kind-exchange h x x-is e = rw (shape-exchange kind not-nego h) (e ∙ ap (λ (y : Vector). get_or (y ∷ []) k no_vector) x-is)
 
       module _ (not-exchange : 5 < kind) where
-        pub kind-verify : kind ≡ 6 → (x : Vector) → x ≡ checksumVector m → v ≡ get_or (x ∷ []) k noVector → In (shape_of kind)
-        unfolding vectors_of contentOf
-        kind-verify h x x-is e = rw (shape-verify kind not-nego not-exchange h) (e ∙ ap (λ (y : Vector). get_or (y ∷ []) k noVector) x-is)
+        pub kind-verify : kind ≡ 6 → (x : Vector) → x ≡ checksum_vector m → v ≡ get_or (x ∷ []) k no_vector → In (shape_of kind)
+        unfolding vectors_of content_of
+        kind-verify h x x-is e = rw (shape-verify kind not-nego not-exchange h) (e ∙ ap (λ (y : Vector). get_or (y ∷ []) k no_vector) x-is)
 
         pub kind-alert : (kind ≡ 6 → ⊥) → In alert → In (shape_of kind)
         kind-alert h e = rw (shape-alert kind not-nego not-exchange h) e
 
 -- ---- how many
-module _ (kind : ℕ) (m : List ℕ) (h : headerOf (shape_of kind) ≤ length m) where
+module _ (kind : ℕ) (m : List ℕ) (h : header_of (shape_of kind) ≤ length m) where
   pub room-extensions : kind ≤ 1 → 96 ≤ length m
   room-extensions g = room-nego kind (length m) h g
 
@@ -114,79 +114,79 @@ module _ (kind : ℕ) (m : List ℕ) (h : headerOf (shape_of kind) ≤ length m)
 
 module _ (m : List ℕ) (kind : ℕ) where
   abbrev Has : ℕ → Type 0
-  Has n = n ≡ length (vectors_of (contentOf (shape_of kind) m))
+  Has n = n ≡ length (vectors_of (content_of (shape_of kind) m))
 
-  pub count-nego : kind ≤ 1 → (a : Vector) → a ≡ extensionVector m → (es : List ℕ) → es ≡ part m a → Has (2 + length es / 12)
-  unfolding vectors_of contentOf
+  pub count-nego : kind ≤ 1 → (a : Vector) → a ≡ extension_vector m → (es : List ℕ) → es ≡ part m a → Has (2 + length es / 12)
+  unfolding vectors_of content_of
   count-nego h a a-is es es-is =
       rw (shape-nego kind h)
-      (let e : length es ≡ length (part m (extensionVector m)) = ap length (es-is ∙ ap (part m) a-is) in
-      omega (arith, values_length (length (part m (extensionVector m)) / 12) (part m (extensionVector m)) 0))
+      (let e : length es ≡ length (part m (extension_vector m)) = ap length (es-is ∙ ap (part m) a-is) in
+      omega (arith, values_length (length (part m (extension_vector m)) / 12) (part m (extension_vector m)) 0))
 
   module _ (not-nego : 1 < kind) where
     pub count-one : kind ≤ 6 → Has 1
-    unfolding vectors_of contentOf
+    unfolding vectors_of content_of
     count-one h = elim (which (leb kind 5)) [
       | inl e ↦ rw (shape-exchange kind not-nego (leb-true kind 5 e)) refl
       | inr e ↦ let g = leb-false kind 5 e in rw (shape-verify kind not-nego g (omega arith)) refl
     ]
 
-    pub count-alert : 6 < kind → (a : Vector) → a ≡ alertVector m → (es : List ℕ) → es ≡ part m a → Has (1 + length es / 12)
-    unfolding vectors_of contentOf
+    pub count-alert : 6 < kind → (a : Vector) → a ≡ alert_vector m → (es : List ℕ) → es ≡ part m a → Has (1 + length es / 12)
+    unfolding vectors_of content_of
     count-alert h a a-is es es-is =
         rw (shape-alert kind not-nego (omega arith) (λ q. omega arith))
-        (let e : length es ≡ length (part m (alertVector m)) = ap length (es-is ∙ ap (part m) a-is) in
-        omega (arith, values_length (length (part m (alertVector m)) / 12) (part m (alertVector m)) 0))
+        (let e : length es ≡ length (part m (alert_vector m)) = ap length (es-is ∙ ap (part m) a-is) in
+        omega (arith, values_length (length (part m (alert_vector m)) / 12) (part m (alert_vector m)) 0))
 
 -- ---- a message that has its header, and one that has not
 module _ (m : List ℕ) where
-  module _ (short : length m < headerIn m) where
-    none_in : vectorsIn m ≡ []
-    unfolding vectorsIn
+  module _ (short : length m < header_in m) where
+    none_in : vectors_in m ≡ []
+    unfolding vectors_in
     none_in = rw (lt-leb _ _ short)
 
-    none-count : 0 ≡ length (vectorsIn m)
+    none-count : 0 ≡ length (vectors_in m)
     none-count = rw none_in
 
-    none_of : (k : ℕ) (v : Vector) → v ≡ noVector → v ≡ vectorIn m k
-    none_of k v e = e ∙ sym (rw none_in (get_or-eq_default [] noVector {n = k} (omega arith)))
+    none_of : (k : ℕ) (v : Vector) → v ≡ no_vector → v ≡ vector_in m k
+    none_of k v e = e ∙ sym (rw none_in (get_or-eq_default [] no_vector {n = k} (omega arith)))
 
-  least : length m < 64 → length m < headerIn m
+  least : length m < 64 → length m < header_in m
   least h = omega (arith, header-least (shape_of (head_of m).kind))
 
-  pub count-short : length m < 64 → 0 ≡ length (vectorsIn m)
+  pub count-short : length m < 64 → 0 ≡ length (vectors_in m)
   count-short h = none-count (least h)
 
-  pub of-short : length m < 64 → (k : ℕ) (v : Vector) → v ≡ noVector → v ≡ vectorIn m k
+  pub of-short : length m < 64 → (k : ℕ) (v : Vector) → v ≡ no_vector → v ≡ vector_in m k
   of-short h = none_of (least h)
 
-  module _ (kind : ℕ) (kind-is : kind ≡ le 4 m 8) (header : ℕ) (header_is : header ≡ headerOf (shape_of kind)) where
+  module _ (kind : ℕ) (kind-is : kind ≡ le 4 m 8) (header : ℕ) (header_is : header ≡ header_of (shape_of kind)) where
     same : kind ≡ (head_of m).kind
     unfolding head_of
     same = kind-is
 
-    own : header ≡ headerIn m
-    own = header_is ∙ ap (λ (k : ℕ). headerOf (shape_of k)) same
+    own : header ≡ header_in m
+    own = header_is ∙ ap (λ (k : ℕ). header_of (shape_of k)) same
 
-    pub count_cut : length m < header → 0 ≡ length (vectorsIn m)
+    pub count_cut : length m < header → 0 ≡ length (vectors_in m)
     count_cut h = none-count (omega (arith, own))
 
-    pub of_cut : length m < header → (k : ℕ) (v : Vector) → v ≡ noVector → v ≡ vectorIn m k
+    pub of_cut : length m < header → (k : ℕ) (v : Vector) → v ≡ no_vector → v ≡ vector_in m k
     of_cut h = none_of (omega (arith, own))
 
-    all : header ≤ length m → vectors_of (contentOf (shape_of kind) m) ≡ vectorsIn m
-    unfolding vectorsIn
+    all : header ≤ length m → vectors_of (content_of (shape_of kind) m) ≡ vectors_in m
+    unfolding vectors_in
     all h =
-        let f : headerIn m ≤ length m = omega (arith, own) in
-        ap (λ (k : ℕ). vectors_of (contentOf (shape_of k) m)) same ∙ sym (rw (le-leb (headerIn m) (length m) f) refl)
+        let f : header_in m ≤ length m = omega (arith, own) in
+        ap (λ (k : ℕ). vectors_of (content_of (shape_of k) m)) same ∙ sym (rw (le-leb (header_in m) (length m) f) refl)
 
-    pub count-all : header ≤ length m → (n : ℕ) → n ≡ length (vectors_of (contentOf (shape_of kind) m)) → n ≡ length (vectorsIn m)
+    pub count-all : header ≤ length m → (n : ℕ) → n ≡ length (vectors_of (content_of (shape_of kind) m)) → n ≡ length (vectors_in m)
     count-all h n e = e ∙ ap length (all h)
 
-    pub of-all : header ≤ length m → (k : ℕ) (v : Vector) → v ≡ get_or (vectors_of (contentOf (shape_of kind) m)) k noVector → v ≡ vectorIn m k
-    of-all h k v e = e ∙ ap (λ (l : List Vector). get_or l k noVector) (all h)
+    pub of-all : header ≤ length m → (k : ℕ) (v : Vector) → v ≡ get_or (vectors_of (content_of (shape_of kind) m)) k no_vector → v ≡ vector_in m k
+    of-all h k v e = e ∙ ap (λ (l : List Vector). get_or l k no_vector) (all h)
 
-    pub room-all : header ≤ length m → headerOf (shape_of kind) ≤ length m
+    pub room-all : header ≤ length m → header_of (shape_of kind) ≤ length m
     room-all h = omega arith
 
 pub ruleset values = (value_none, value-here, only-first, only_none)

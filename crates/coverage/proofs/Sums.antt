@@ -12,7 +12,7 @@ use borrow.Author.Tests.{le-ltb, lt-leb, ltb-true, ltb-false, leb-true, eqb-true
 use Rattle.octets.proofs.Bools.{which}
 use Rattle.vector.specs.declared.Vector.{Vector}
 use Rattle.vector.specs.Vector.{extent}
-use Rattle.coverage.specs.Coverage.{headerIn, vectorsIn, inHeader, liesIn, liesInOne, inVector, is_bare, one, count, headerOctets, vectorOctets, bareOctets, OctetsSum}
+use Rattle.coverage.specs.Coverage.{header_in, vectors_in, in_header, lies_in, lies_in_one, in_vector, is_bare, one, count, header_octets, vector_octets, bare_octets, OctetsSum}
 
 -- places that pass three tests, exactly one of which holds at each
 module _ (f g h : ℕ → Bool) (only : (p : ℕ) → one (f p) + one (g p) + one (h p) ≡ 1) where
@@ -53,8 +53,8 @@ count-below b (suc n) at = elim (which (ltb at b)) [
 ]
 
 -- a vector that starts behind the header, or is empty, holds no place of the header
-header-free : (header p : ℕ) (v : Vector) → ((extent v ≡ 0 → ⊥) → header ≤ v.offset.0) → p < header → liesIn v p ≡ false
-unfolding liesIn
+header-free : (header p : ℕ) (v : Vector) → ((extent v ≡ 0 → ⊥) → header ≤ v.offset.0) → p < header → lies_in v p ≡ false
+unfolding lies_in
 header-free header p v r h = elim (which (eqb (extent v) 0)) [
   | inl e ↦ empty (eqb-true _ _ e)
   | inr e ↦ let b = r (eqb-false _ _ e) in rw (lt-leb v.offset.0 p (omega arith))
@@ -68,22 +68,22 @@ header-free header p v r h = elim (which (eqb (extent v) 0)) [
 abbrev Behind : ℕ → List Vector → Type 0
 Behind header vs = (v : Vector) → Memᴰ v vs → (extent v ≡ 0 → ⊥) → header ≤ v.offset.0
 
-header-free-all : (header p : ℕ) (vs : List Vector) → Behind header vs → p < header → liesInOne vs p ≡ false
-unfolding liesInOne
+header-free-all : (header p : ℕ) (vs : List Vector) → Behind header vs → p < header → lies_in_one vs p ≡ false
+unfolding lies_in_one
 header-free-all header p [] r h = refl
 header-free-all header p (v ∷ vs) r h =
     rw (header-free header p v (r v (Memᴰ.head refl)) h, header-free-all header p vs (λ w i. r w (Memᴰ.tail i)) h)
 
 -- each octet is counted in one of the three totals
 pub octets-sum : OctetsSum
-unfolding headerOctets vectorOctets bareOctets one
-octets-sum m r = count-three (inHeader m) (inVector m) (is_bare m) only (length m) 0 where
+unfolding header_octets vector_octets bare_octets one
+octets-sum m r = count-three (in_header m) (in_vector m) (is_bare m) only (length m) 0 where
   either : (b : Bool) → 0 + one b + one (not (false || b)) ≡ 1
   either true = refl
   either false = refl
 
-  only : (p : ℕ) → one (inHeader m p) + one (inVector m p) + one (is_bare m p) ≡ 1
-  only p = elim (which (ltb p (headerIn m))) [
-    | inl e ↦ rw (e, header-free-all (headerIn m) p (vectorsIn m) r (ltb-true _ _ e))
-    | inr e ↦ rw e (either (inVector m p))
+  only : (p : ℕ) → one (in_header m p) + one (in_vector m p) + one (is_bare m p) ≡ 1
+  only p = elim (which (ltb p (header_in m))) [
+    | inl e ↦ rw (e, header-free-all (header_in m) p (vectors_in m) r (ltb-true _ _ e))
+    | inr e ↦ rw e (either (in_vector m p))
   ]

@@ -13,17 +13,17 @@ use borrow.Author.Tests.{lt-ltb, le-ltb, lt-leb, le-leb, ne_eqb, ltb-true, ltb-f
 use Rattle.octets.proofs.Bools.{which}
 use Rattle.vector.specs.declared.Vector.{Vector}
 use Rattle.vector.specs.Vector.{extent}
-use Rattle.coverage.specs.Coverage.{liesIn, liesInOne, one, count}
-use Rattle.coverage.specs.Sweep.{Clear, end_in, marked, markedAll, sweep}
+use Rattle.coverage.specs.Coverage.{lies_in, lies_in_one, one, count}
+use Rattle.coverage.specs.Sweep.{Clear, end_in, marked, marked_all, sweep}
 
 -- the farthest end, within n, of the vectors that start at a place; of those that start before it
-abbrev startEnd : ℕ → List Vector → ℕ → ℕ
-startEnd n [] p = 0
-startEnd n (v ∷ vs) p = max (cond (eqb v.offset.0 p) (end_in n v) 0) (startEnd n vs p)
+abbrev start_end : ℕ → List Vector → ℕ → ℕ
+start_end n [] p = 0
+start_end n (v ∷ vs) p = max (cond (eqb v.offset.0 p) (end_in n v) 0) (start_end n vs p)
 
-abbrev pub endBefore : ℕ → List Vector → ℕ → ℕ
-endBefore n [] p = 0
-endBefore n (v ∷ vs) p = max (cond (ltb v.offset.0 p) (end_in n v) 0) (endBefore n vs p)
+abbrev pub end_before : ℕ → List Vector → ℕ → ℕ
+end_before n [] p = 0
+end_before n (v ∷ vs) p = max (cond (ltb v.offset.0 p) (end_in n v) 0) (end_before n vs p)
 
 or-max : (p a b : ℕ) → ltb p a || ltb p b ≡ ltb p (max a b)
 or-max p a b = elim (which (ltb p a)) [
@@ -35,8 +35,8 @@ or-max p a b = elim (which (ltb p a)) [
 ]
 
 -- a place within n lies in a vector where it stands before its end and not before its start
-lies-end : (n p : ℕ) (v : Vector) → p < n → liesIn v p ≡ ltb p (cond (ltb v.offset.0 (p + 1)) (end_in n v) 0)
-unfolding liesIn
+lies-end : (n p : ℕ) (v : Vector) → p < n → lies_in v p ≡ ltb p (cond (ltb v.offset.0 (p + 1)) (end_in n v) 0)
+unfolding lies_in
 lies-end n p v h = elim (which (ltb v.offset.0 (p + 1))) [
   | inl e ↦ let k = ltb-true v.offset.0 (p + 1) e in rw (e, le-leb v.offset.0 p (omega arith)) (within (v.offset.0 + extent v))
   | inr e ↦ let k = ltb-false v.offset.0 (p + 1) e in rw (e, lt-leb v.offset.0 p (omega arith)) (sym (le-ltb p 0 (omega arith)))
@@ -47,8 +47,8 @@ lies-end n p v h = elim (which (ltb v.offset.0 (p + 1))) [
     | inr g ↦ let k = ltb-false p e g in rw g (sym (le-ltb p (min e n) (omega arith)))
   ]
 
-pub vectors-end : (n p : ℕ) (vs : List Vector) → p < n → liesInOne vs p ≡ ltb p (endBefore n vs (p + 1))
-unfolding liesInOne
+pub vectors-end : (n p : ℕ) (vs : List Vector) → p < n → lies_in_one vs p ≡ ltb p (end_before n vs (p + 1))
+unfolding lies_in_one
 vectors-end n p [] h = sym (le-ltb p 0 (omega arith))
 vectors-end n p (v ∷ vs) h = rw (lies-end n p v h, vectors-end n p vs h) (or-max p _ _)
 
@@ -64,15 +64,15 @@ end-one n p e o = elim (which (ltb o p)) [
   above : p ≤ o → (o ≡ p → ⊥) → p + 1 ≤ o
   above k r = omega arith
 
-end-next : (n p : ℕ) (vs : List Vector) → endBefore n vs (p + 1) ≡ max (endBefore n vs p) (startEnd n vs p)
+end-next : (n p : ℕ) (vs : List Vector) → end_before n vs (p + 1) ≡ max (end_before n vs p) (start_end n vs p)
 end-next n p [] = omega arith
 end-next n p (v ∷ vs) =
     rw (end-one n p (end_in n v) v.offset.0, end-next n p vs)
-    (swap (cond (ltb v.offset.0 p) (end_in n v) 0) (cond (eqb v.offset.0 p) (end_in n v) 0) (endBefore n vs p) (startEnd n vs p)) where
+    (swap (cond (ltb v.offset.0 p) (end_in n v) 0) (cond (eqb v.offset.0 p) (end_in n v) 0) (end_before n vs p) (start_end n vs p)) where
       swap : (a b c d : ℕ) → max (max a b) (max c d) ≡ max (max a c) (max b d)
       swap a b c d = omega arith
 
-pub end_none : (n : ℕ) (vs : List Vector) → endBefore n vs 0 ≡ 0
+pub end_none : (n : ℕ) (vs : List Vector) → end_before n vs 0 ≡ 0
 end_none n [] = refl
 end_none n (v ∷ vs) = rw (le-ltb v.offset.0 0 (omega arith), end_none n vs) (omega arith)
 
@@ -81,8 +81,8 @@ pub length_marked : (map : List ℕ) (v : Vector) → length (marked map v) ≡ 
 unfolding marked
 length_marked map v = simp length-set
 
-pub length-marks : (map : List ℕ) (vs : List Vector) → length (markedAll map vs) ≡ length map
-unfolding markedAll
+pub length-marks : (map : List ℕ) (vs : List Vector) → length (marked_all map vs) ≡ length map
+unfolding marked_all
 length-marks map [] = refl
 length-marks map (v ∷ vs) = length-marks (marked map v) vs ∙ length_marked map v
 
@@ -96,8 +96,8 @@ marked-at map v p h = elim (which (eqb v.offset.0 p)) [
       rw (e, get_or-set_other map v.offset.0 p (max (get_or map v.offset.0 0) (end_in (length map) v)) 0 (λ q. o (sym q))) (omega arith)
 ]
 
-marks-at : (map : List ℕ) (vs : List Vector) (p : ℕ) → p < length map → get_or (markedAll map vs) p 0 ≡ max (get_or map p 0) (startEnd (length map) vs p)
-unfolding markedAll
+marks-at : (map : List ℕ) (vs : List Vector) (p : ℕ) → p < length map → get_or (marked_all map vs) p 0 ≡ max (get_or map p 0) (start_end (length map) vs p)
+unfolding marked_all
 marks-at map [] p h = omega arith
 marks-at map (v ∷ vs) p h =
     let l = length_marked map v in
@@ -105,27 +105,27 @@ marks-at map (v ∷ vs) p h =
 
 -- the farthest end met so far, one place further
 pub far-next : (map : List ℕ) (vs : List Vector) → Clear map → (at : ℕ) → at < length map
-    → max (endBefore (length map) vs at) (get_or (markedAll map vs) at 0) ≡ endBefore (length map) vs (at + 1)
+    → max (end_before (length map) vs at) (get_or (marked_all map vs) at 0) ≡ end_before (length map) vs (at + 1)
 far-next map vs clear at h = rw (marks-at map vs at h, clear at, end-next (length map) at vs) (omega arith)
 
 -- the places before a start or in one of the vectors
-abbrev pub heldBy : ℕ → List Vector → ℕ → Bool
-heldBy start vs p = ltb p start || liesInOne vs p
+abbrev pub held_by : ℕ → List Vector → ℕ → Bool
+held_by start vs p = ltb p start || lies_in_one vs p
 
 module _ (map : List ℕ) (clear : Clear map) (start : ℕ) (vs : List Vector) where
   abbrev n : ℕ
   n = length map
 
-  sweep-from : (k at : ℕ) → at + k ≤ n → sweep (markedAll map vs) (max start (endBefore n vs at)) k at ≡ count (heldBy start vs) k at
+  sweep-from : (k at : ℕ) → at + k ≤ n → sweep (marked_all map vs) (max start (end_before n vs at)) k at ≡ count (held_by start vs) k at
   unfolding sweep count
   sweep-from zero at h = refl
   sweep-from (suc k) at h =
-      let far : max (max start (endBefore n vs at)) (get_or (markedAll map vs) at 0) ≡ max start (endBefore n vs (at + 1))
+      let far : max (max start (end_before n vs at)) (get_or (marked_all map vs) at 0) ≡ max start (end_before n vs (at + 1))
       = omega (arith, far-next map vs clear at (omega arith)) in
-      rw (far, vectors-end n at vs (omega arith), or-max at start (endBefore n vs (at + 1)))
-      (ap (λ (x : ℕ). one (ltb at (max start (endBefore n vs (at + 1)))) + x) (sweep-from k (at + 1) (omega arith)))
+      rw (far, vectors-end n at vs (omega arith), or-max at start (end_before n vs (at + 1)))
+      (ap (λ (x : ℕ). one (ltb at (max start (end_before n vs (at + 1)))) + x) (sweep-from k (at + 1) (omega arith)))
 
-  pub sweep-held : sweep (markedAll map vs) start n 0 ≡ count (heldBy start vs) n 0
+  pub sweep-held : sweep (marked_all map vs) start n 0 ≡ count (held_by start vs) n 0
   sweep-held =
-      let e : max start (endBefore n vs 0) ≡ start = rw (end_none n vs) (omega arith) in
+      let e : max start (end_before n vs 0) ≡ start = rw (end_none n vs) (omega arith) in
       rw e at (sweep-from n 0 (omega arith))

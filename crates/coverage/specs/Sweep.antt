@@ -19,9 +19,9 @@ end_in n v = min (v.offset.0 + extent v) n
 unfoldable pub marked : List ℕ → Vector → List ℕ
 marked map v = set map v.offset.0 (max (get_or map v.offset.0 0) (end_in (length map) v))
 
-unfoldable pub markedAll : List ℕ → List Vector → List ℕ
-markedAll map [] = map
-markedAll map (v ∷ vs) = markedAll (marked map v) vs
+unfoldable pub marked_all : List ℕ → List Vector → List ℕ
+marked_all map [] = map
+marked_all map (v ∷ vs) = marked_all (marked map v) vs
 
 unfoldable pub sweep : List ℕ → ℕ → ℕ → ℕ → ℕ
 sweep map far zero at = 0

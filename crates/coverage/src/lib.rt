@@ -1,9 +1,9 @@
 // The octets of a message that its vectors cover, and its vectors one by one.
 ghost use Rattle.std.specs.Prelude.{◌≡◌, ◌≤◌, ◌<◌, min, max, ◌^◌, ltb, length};
 ghost use Rattle.vector.specs.Vector.{part as Vector·part};
-ghost use Rattle.message.specs.Layout.{nego, alert, head_of, shape_of, headerOf, values_of, elementsOf, vectors_of, contentOf};
-ghost use Rattle.coverage.specs.Coverage.{one, octetsIn};
-ghost use Rattle.coverage.specs.Sweep.{Clear, marked, markedAll, sweep};
+ghost use Rattle.message.specs.Layout.{nego, alert, head_of, shape_of, header_of, values_of, elements_of, vectors_of, content_of};
+ghost use Rattle.coverage.specs.Coverage.{one, octets_in};
+ghost use Rattle.coverage.specs.Sweep.{Clear, marked, marked_all, sweep};
 
 use message::field::{
     alert_vector, checksum_vector, exchange_vector, extension_vector, octet_vector, scheme_vector,
@@ -70,7 +70,7 @@ fn mark(map: &mut [u32], v: Vector)
 // Marks the values of the elements of an array.
 fn mark_values(map: &mut [u32], array: &[u8])
     requires { length map.old < 2 ^ 32 }
-    ensures { map.new ≡ markedAll map.old (values_of (elementsOf array.now)) }
+    ensures { map.new ≡ marked_all map.old (values_of (elements_of array.now)) }
 {
     let mut left = array.len() / field::ELEMENT;
     let mut at: usize = 0;
@@ -84,7 +84,7 @@ fn mark_values(map: &mut [u32], array: &[u8])
 // Marks the vectors of a NEGO.
 fn mark_nego(map: &mut [u32], m: &[u8])
     requires { (length map.old < 2 ^ 32) × (96 ≤ length m.now) }
-    ensures { map.new ≡ markedAll map.old (vectors_of (contentOf nego m.now)) }
+    ensures { map.new ≡ marked_all map.old (vectors_of (content_of nego m.now)) }
 {
     mark(map, scheme_vector(m));
     let array = extension_vector(m);
@@ -95,7 +95,7 @@ fn mark_nego(map: &mut [u32], m: &[u8])
 // Marks the vectors of an ALERT.
 fn mark_alert(map: &mut [u32], m: &[u8])
     requires { (length map.old < 2 ^ 32) × (72 ≤ length m.now) }
-    ensures { map.new ≡ markedAll map.old (vectors_of (contentOf alert m.now)) }
+    ensures { map.new ≡ marked_all map.old (vectors_of (content_of alert m.now)) }
 {
     let array = alert_vector(m);
     mark(map, array);
@@ -104,8 +104,8 @@ fn mark_alert(map: &mut [u32], m: &[u8])
 
 // Marks the vectors of a message of a kind.
 pub fn mark_kind(map: &mut [u32], kind: Kind, m: &[u8])
-    requires { (length map.old < 2 ^ 32) × (headerOf (shape_of kind.0) ≤ length m.now) }
-    ensures { map.new ≡ markedAll map.old (vectors_of (contentOf (shape_of kind.0) m.now)) }
+    requires { (length map.old < 2 ^ 32) × (header_of (shape_of kind.0) ≤ length m.now) }
+    ensures { map.new ≡ marked_all map.old (vectors_of (content_of (shape_of kind.0) m.now)) }
 {
     if kind.0 <= Kind::ACCEPTOR_NEGO {
         mark_nego(map, m);
@@ -153,9 +153,9 @@ pub fn clear(map: &mut [u32])
 
 // The octets of a message of a kind, in a map with a cell for each.
 fn count_kind(map: &mut [u32], kind: Kind, m: &[u8]) -> Octets
-    requires { (length map.old < 2 ^ 32) × (length map.old ≡ length m.now) × (headerOf (shape_of kind.0) ≤ length m.now)
+    requires { (length map.old < 2 ^ 32) × (length map.old ≡ length m.now) × (header_of (shape_of kind.0) ≤ length m.now)
         × (kind.0 ≡ (head_of m.now).kind) }
-    ensures { result ≡ octetsIn m.now }
+    ensures { result ≡ octets_in m.now }
 {
     clear(map);
     mark_kind(map, kind, m);
@@ -172,7 +172,7 @@ fn count_kind(map: &mut [u32], kind: Kind, m: &[u8]) -> Octets
 // How many octets of a message lie in its header, in a vector, and in neither. The map is room to work in: a cell for each octet, and more.
 pub fn count_octets(map: &mut [u32], m: &[u8]) -> Octets
     requires { (length m.now < 2 ^ 32) × (length m.now ≤ length map.old) }
-    ensures { result ≡ octetsIn m.now }
+    ensures { result ≡ octets_in m.now }
 {
     let len = m.len();
     // No header is shorter than 64 octets.

@@ -1,7 +1,7 @@
 // The vectors of a message by number: the header's in order, then the nested ones.
 ghost use Rattle.std.specs.Prelude.{◌≡◌, ◌≤◌, ◌∷◌, [], length, get_or};
-ghost use Rattle.message.specs.Layout.{nego, alert, shape_of, headerOf, values_of, elementsOf, vectors_of, contentOf};
-ghost use Rattle.coverage.specs.Coverage.{noVector, vectorsIn, vectorIn};
+ghost use Rattle.message.specs.Layout.{nego, alert, shape_of, header_of, values_of, elements_of, vectors_of, content_of};
+ghost use Rattle.coverage.specs.Coverage.{no_vector, vectors_in, vector_in};
 
 use super::part;
 use message::field::{
@@ -13,7 +13,7 @@ use vector::{MessageOffset, Vector};
 
 // An empty vector, which stands beyond the last.
 fn none() -> Vector
-    ensures { result ≡ noVector }
+    ensures { result ≡ no_vector }
 {
     Vector {
         size: 1,
@@ -24,7 +24,7 @@ fn none() -> Vector
 
 // The value of element k of an array.
 fn value_of(array: &[u8], k: usize) -> Vector
-    ensures { result ≡ get_or (values_of (elementsOf array.now)) k noVector }
+    ensures { result ≡ get_or (values_of (elements_of array.now)) k no_vector }
 {
     if array.len() / field::ELEMENT <= k {
         return none();
@@ -34,7 +34,7 @@ fn value_of(array: &[u8], k: usize) -> Vector
 
 // The one vector of a message that has no other.
 fn only(v: Vector, k: usize) -> Vector
-    ensures { result ≡ get_or (v ∷ []) k noVector }
+    ensures { result ≡ get_or (v ∷ []) k no_vector }
 {
     if k == 0 {
         return v;
@@ -45,7 +45,7 @@ fn only(v: Vector, k: usize) -> Vector
 // A NEGO's.
 fn nego_vector(m: &[u8], k: usize) -> Vector
     requires { 96 ≤ length m.now }
-    ensures { result ≡ get_or (vectors_of (contentOf nego m.now)) k noVector }
+    ensures { result ≡ get_or (vectors_of (content_of nego m.now)) k no_vector }
 {
     if k == 0 {
         return scheme_vector(m);
@@ -60,7 +60,7 @@ fn nego_vector(m: &[u8], k: usize) -> Vector
 // An ALERT's.
 fn alert_vector(m: &[u8], k: usize) -> Vector
     requires { 72 ≤ length m.now }
-    ensures { result ≡ get_or (vectors_of (contentOf alert m.now)) k noVector }
+    ensures { result ≡ get_or (vectors_of (content_of alert m.now)) k no_vector }
 {
     let array = field::alert_vector(m);
     if k == 0 {
@@ -71,8 +71,8 @@ fn alert_vector(m: &[u8], k: usize) -> Vector
 
 // Those of a message of a kind.
 fn kind_vector(kind: Kind, m: &[u8], k: usize) -> Vector
-    requires { headerOf (shape_of kind.0) ≤ length m.now }
-    ensures { result ≡ get_or (vectors_of (contentOf (shape_of kind.0) m.now)) k noVector }
+    requires { header_of (shape_of kind.0) ≤ length m.now }
+    ensures { result ≡ get_or (vectors_of (content_of (shape_of kind.0) m.now)) k no_vector }
 {
     if kind.0 <= Kind::ACCEPTOR_NEGO {
         return nego_vector(m, k);
@@ -88,8 +88,8 @@ fn kind_vector(kind: Kind, m: &[u8], k: usize) -> Vector
 
 // How many a message of a kind has.
 fn kind_count(kind: Kind, m: &[u8]) -> usize
-    requires { headerOf (shape_of kind.0) ≤ length m.now }
-    ensures { result ≡ length (vectors_of (contentOf (shape_of kind.0) m.now)) }
+    requires { header_of (shape_of kind.0) ≤ length m.now }
+    ensures { result ≡ length (vectors_of (content_of (shape_of kind.0) m.now)) }
 {
     if kind.0 <= Kind::ACCEPTOR_NEGO {
         return 2 + part(m, extension_vector(m)).len() / field::ELEMENT;
@@ -102,7 +102,7 @@ fn kind_count(kind: Kind, m: &[u8]) -> usize
 
 // How many vectors a message has; none where it ends before its header does.
 pub fn vector_count(m: &[u8]) -> usize
-    ensures { result ≡ length (vectorsIn m.now) }
+    ensures { result ≡ length (vectors_in m.now) }
 {
     // No header is shorter than 64 octets.
     if m.len() < 64 {
@@ -117,7 +117,7 @@ pub fn vector_count(m: &[u8]) -> usize
 
 // Vector k of a message; an empty one at offset 0 beyond the last.
 pub fn vector_of(m: &[u8], k: usize) -> Vector
-    ensures { result ≡ vectorIn m.now k }
+    ensures { result ≡ vector_in m.now k }
 {
     if m.len() < 64 {
         return none();

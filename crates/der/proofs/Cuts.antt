@@ -13,14 +13,14 @@ use borrow.Author.Tests.{le-leb, eq-eqb, eqb-true, ltb-true}
 use Rattle.octets.proofs.Bools.{which}
 use Rattle.octets.proofs.Same.{same_refl, same-eq}
 use Rattle.der.specs.Got.{ok, check}
-use Rattle.der.specs.Element.{length_of, leadOf, size_of, Frame, framed, framedFrom, frame, indefinite, judged, element, cut, Part}
+use Rattle.der.specs.Element.{length_of, lead_of, size_of, Frame, framed, framed_from, frame, indefinite, judged, element, cut, Part}
 use Rattle.der.proofs.Gots.{bind_ok, check-ok, no_ok}
 use Rattle.der.proofs.Lengths.{Reads, length-reads}
 
 -- what is written is taken apart again
 framed-back : (c r : List ℕ) → length c ≤ 65535
-    → framedFrom (length_of (length c) ++ (c ++ r)) ≡ ok (record { lead = length_of (length c); contents = c; rest = r })
-unfolding framedFrom framed check
+    → framed_from (length_of (length c) ++ (c ++ r)) ≡ ok (record { lead = length_of (length c); contents = c; rest = r })
+unfolding framed_from framed check
 framed-back c r small =
     let v = length_of (length c) in
     let k : Reads (length c) v (c ++ r) = length-reads (length c) (c ++ r) small in
@@ -39,12 +39,12 @@ cut-back t p c r small right = rw (eq-eqb t t refl, append_assoc, framed-back c 
 in_three : (a n : ℕ) (s : List ℕ) → s ≡ take a s ++ (take n (drop a s) ++ drop (a + n) s)
 in_three a n s = sym (rw (← drop-drop n a s, take-append-drop n (drop a s), take-append-drop a s))
 
-framed-forth : (s : List ℕ) (f : Frame) → framedFrom s ≡ ok f → s ≡ f.lead ++ (f.contents ++ f.rest)
-unfolding framedFrom framed
+framed-forth : (s : List ℕ) (f : Frame) → framed_from s ≡ ok f → s ≡ f.lead ++ (f.contents ++ f.rest)
+unfolding framed_from framed
 framed-forth s f e =
     let (fits, e1) = check-ok _ 20 _ f e in
     let is : framed s ≡ f = cc in
-    rw (← is) (in_three (leadOf s) (size_of s) s)
+    rw (← is) (in_three (lead_of s) (size_of s) s)
 
 -- no shortest length is the octet 80
 not-indefinite : (n : ℕ) → length_of n ≡ 0x80 ∷ [] → ⊥
@@ -72,7 +72,7 @@ pub cut-forth : (t : ℕ) (p : List ℕ → Bool) (s : List ℕ) (q : Part (List
 unfolding cut frame element
 cut-forth t p [] q e = no_ok 20 q e
 cut-forth t p (x ∷ s) q e =
-    let (f, e1, e2) = bind_ok (check (eqb x t) 20 (framedFrom s)) _ q e in
+    let (f, e1, e2) = bind_ok (check (eqb x t) 20 (framed_from s)) _ q e in
     let (tag, e3) = check-ok _ 20 _ f e1 in
     let (right, lead_is, is) = judged-forth (p f.contents) f q e2 in
     let z : s ≡ length_of (length f.contents) ++ (f.contents ++ f.rest) =

@@ -9,10 +9,10 @@ use native.Mathlib.Omega.{arith}
 use lib.ListN.{length, take, drop, get_or}
 use lib.Dec.{leb}
 use borrow.Author.Tests.{le-leb, lt-leb, eq-eqb, ne_eqb}
-use Rattle.octets.specs.Octets.{sameOctets}
+use Rattle.octets.specs.Octets.{same_octets}
 use Rattle.der.specs.Got.{ok, check}
-use Rattle.der.specs.Element.{lengthIn, leadOf, size_of, framed, framedFrom, frame, indefinite, shortest, judged, cut}
-use Rattle.der.specs.Holder.{Holder, part, capped, toldFrame, FrameInside, Frames, Inside, Cuts, verdict}
+use Rattle.der.specs.Element.{length_in, lead_of, size_of, framed, framed_from, frame, indefinite, shortest, judged, cut}
+use Rattle.der.specs.Holder.{Holder, part, capped, told_frame, FrameInside, Frames, Inside, Cuts, verdict}
 use Rattle.der.specs.declared.Framed.{Framed}
 use Rattle.der.specs.declared.Framed.TheVariants as frames
 use Rattle.der.specs.declared.Cut.{Cut}
@@ -22,29 +22,29 @@ use Rattle.der.proofs.Parts.{part_none, part-cons, length_part, drop-part, take_
 -- from its length on
 module _ (s : List ℕ) (at end : ℕ) (h : Holder s at end) where
   abbrev Says : Framed → Type 0
-  Says r = Frames s at end (framedFrom (part s at end)) r
+  Says r = Frames s at end (framed_from (part s at end)) r
 
   size-of-v : length (part s at end) ≡ end - at
   size-of-v = length_part s at end h.order h.inside
 
-  cut_off : length (part s at end) < leadOf (part s at end) + size_of (part s at end) → Says (frames.Refused 20)
-  unfolding framedFrom check
-  cut_off k = record { same = sym (rw (lt-leb (leadOf (part s at end) + size_of (part s at end)) (length (part s at end)) k)); inside = tt }
+  cut_off : length (part s at end) < lead_of (part s at end) + size_of (part s at end) → Says (frames.Refused 20)
+  unfolding framed_from check
+  cut_off k = record { same = sym (rw (lt-leb (lead_of (part s at end) + size_of (part s at end)) (length (part s at end)) k)); inside = tt }
 
   pub frame-none : at ≡ end → Says (frames.Refused 20)
-  unfolding leadOf
+  unfolding lead_of
   frame-none k = cut_off (omega (arith, size-of-v))
 
   module _ (some : at ≡ end → ⊥) (k : ℕ) (k-is : k ≡ 1 + (get_or s at 0 - 128)) where
-    lead_is : leadOf (part s at end) ≡ k
-    unfolding leadOf
+    lead_is : lead_of (part s at end) ≡ k
+    unfolding lead_of
     lead_is = let o = h.order in rw (get_d_part s at end h.order h.inside 0 (omega arith), add-zero) (sym k-is)
 
     pub frame-cut : end - at < k → Says (frames.Refused 20)
     frame-cut g = let o = h.order in cut_off (omega (arith, size-of-v, lead_is))
 
-    module _ (fits : k ≤ end - at) (n : ℕ) (n-is : n ≡ capped (lengthIn (take (at + k - at) (drop at s)))) where
-      head-is : take (leadOf (part s at end)) (part s at end) ≡ part s at (at + k)
+    module _ (fits : k ≤ end - at) (n : ℕ) (n-is : n ≡ capped (length_in (take (at + k - at) (drop at s)))) where
+      head-is : take (lead_of (part s at end)) (part s at end) ≡ part s at (at + k)
       unfolding part
       head-is = let o = h.order in rw lead_is (take_part s at end h.order h.inside k (omega arith))
 
@@ -70,7 +70,7 @@ module _ (s : List ℕ) (at end : ℕ) (h : Holder s at end) where
         fit = let o = h.order in le-leb (k + n) (length (part s at end)) (omega (arith, size-of-v))
 
         pub frame_found : Says (frames.At at (at + k) (at + k + n))
-        unfolding framedFrom framed check
+        unfolding framed_from framed check
         frame_found =
             let o = h.order in
             let l : 0 < k = omega arith in
@@ -101,7 +101,7 @@ module _ (s : List ℕ) (at end t : ℕ) (h : Holder s at end) where
     pub tag-holder : Holder s (at + 1) end
     tag-holder = let o = h.order in record { order = omega arith; inside = h.inside; small = h.small }
 
-    pub tag-behind : get_or s at 0 ≡ t → (r : Framed) → Frames s (at + 1) end (framedFrom (part s (at + 1) end)) r → SaysTag r
+    pub tag-behind : get_or s at 0 ≡ t → (r : Framed) → Frames s (at + 1) end (framed_from (part s (at + 1) end)) r → SaysTag r
     unfolding frame check
     tag-behind k r c = record { same = c.same ∙ sym (rw (front, eq-eqb _ _ k)); inside = wider r c.inside } where
       wider : (r : Framed) → FrameInside (at + 1) end r → FrameInside at end r
@@ -115,7 +115,7 @@ module _ (right : Bool) (v : List ℕ) where
   pub passes-right : right ≡ true → true ≡ (right || indefinite v)
   passes-right h = rw h
 
-  pub passes-wrong : right ≡ false → (q : Bool) → q ≡ sameOctets v (0x80 ∷ []) → q ≡ (right || indefinite v)
+  pub passes-wrong : right ≡ false → (q : Bool) → q ≡ same_octets v (0x80 ∷ []) → q ≡ (right || indefinite v)
   passes-wrong h q e = rw h e
 
 pub ruleset passing = (passes-right, passes-wrong)
@@ -137,7 +137,7 @@ pub ruleset verdicts = (verdict-wrong, verdict-long, verdict-found)
 module _ (s : List ℕ) (at end t : ℕ) (h : Holder s at end) (f : Framed) (says : Frames s at end (frame t (part s at end)) f) where
   pub cut-refused : (p : List ℕ → Bool) (n : ℕ) → f ≡ frames.Refused n → Cuts s at end (cut t p (part s at end)) (Refused n)
   unfolding cut
-  cut-refused p n k = record { same = sym (rw (sym says.same ∙ ap (toldFrame s end) k)); inside = tt }
+  cut-refused p n k = record { same = sym (rw (sym says.same ∙ ap (told_frame s end) k)); inside = tt }
 
   module _ (l b e : ℕ) (f-is : f ≡ frames.At l b e) where
     places : FrameInside at end (frames.At l b e)
@@ -158,13 +158,13 @@ module _ (s : List ℕ) (at end t : ℕ) (h : Holder s at end) (f : Framed) (say
     pub cut_small : e - b ≤ 65535
     cut_small = let i = places in let j = h.inside in let m = h.small in omega arith
 
-    pub cut_by : (p : List ℕ → Bool) (r : Cut) (right : Bool) → right ≡ p (take (e - b) (drop b s)) → r ≡ verdict right (take (b - l) (drop l s)) b e
+    pub cut_by_lem : (p : List ℕ → Bool) (r : Cut) (right : Bool) → right ≡ p (take (e - b) (drop b s)) → r ≡ verdict right (take (b - l) (drop l s)) b e
         → Cuts s at end (cut t p (part s at end)) r
     unfolding cut judged check part
-    cut_by p r right right_is r-is =
+    cut_by_lem p r right right_is r-is =
         let i = places in let j = h.inside in
         let n : length (part s b e) ≡ e - b = length_part s b e i.2 (omega arith) in
-        rw (r-is, sym says.same ∙ ap (toldFrame s end) f-is, ← right_is, n)
+        rw (r-is, sym says.same ∙ ap (told_frame s end) f-is, ← right_is, n)
         (go right (indefinite (part s l b)) (shortest (part s l b) (e - b)) (omega arith, i.2, i.3)) where
           go : (x y z : Bool) → Inside at end (Element b e)
               → Cuts s at end (check (x || y) 20 (check z 21 (ok (record { value = part s b e; rest = part s e end }))))
@@ -175,4 +175,4 @@ module _ (s : List ℕ) (at end t : ℕ) (h : Holder s at end) (f : Framed) (say
           go false true false i = record { same = refl; inside = tt }
           go false false z i = record { same = refl; inside = tt }
 
-pub ruleset cutting = (cut-refused, cut-lead-order, cut-lead-end, cut-order, cut-end, cut_small, cut_by)
+pub ruleset cutting = (cut-refused, cut-lead-order, cut-lead-end, cut-order, cut-end, cut_small, cut_by_lem)

@@ -12,7 +12,7 @@ use borrow.Author.Tests.{eq-eqb, ne_eqb}
 use Rattle.octets.proofs.Bools.{which}
 use Rattle.der.specs.Got.{Got, ok}
 use Rattle.der.specs.Element.{element, cut, Part, any}
-use Rattle.der.specs.Grammar.{closed, within, only, starts, field, optional, fieldOctets}
+use Rattle.der.specs.Grammar.{closed, within, only, starts, field, optional, field_octets}
 use Rattle.der.proofs.Gots.{bind_ok, closed-ok}
 use Rattle.der.proofs.Cuts.{cut-back, cut-forth}
 
@@ -91,8 +91,8 @@ module _ (t u : ℕ) (p : List ℕ → Bool) where
   leaf-right none h = absurd h
   leaf-right (some c) h = h
 
-  field_is : (a : Option (List ℕ)) → Is a → element t (element u (some_of a)) ≡ fieldOctets t u a
-  unfolding fieldOctets some_of
+  field_is : (a : Option (List ℕ)) → Is a → element t (element u (some_of a)) ≡ field_octets t u a
+  unfolding field_octets some_of
   field_is none h = absurd h
   field_is (some c) h = refl
 
@@ -101,10 +101,10 @@ module _ (t u : ℕ) (p : List ℕ → Bool) where
   suits (some c) h = h
 
   pub optional-forth : (s : List ℕ) (q : Part (Option (List ℕ))) → optional t u p s ≡ ok q
-      → (s ≡ fieldOctets t u q.value ++ q.rest) × Suits q.value
-  unfolding optional field fieldOctets
+      → (s ≡ field_octets t u q.value ++ q.rest) × Suits q.value
+  unfolding optional field field_octets
   optional-forth s q e = go (which (starts t s)) where
-    go : (starts t s ≡ true) ⊎ (starts t s ≡ false) → (s ≡ fieldOctets t u q.value ++ q.rest) × Suits q.value
+    go : (starts t s ≡ true) ⊎ (starts t s ≡ false) → (s ≡ field_octets t u q.value ++ q.rest) × Suits q.value
     go (inl b) =
         let h =
         within-forth t any (only u p (λ c. ok (some c))) (λ a. element u (some_of a)) Is
@@ -118,9 +118,9 @@ module _ (t u : ℕ) (p : List ℕ → Bool) where
   unfolding starts element
   starts-element c r = eq-eqb t t refl
 
-  pub optional-back : (a : Option (List ℕ)) (r : List ℕ) → Suits a → starts t r ≡ false → length (fieldOctets t u a ++ r) ≤ 65535
-      → optional t u p (fieldOctets t u a ++ r) ≡ ok (record { value = a; rest = r })
-  unfolding optional field fieldOctets some_of
+  pub optional-back : (a : Option (List ℕ)) (r : List ℕ) → Suits a → starts t r ≡ false → length (field_octets t u a ++ r) ≤ 65535
+      → optional t u p (field_octets t u a ++ r) ≡ ok (record { value = a; rest = r })
+  unfolding optional field field_octets some_of
   optional-back none r h out short = rw out
   optional-back (some c) r h out short =
       rw (starts-element (element u c) r)
@@ -128,7 +128,7 @@ module _ (t u : ℕ) (p : List ℕ → Bool) where
       (only-back u p (λ c. ok (some c)) some_of Is leaf-back leaf-right) (λ a g. refl) (some c) r h short)
 
 -- a field of another tag in front
-pub starts-past : (t t' u : ℕ) (a : Option (List ℕ)) (r : List ℕ) → (t' ≡ t → ⊥) → starts t r ≡ false → starts t (fieldOctets t' u a ++ r) ≡ false
-unfolding starts fieldOctets element
+pub starts-past : (t t' u : ℕ) (a : Option (List ℕ)) (r : List ℕ) → (t' ≡ t → ⊥) → starts t r ≡ false → starts t (field_octets t' u a ++ r) ≡ false
+unfolding starts field_octets element
 starts-past t t' u none r h e = e
 starts-past t t' u (some c) r h e = ne_eqb t' t h

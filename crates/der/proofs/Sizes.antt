@@ -9,23 +9,23 @@ use lib.ListN.{length, take, drop, get_or}
 use lib.Seq.{take_all}
 use lib.Dec.{leb}
 use borrow.Author.Tests.{lt-ltb, le-ltb}
-use Rattle.octets.specs.Octets.{sameOctets}
-use Rattle.der.specs.Element.{length_of, lengthIn, number, shortest, at_most}
+use Rattle.octets.specs.Octets.{same_octets}
+use Rattle.der.specs.Element.{length_of, length_in, number, shortest, at_most}
 use Rattle.der.specs.Holder.{capped}
 
-pub size_none : (v : List ℕ) → length v ≡ 0 → 0 ≡ capped (lengthIn v)
-unfolding lengthIn
+pub size_none : (v : List ℕ) → length v ≡ 0 → 0 ≡ capped (length_in v)
+unfolding length_in
 size_none [] h = omega arith
 size_none (x ∷ v) h = absurd (omega arith)
 
-pub size-short : (v : List ℕ) → (length v ≡ 0 → ⊥) → get_or v 0 0 < 128 → (n : ℕ) → n ≡ get_or v 0 0 → n ≡ capped (lengthIn v)
-unfolding lengthIn
+pub size-short : (v : List ℕ) → (length v ≡ 0 → ⊥) → get_or v 0 0 < 128 → (n : ℕ) → n ≡ get_or v 0 0 → n ≡ capped (length_in v)
+unfolding length_in
 size-short [] h k n e = absurd (h refl)
 size-short (x ∷ v) h k n e = rw (lt-ltb x 128 k) (omega arith)
 
 pub size-long : (v : List ℕ) → (length v ≡ 0 → ⊥) → 128 ≤ get_or v 0 0 → (n : ℕ) → n ≡ capped (number (take (length v - 1) (drop 1 v)))
-    → n ≡ capped (lengthIn v)
-unfolding lengthIn
+    → n ≡ capped (length_in v)
+unfolding length_in
 size-long [] h k n e = absurd (h refl)
 size-long (x ∷ v) h k n e =
     let t : take (suc (length v) - 1) v ≡ v = take_all (suc (length v) - 1) v (omega arith) in
@@ -34,15 +34,15 @@ size-long (x ∷ v) h k n e =
 pub ruleset sizing = (size_none, size-short, size-long)
 
 module _ (n : ℕ) (v : List ℕ) (r : Bool) where
-  pub short-one : n < 128 → r ≡ sameOctets v (n ∷ []) → r ≡ shortest v n
+  pub short-one : n < 128 → r ≡ same_octets v (n ∷ []) → r ≡ shortest v n
   unfolding length_of
   short-one h e = rw (lt-ltb n 128 h) e
 
-  pub short-two : 128 ≤ n → n < 256 → r ≡ sameOctets v (0x81 ∷ n ∷ []) → r ≡ shortest v n
+  pub short-two : 128 ≤ n → n < 256 → r ≡ same_octets v (0x81 ∷ n ∷ []) → r ≡ shortest v n
   unfolding length_of
   short-two g h e = rw (le-ltb n 128 g, lt-ltb n 256 h) e
 
-  pub short-three : 256 ≤ n → r ≡ sameOctets v (0x82 ∷ n / 256 ∷ n % 256 ∷ []) → r ≡ shortest v n
+  pub short-three : 256 ≤ n → r ≡ same_octets v (0x82 ∷ n / 256 ∷ n % 256 ∷ []) → r ≡ shortest v n
   unfolding length_of
   short-three h e = let g : 128 ≤ n = omega arith in rw (le-ltb n 128 g, le-ltb n 256 h) e
 

@@ -7,7 +7,7 @@
 --   starts t s          the holder s begins with the octet t
 --   sole u p s          the contents of the element u, alone in the holder s
 --   field t u p s       the element t, in which the element u stands alone; optional: where it is there
---   fieldOctets t u c   the octets of such a field with the contents c, where it is there
+--   field_octets t u c   the octets of such a field with the contents c, where it is there
 use Rattle.std.specs.Prelude.{ℕ, Bool, false, cond, List, [], ◌∷◌, eqb}
 use Rattle.std.proofs.Math.Option.{Option, none, some}
 use Rattle.der.specs.Got.{Got, ok, no, bind}
@@ -38,6 +38,6 @@ field t u p s = within t any (sole u p) s
 unfoldable pub optional : ℕ → ℕ → (List ℕ → Bool) → List ℕ → Got (Part (Option (List ℕ)))
 optional t u p s = cond (starts t s) (field t u p s) (ok (record { value = none; rest = s }))
 
-unfoldable pub fieldOctets : ℕ → ℕ → Option (List ℕ) → List ℕ
-fieldOctets t u none = []
-fieldOctets t u (some c) = element t (element u c)
+unfoldable pub field_octets : ℕ → ℕ → Option (List ℕ) → List ℕ
+field_octets t u none = []
+field_octets t u (some c) = element t (element u c)

@@ -3,7 +3,7 @@
 -- Glossary
 --   Holder s at end   the octets of the buffer s from `at` to `end` are a holder; part s at end: these octets
 --   capped n          n, or 65,536 where it is larger
---   toldFrame, told   what an answer says of the buffer
+--   told_frame, told   what an answer says of the buffer
 --   FrameInside       where an element taken apart lies; Inside: where an element's contents lie
 --   Frames, Cuts      an answer says what the definition gives, and lies in the holder
 --   verdict           the answer about an element, where it is known whether its contents are right, and its length's octets are lent
@@ -26,16 +26,16 @@ part s at end = take (end - at) (drop at s)
 abbrev pub capped : ℕ → ℕ
 capped n = min n 65536
 
-abbrev pub toldFrame : List ℕ → ℕ → Framed → Got Frame
-toldFrame s end (frames.At l b e) = ok (record { lead = part s l b; contents = part s b e; rest = part s e end })
-toldFrame s end (frames.Refused n) = no n
+abbrev pub told_frame : List ℕ → ℕ → Framed → Got Frame
+told_frame s end (frames.At l b e) = ok (record { lead = part s l b; contents = part s b e; rest = part s e end })
+told_frame s end (frames.Refused n) = no n
 
 abbrev pub FrameInside : ℕ → ℕ → Framed → Type 0
 FrameInside at end (frames.At l b e) = (at ≤ l) × (l < b) × (b ≤ e) × (e ≤ end)
 FrameInside at end (frames.Refused n) = Unit {0}
 
 pub record Frames (s : List ℕ) (at end : ℕ) (g : Got Frame) (r : Framed) : Type 0 where
-  pub same : toldFrame s end r ≡ g
+  pub same : told_frame s end r ≡ g
   pub inside : FrameInside at end r
 
 abbrev pub told : List ℕ → ℕ → Cut → Got (Part (List ℕ))

@@ -1,7 +1,7 @@
 // Elements in DER. A holder is the part of the buffer from `at` to `end`.
 ghost use Rattle.std.specs.Prelude.{◌≡◌, ◌+◌, ◌-◌, ◌*◌, ◌≤◌, ◌||◌};
-ghost use Rattle.octets.specs.Octets.{sameOctets};
-ghost use Rattle.der.specs.Element.{number, lengthIn, shortest as Element·shortest, framedFrom, frame, indefinite, cut, any, exactly, at_most};
+ghost use Rattle.octets.specs.Octets.{same_octets};
+ghost use Rattle.der.specs.Element.{number, length_in, shortest as Element·shortest, framed_from, frame, indefinite, cut, any, exactly, at_most};
 ghost use Rattle.der.specs.Holder.{Holder, part, capped, Frames, Cuts, verdict};
 
 // An element taken apart: its length from the first place on, its contents from the second to the third; or a refusal's number.
@@ -20,7 +20,7 @@ pub enum Cut {
 
 // Whether two slices hold the same octets.
 pub fn same(a: &[u8], b: &[u8]) -> bool
-    ensures { result ≡ sameOctets a.now b.now }
+    ensures { result ≡ same_octets a.now b.now }
 {
     if a.len() != b.len() {
         return false;
@@ -72,7 +72,7 @@ fn lead(x: u8) -> usize
 
 // The number that the octets of a length say, capped.
 fn size(v: &[u8]) -> usize
-    ensures { result ≡ capped (lengthIn v.now) }
+    ensures { result ≡ capped (length_in v.now) }
 {
     if v.len() == 0 {
         return 0;
@@ -103,7 +103,7 @@ fn shortest(v: &[u8], n: usize) -> bool
 // An element from its length on.
 fn framed_from(s: &[u8], at: usize, end: usize) -> Framed
     requires { Holder s.now at end }
-    ensures { Frames s.now at end (framedFrom (part s.now at end)) result }
+    ensures { Frames s.now at end (framed_from (part s.now at end)) result }
 {
     if at == end {
         return Framed::Refused(20);

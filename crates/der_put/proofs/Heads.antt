@@ -13,18 +13,18 @@ use Rattle.octets.proofs.Bools.{which}
 use Rattle.put.specs.Put.{Written}
 use Rattle.put.proofs.Laws.{wrote, step, done, put-none}
 use Rattle.der.specs.Element.{length_of, element}
-use Rattle.der.specs.Grammar.{fieldOctets}
+use Rattle.der.specs.Grammar.{field_octets}
 use Rattle.der.specs.Holder.{capped}
-use Rattle.der_put.specs.Size.{head, headSize, elementSize, given, fieldSize}
+use Rattle.der_put.specs.Size.{head, head_size, element_size, given, field_size}
 
 -- one of three forms
 pub data Form (n : ℕ) : Type 0 where
-  one : n < 128 → headSize n ≡ 2 → length_of n ≡ n ∷ [] → Form n
-  two : 128 ≤ n → n < 256 → headSize n ≡ 3 → length_of n ≡ 0x81 ∷ n ∷ [] → Form n
-  three : 256 ≤ n → headSize n ≡ 4 → length_of n ≡ 0x82 ∷ n / 256 ∷ n % 256 ∷ [] → Form n
+  one : n < 128 → head_size n ≡ 2 → length_of n ≡ n ∷ [] → Form n
+  two : 128 ≤ n → n < 256 → head_size n ≡ 3 → length_of n ≡ 0x81 ∷ n ∷ [] → Form n
+  three : 256 ≤ n → head_size n ≡ 4 → length_of n ≡ 0x82 ∷ n / 256 ∷ n % 256 ∷ [] → Form n
 
 pub form : (n : ℕ) → Form n
-unfolding headSize length_of
+unfolding head_size length_of
 form n = go (which (ltb n 128)) (which (ltb n 256)) where
   go : (ltb n 128 ≡ true) ⊎ (ltb n 128 ≡ false) → (ltb n 256 ≡ true) ⊎ (ltb n 256 ≡ false) → Form n
   go (inl a) b = one (ltb-true n 128 a) (rw a) (rw a)
@@ -32,91 +32,91 @@ form n = go (which (ltb n 128)) (which (ltb n 256)) where
   go (inr a) (inr b) = three (ltb-false n 256 b) (rw (a, b)) (rw (a, b))
 
 module _ (n : ℕ) where
-  pub size-one : n < 128 → headSize n ≡ 2
-  unfolding headSize
+  pub size-one : n < 128 → head_size n ≡ 2
+  unfolding head_size
   size-one h = rw (lt-ltb n 128 h)
 
-  pub size-two : 128 ≤ n → n < 256 → headSize n ≡ 3
-  unfolding headSize
+  pub size-two : 128 ≤ n → n < 256 → head_size n ≡ 3
+  unfolding head_size
   size-two h k = rw (le-ltb n 128 h, lt-ltb n 256 k)
 
-  pub size-three : 256 ≤ n → headSize n ≡ 4
-  unfolding headSize
+  pub size-three : 256 ≤ n → head_size n ≡ 4
+  unfolding head_size
   size-three h = let g : 128 ≤ n = omega arith in rw (le-ltb n 128 g, le-ltb n 256 h)
 
-  pub element-one : n < 128 → 2 + n ≡ elementSize n
+  pub element-one : n < 128 → 2 + n ≡ element_size n
   element-one h = rw (size-one h)
 
-  pub element-two : 128 ≤ n → n < 256 → 3 + n ≡ elementSize n
+  pub element-two : 128 ≤ n → n < 256 → 3 + n ≡ element_size n
   element-two h k = rw (size-two h k)
 
-  pub element-three : 256 ≤ n → 4 + n ≡ elementSize n
+  pub element-three : 256 ≤ n → 4 + n ≡ element_size n
   element-three h = rw (size-three h)
 
 pub ruleset sizes = (element-one, element-two, element-three)
 
 pub ruleset heads = (size-one, size-two, size-three)
 
-pub size-bounds : (n : ℕ) → (2 ≤ headSize n) × (headSize n ≤ 4)
+pub size-bounds : (n : ℕ) → (2 ≤ head_size n) × (head_size n ≤ 4)
 size-bounds n = go (form n) where
-  go : Form n → (2 ≤ headSize n) × (headSize n ≤ 4)
+  go : Form n → (2 ≤ head_size n) × (head_size n ≤ 4)
   go (one h e x) = (omega arith, omega arith)
   go (two h k e x) = (omega arith, omega arith)
   go (three h e x) = (omega arith, omega arith)
 
-pub length-head : (t n : ℕ) → length (head t n) ≡ headSize n
+pub length-head : (t n : ℕ) → length (head t n) ≡ head_size n
 length-head t n = go (form n) where
-  go : Form n → length (head t n) ≡ headSize n
+  go : Form n → length (head t n) ≡ head_size n
   go (one h e x) = rw (e, x)
   go (two h k e x) = rw (e, x)
   go (three h e x) = rw (e, x)
 
-pub length-element : (t : ℕ) (c : List ℕ) → length (element t c) ≡ elementSize (length c)
+pub length-element : (t : ℕ) (c : List ℕ) → length (element t c) ≡ element_size (length c)
 unfolding element
 length-element t c = length-append (head t (length c)) c ∙ rw (length-head t (length c))
 
-pub length-field : (t u : ℕ) (b : Bool) (v : List ℕ) → length (fieldOctets t u (given b v)) ≡ fieldSize b (length v)
-unfolding fieldOctets
+pub length-field : (t u : ℕ) (b : Bool) (v : List ℕ) → length (field_octets t u (given b v)) ≡ field_size b (length v)
+unfolding field_octets
 length-field t u true v = length-element t (element u v) ∙ rw (length-element u v)
 length-field t u false v = refl
 
 -- a capped size says as much of what is around it
-pub capped-element : (x y : ℕ) → capped x ≡ capped y → capped (elementSize x) ≡ capped (elementSize y)
+pub capped-element : (x y : ℕ) → capped x ≡ capped y → capped (element_size x) ≡ capped (element_size y)
 capped-element x y e = go (which (ltb x 65536)) where
-  go : (ltb x 65536 ≡ true) ⊎ (ltb x 65536 ≡ false) → capped (elementSize x) ≡ capped (elementSize y)
+  go : (ltb x 65536 ≡ true) ⊎ (ltb x 65536 ≡ false) → capped (element_size x) ≡ capped (element_size y)
   go (inl a) = let h : x < 65536 = ltb-true x 65536 a in let z : x ≡ y = omega arith in rw z
   go (inr a) = let h : 65536 ≤ x = ltb-false x 65536 a in omega arith
 
 module _ (there : Bool) (n : ℕ) where
-  pub field-long : there ≡ true → 65535 < n → 65536 ≡ capped (fieldSize there n)
+  pub field-long : there ≡ true → 65535 < n → 65536 ≡ capped (field_size there n)
   field-long e h = rw e (omega arith)
 
-  pub field-size : there ≡ true → (a b c : ℕ) → a ≡ elementSize n → b ≡ elementSize a → c ≡ capped b → c ≡ capped (fieldSize there n)
+  pub field-size : there ≡ true → (a b c : ℕ) → a ≡ element_size n → b ≡ element_size a → c ≡ capped b → c ≡ capped (field_size there n)
   field-size e a b c x y z = rw e (z ∙ rw (y, x))
 
-  pub field-none : there ≡ false → 0 ≡ capped (fieldSize there n)
+  pub field-none : there ≡ false → 0 ≡ capped (field_size there n)
   field-none e = rw e (omega arith)
 
-pub size-limit : (n a : ℕ) → n ≤ 65535 → a ≡ elementSize n → a ≤ 1000000
+pub size-limit : (n a : ℕ) → n ≤ 65535 → a ≡ element_size n → a ≤ 1000000
 size-limit n a h e = let b = size-bounds n in omega arith
 
 pub ruleset fieldSizes = (field-long, field-size, field-none, size-limit)
 
 -- what was put is a head
 module _ (d : List ℕ) (at t n : ℕ) (d' : List ℕ) (r : ℕ) where
-  pub head-one : n < 128 → Written d at 2 (t ∷ n ∷ []) d' r → Written d at (headSize n) (head t n) d' r
+  pub head-one : n < 128 → Written d at 2 (t ∷ n ∷ []) d' r → Written d at (head_size n) (head t n) d' r
   unfolding length_of
   head-one h w = rw (size-one n h, lt-ltb n 128 h) w
 
-  pub head-two : 128 ≤ n → n < 256 → Written d at 3 (t ∷ 0x81 ∷ n ∷ []) d' r → Written d at (headSize n) (head t n) d' r
+  pub head-two : 128 ≤ n → n < 256 → Written d at 3 (t ∷ 0x81 ∷ n ∷ []) d' r → Written d at (head_size n) (head t n) d' r
   unfolding length_of
   head-two h k w = rw (size-two n h k, le-ltb n 128 h, lt-ltb n 256 k) w
 
-  pub head_three : 256 ≤ n → Written d at 4 (t ∷ 0x82 ∷ n / 256 ∷ n % 256 ∷ []) d' r → Written d at (headSize n) (head t n) d' r
+  pub head_three : 256 ≤ n → Written d at 4 (t ∷ 0x82 ∷ n / 256 ∷ n % 256 ∷ []) d' r → Written d at (head_size n) (head t n) d' r
   unfolding length_of
   head_three h w = let g : 128 ≤ n = omega arith in rw (size-three n h, le-ltb n 128 g, le-ltb n 256 h) w
 
-  module _ (l : ℕ) (room : at + headSize n ≤ l) where
+  module _ (l : ℕ) (room : at + head_size n ≤ l) where
     pub room-one : n < 128 → at + 2 ≤ l
     room-one h = rw (size-one n h) at room
 
@@ -140,35 +140,35 @@ nothing d at = record { size = refl; after = omega arith; holds = sym (put-none 
 
 -- room for a field
 pub record Room (n a at l b : ℕ) : Type 0 where
-  pub head-room : at + headSize a ≤ l
+  pub head-room : at + head_size a ≤ l
   pub inner-small : a ≤ 65535
-  pub inner_room : at + headSize a + elementSize n ≤ l
+  pub inner_room : at + head_size a + element_size n ≤ l
   pub small : n ≤ 65535
-  pub whole : b ≡ headSize a + elementSize n
+  pub whole : b ≡ head_size a + element_size n
 
-pub field_room : (there : Bool) (n a at l : ℕ) → there ≡ true → a ≡ elementSize n → at + fieldSize there n ≤ l → fieldSize there n ≤ 65535
-    → Room n a at l (fieldSize there n)
+pub field_room : (there : Bool) (n a at l : ℕ) → there ≡ true → a ≡ element_size n → at + field_size there n ≤ l → field_size there n ≤ 65535
+    → Room n a at l (field_size there n)
 field_room there n a at l e a-is room small =
-    let z : fieldSize there n ≡ headSize a + elementSize n = rw (e, a-is) in
+    let z : field_size there n ≡ head_size a + element_size n = rw (e, a-is) in
     let i = size-bounds n in let j = size-bounds a in
     record { head-room = omega arith; inner-small = omega arith; inner_room = omega arith; small = omega arith; whole = z }
 
 pub field-octets : (t u : ℕ) (there : Bool) (v : List ℕ) → there ≡ true
-    → fieldOctets t u (given there v) ≡ head t (elementSize (length v)) ++ element u v
-unfolding fieldOctets element
+    → field_octets t u (given there v) ≡ head t (element_size (length v)) ++ element u v
+unfolding field_octets element
 field-octets t u there v e = rw e (ap (λ (n : ℕ). head t n ++ element u v) (length-element u v))
 
 pub field-absent : (t u : ℕ) (there : Bool) (v d : List ℕ) (at : ℕ) → there ≡ false
-    → Written d at (fieldSize there (length v)) (fieldOctets t u (given there v)) d at
-unfolding fieldOctets
+    → Written d at (field_size there (length v)) (field_octets t u (given there v)) d at
+unfolding field_octets
 field-absent t u there v d at e = rw e (nothing d at)
 
 pub field_put : (t u : ℕ) (there : Bool) (v d : List ℕ) (at a : ℕ) (d1 : List ℕ) (a1 : ℕ) (d2 : List ℕ) (a2 : ℕ) → there ≡ true
-    → a ≡ elementSize (length v)
-    → Written d at (headSize a) (head t a) d1 a1 → Written d1 a1 (elementSize (length v)) (element u v) d2 a2
-    → at + fieldSize there (length v) ≤ length d
-    → Written d at (fieldSize there (length v)) (fieldOctets t u (given there v)) d2 a2
+    → a ≡ element_size (length v)
+    → Written d at (head_size a) (head t a) d1 a1 → Written d1 a1 (element_size (length v)) (element u v) d2 a2
+    → at + field_size there (length v) ≤ length d
+    → Written d at (field_size there (length v)) (field_octets t u (given there v)) d2 a2
 field_put t u there v d at a d1 a1 d2 a2 e a-is x y room =
-    let z : fieldSize there (length v) ≡ headSize a + elementSize (length v) = rw (e, a-is) in
-    let h : at + (headSize a + elementSize (length v)) ≤ length d = omega arith in
+    let z : field_size there (length v) ≡ head_size a + element_size (length v) = rw (e, a-is) in
+    let h : at + (head_size a + element_size (length v)) ≤ length d = omega arith in
     rw (field-octets t u there v e, e) (rw a-is at (both x y h))

@@ -2,16 +2,16 @@
 ghost use Rattle.std.specs.Prelude.{◌≡◌, ◌+◌, ◌≤◌, length};
 ghost use Rattle.put.specs.Put.{Written};
 ghost use Rattle.der.specs.Element.{element};
-ghost use Rattle.der.specs.Grammar.{fieldOctets};
+ghost use Rattle.der.specs.Grammar.{field_octets};
 ghost use Rattle.der.specs.Holder.{capped};
-ghost use Rattle.der_put.specs.Size.{head, headSize, elementSize, given, fieldSize};
+ghost use Rattle.der_put.specs.Size.{head, head_size, element_size, given, field_size};
 
 use put::put_octets;
 
 // How many octets an element has whose contents have n.
 pub fn element_size(n: usize) -> usize
     requires { n ≤ 1000000 }
-    ensures { result ≡ elementSize n }
+    ensures { result ≡ element_size n }
 {
     if n < 128 {
         return 2 + n;
@@ -31,7 +31,7 @@ pub fn cap(n: usize) -> usize
 
 // How many octets a field has, capped.
 pub fn field_size(there: bool, n: usize) -> usize
-    ensures { result ≡ capped (fieldSize there n) }
+    ensures { result ≡ capped (field_size there n) }
 {
     if there {
         if 65535 < n {
@@ -44,8 +44,8 @@ pub fn field_size(there: bool, n: usize) -> usize
 
 // A tag and a length.
 pub fn put_head(d: &mut [u8], at: usize, tag: u8, n: usize) -> usize
-    requires { (at + headSize n ≤ length d.old) × (n ≤ 65535) }
-    ensures { Written d.old at (headSize n) (head tag n) d.new result }
+    requires { (at + head_size n ≤ length d.old) × (n ≤ 65535) }
+    ensures { Written d.old at (head_size n) (head tag n) d.new result }
 {
     if n < 128 {
         let head = [tag, n as u8];
@@ -61,8 +61,8 @@ pub fn put_head(d: &mut [u8], at: usize, tag: u8, n: usize) -> usize
 
 // An element.
 pub fn put_element(d: &mut [u8], at: usize, tag: u8, v: &[u8]) -> usize
-    requires { (at + elementSize (length v.now) ≤ length d.old) × (length v.now ≤ 65535) }
-    ensures { Written d.old at (elementSize (length v.now)) (element tag v.now) d.new result }
+    requires { (at + element_size (length v.now) ≤ length d.old) × (length v.now ≤ 65535) }
+    ensures { Written d.old at (element_size (length v.now)) (element tag v.now) d.new result }
 {
     let contents_at = put_head(d, at, tag, v.len());
     put_octets(d, contents_at, v)
@@ -70,8 +70,8 @@ pub fn put_element(d: &mut [u8], at: usize, tag: u8, v: &[u8]) -> usize
 
 // A field, where it is there.
 pub fn put_field(d: &mut [u8], at: usize, tag: u8, inner: u8, there: bool, v: &[u8]) -> usize
-    requires { (at + fieldSize there (length v.now) ≤ length d.old) × (fieldSize there (length v.now) ≤ 65535) }
-    ensures { Written d.old at (fieldSize there (length v.now)) (fieldOctets tag inner (given there v.now))
+    requires { (at + field_size there (length v.now) ≤ length d.old) × (field_size there (length v.now) ≤ 65535) }
+    ensures { Written d.old at (field_size there (length v.now)) (field_octets tag inner (given there v.now))
         d.new result }
 {
     if there {

@@ -8,37 +8,37 @@ use native.Mathlib.Omega.{arith}
 use lib.ListN.{length, get_or}
 use Rattle.put.specs.Put.{put, joined, Written}
 use Rattle.put.proofs.Laws.{put-none, put-more, length-put}
-use Rattle.elements.specs.Elements.{elementFields, arrayFrom, sumFrom}
+use Rattle.elements.specs.Elements.{element_fields, array_from, sum_from}
 use Rattle.elements.proofs.Limits.{one_less, sum-turn}
 
-pub length-array : (n i p : ℕ) (ts ns : List ℕ) → length (arrayFrom n i p ts ns) ≡ 12 * n
-unfolding arrayFrom
+pub length-array : (n i p : ℕ) (ts ns : List ℕ) → length (array_from n i p ts ns) ≡ 12 * n
+unfolding array_from
 length-array zero i p ts ns = refl
 length-array (suc n) i p ts ns = let k = length-array n (i + 1) (p + get_or ns i 0) ts ns in omega arith
 
 module _ (ts ns d : List ℕ) (at count i p : ℕ) where
   pub array-turn : (d' : List ℕ) (next : ℕ) → i < count → at + 12 * (count - i) ≤ length d
-      → Written d at 12 (joined (elementFields (get_or ts i 0) p (get_or ns i 0))) d' next
-      → put d at (arrayFrom (count - i) i p ts ns) ≡ put d' next (arrayFrom (count - (i + 1)) (i + 1) (p + get_or ns i 0) ts ns)
-  unfolding arrayFrom
+      → Written d at 12 (joined (element_fields (get_or ts i 0) p (get_or ns i 0))) d' next
+      → put d at (array_from (count - i) i p ts ns) ≡ put d' next (array_from (count - (i + 1)) (i + 1) (p + get_or ns i 0) ts ns)
+  unfolding array_from
   array-turn d' next h room w =
-      let v = joined (elementFields (get_or ts i 0) p (get_or ns i 0)) in
-      let u = arrayFrom (count - (i + 1)) (i + 1) (p + get_or ns i 0) ts ns in
+      let v = joined (element_fields (get_or ts i 0) p (get_or ns i 0)) in
+      let u = array_from (count - (i + 1)) (i + 1) (p + get_or ns i 0) ts ns in
       let k : length u ≡ 12 * (count - (i + 1)) = length-array (count - (i + 1)) (i + 1) (p + get_or ns i 0) ts ns in
       let r : at + length v + length u ≤ length d = omega arith in
       rw (one_less count i h) (rw (w.holds, w.after) (sym (put-more d at v u r)))
 
-  pub array-end : count ≤ i → put d at (arrayFrom (count - i) i p ts ns) ≡ d
-  unfolding arrayFrom
+  pub array-end : count ≤ i → put d at (array_from (count - i) i p ts ns) ≡ d
+  unfolding array_from
   array-end h = let z : count - i ≡ 0 = omega arith in rw z (put-none d at)
 
 -- the loop's invariant
 pub record Left (ts ns d₀ : List ℕ) (at count first : ℕ) (d : List ℕ) (i place offset : ℕ) : Type 0 where
-  pub holds : put d₀ at (arrayFrom count 0 first ts ns) ≡ put d place (arrayFrom (count - i) i offset ts ns)
+  pub holds : put d₀ at (array_from count 0 first ts ns) ≡ put d place (array_from (count - i) i offset ts ns)
   pub size : length d ≡ length d₀
   pub more : i ≤ count
   pub there : place ≡ at + 12 * i
-  pub sum : offset + sumFrom (count - i) i ns ≡ first + sumFrom count 0 ns
+  pub sum : offset + sum_from (count - i) i ns ≡ first + sum_from count 0 ns
 
 module _ (ts ns d₀ : List ℕ) (at count first : ℕ) where
   pub left-start : Left ts ns d₀ at count first d₀ 0 at first
@@ -48,7 +48,7 @@ module _ (ts ns d₀ : List ℕ) (at count first : ℕ) where
     pub left-room : i < count → place + 12 ≤ length d
     left-room h = let a = l.there in let b = l.size in omega arith
 
-    pub left-turn : i < count → (d' : List ℕ) (next : ℕ) → Written d place 12 (joined (elementFields (get_or ts i 0) offset (get_or ns i 0))) d' next
+    pub left-turn : i < count → (d' : List ℕ) (next : ℕ) → Written d place 12 (joined (element_fields (get_or ts i 0) offset (get_or ns i 0))) d' next
         → Left ts ns d₀ at count first d' (i + 1) next (offset + get_or ns i 0)
     left-turn h d' next w =
         let a = l.there in
@@ -60,13 +60,13 @@ module _ (ts ns d₀ : List ℕ) (at count first : ℕ) where
         let r : place + 12 * (count - i) ≤ length d = omega arith in
         record {
           holds = l.holds ∙ array-turn ts ns d place count i offset d' next h r w;
-          size = ap length w.holds ∙ length-put d place (joined (elementFields (get_or ts i 0) offset (get_or ns i 0))) k ∙ b;
+          size = ap length w.holds ∙ length-put d place (joined (element_fields (get_or ts i 0) offset (get_or ns i 0))) k ∙ b;
           more = omega arith;
           there = omega arith;
           sum = omega arith;
         }
 
-    pub left_end : count ≤ i → Written d₀ at (12 * count) (arrayFrom count 0 first ts ns) d place
+    pub left_end : count ≤ i → Written d₀ at (12 * count) (array_from count 0 first ts ns) d place
     left_end h =
         let a = l.there in
         let m = l.more in

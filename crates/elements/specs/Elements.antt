@@ -5,25 +5,25 @@
 -- Glossary
 --   Item                 an extension or an alert to write: its type, as a 32-bit number, and its value
 --   offset_of n p         the stored offset of what has n octets or elements and stands at p: 0 where it is empty
---   elementFields t p n  the fields of one element of type t, whose value of n octets stands at p
+--   element_fields t p n  the fields of one element of type t, whose value of n octets stands at p
 --   array_of p xs         the octets of the array of xs, whose first value stands at p
---   itemValues xs        the values of xs, in order
---   itemOctets p xs      the octets of xs at p: the array, and the values behind it; itemsSize xs: how many they are
---   smallValues xs       no value has more than 4,096 octets; itemsFit xs: nor are there more than 8 of them
+--   item_values xs        the values of xs, in order
+--   item_octets p xs      the octets of xs at p: the array, and the values behind it; items_size xs: how many they are
+--   small_values xs       no value has more than 4,096 octets; items_fit xs: nor are there more than 8 of them
 --   ordinary xs          no type is critical
 --   items_of e v          what is handed over as e and the lent octets v; itemsFrom: n of them from place i on, their values from `at` on
---   sumFrom, smallFrom   of n sizes from place i on: their sum, and that none is above 4,096
---   arrayFrom            the array of what is handed over, which needs types and sizes alone: n elements from place i on, the first value standing at p
---   elementsFit e v      what is handed over keeps its limits (25)
---   handedSize e v       how many octets they are written as, array and values; 0 where they break their limits
---   typesOrdinary e      no type handed over is critical (26); ordinaryFrom: of n types from place i on
---   noElements           nothing handed over
---   pulseValue           the value of a pulse; pulses: one alert, a pulse; pulseElements: as it is handed over, with that value lent
+--   sum_from, small_from   of n sizes from place i on: their sum, and that none is above 4,096
+--   array_from            the array of what is handed over, which needs types and sizes alone: n elements from place i on, the first value standing at p
+--   elements_fit e v      what is handed over keeps its limits (25)
+--   handed_size e v       how many octets they are written as, array and values; 0 where they break their limits
+--   types_ordinary e      no type handed over is critical (26); ordinaryFrom: of n types from place i on
+--   no_elements           nothing handed over
+--   pulse_value           the value of a pulse; pulses: one alert, a pulse; pulseElements: as it is handed over, with that value lent
 --   HandedWhole          what keeps its limits is a list that keeps them: of so many items, whose values joined are the lent octets
 --   TypesAlone           whether an item is critical is known from the types alone
 use Rattle.std.specs.Prelude.{◌≡◌, ℕ, zero, suc, ◌+◌, ◌*◌, Bool, true, cond, not, ◌&&◌, List, [], ◌∷◌, ◌++◌, length, get_or, take, drop, leb, eqb}
 use Rattle.octets.specs.Octets.{signed32, negative}
-use Rattle.put.specs.Put.{octetsOf, joined}
+use Rattle.put.specs.Put.{octets_of, joined}
 use Rattle.elements.specs.declared.Elements.{Elements}
 
 pub record Item : Type 0 where
@@ -36,31 +36,31 @@ offset_of zero p = 0
 offset_of (suc n) p = p
 
 -- "extension 12 (type 4, octet vector 8); alert 12 (the same shape)"
-abbrev pub elementFields : ℕ → ℕ → ℕ → List (List ℕ)
-elementFields type p n = octetsOf 4 type ∷ octetsOf 4 (offset_of n p) ∷ octetsOf 4 n ∷ []
+abbrev pub element_fields : ℕ → ℕ → ℕ → List (List ℕ)
+element_fields type p n = octets_of 4 type ∷ octets_of 4 (offset_of n p) ∷ octets_of 4 n ∷ []
 
 abbrev pub array_of : ℕ → List Item → List ℕ
 array_of p [] = []
-array_of p (x ∷ xs) = joined (elementFields x.type p (length x.value)) ++ array_of (p + length x.value) xs
+array_of p (x ∷ xs) = joined (element_fields x.type p (length x.value)) ++ array_of (p + length x.value) xs
 
-abbrev pub itemValues : List Item → List (List ℕ)
-itemValues [] = []
-itemValues (x ∷ xs) = x.value ∷ itemValues xs
+abbrev pub item_values : List Item → List (List ℕ)
+item_values [] = []
+item_values (x ∷ xs) = x.value ∷ item_values xs
 
 -- "values after the array, in order, without gaps"
-unfoldable pub itemOctets : ℕ → List Item → List ℕ
-itemOctets p xs = array_of (p + 12 * length xs) xs ++ joined (itemValues xs)
+unfoldable pub item_octets : ℕ → List Item → List ℕ
+item_octets p xs = array_of (p + 12 * length xs) xs ++ joined (item_values xs)
 
-abbrev pub itemsSize : List Item → ℕ
-itemsSize xs = 12 * length xs + length (joined (itemValues xs))
+abbrev pub items_size : List Item → ℕ
+items_size xs = 12 * length xs + length (joined (item_values xs))
 
 -- "up to 8 extensions with values of up to 4,096 octets"
-abbrev pub smallValues : List Item → Bool
-smallValues [] = true
-smallValues (x ∷ xs) = leb (length x.value) 4096 && smallValues xs
+abbrev pub small_values : List Item → Bool
+small_values [] = true
+small_values (x ∷ xs) = leb (length x.value) 4096 && small_values xs
 
-unfoldable pub itemsFit : List Item → Bool
-itemsFit xs = leb (length xs) 8 && smallValues xs
+unfoldable pub items_fit : List Item → Bool
+items_fit xs = leb (length xs) 8 && small_values xs
 
 -- "Every negative extension type is critical."
 abbrev pub ordinary : List Item → Bool
@@ -68,60 +68,60 @@ ordinary [] = true
 ordinary (x ∷ xs) = not (negative (signed32 x.type)) && ordinary xs
 
 -- Each value is as many of the lent octets as its size says, from where the one before it ends.
-abbrev pub itemsFrom : ℕ → ℕ → ℕ → List ℕ → List ℕ → List ℕ → List Item
-itemsFrom zero i at types sizes v = []
-itemsFrom (suc n) i at types sizes v =
+abbrev pub items_from : ℕ → ℕ → ℕ → List ℕ → List ℕ → List ℕ → List Item
+items_from zero i at types sizes v = []
+items_from (suc n) i at types sizes v =
     record { type = get_or types i 0; value = take (get_or sizes i 0) (drop at v) }
-    ∷ itemsFrom n (i + 1) (at + get_or sizes i 0) types sizes v
+    ∷ items_from n (i + 1) (at + get_or sizes i 0) types sizes v
 
 unfoldable pub items_of : Elements → List ℕ → List Item
-items_of e v = itemsFrom e.count 0 0 e.types e.sizes v
+items_of e v = items_from e.count 0 0 e.types e.sizes v
 
-unfoldable pub sumFrom : ℕ → ℕ → List ℕ → ℕ
-sumFrom zero i sizes = 0
-sumFrom (suc n) i sizes = get_or sizes i 0 + sumFrom n (i + 1) sizes
+unfoldable pub sum_from : ℕ → ℕ → List ℕ → ℕ
+sum_from zero i sizes = 0
+sum_from (suc n) i sizes = get_or sizes i 0 + sum_from n (i + 1) sizes
 
-unfoldable pub smallFrom : ℕ → ℕ → List ℕ → Bool
-smallFrom zero i sizes = true
-smallFrom (suc n) i sizes = leb (get_or sizes i 0) 4096 && smallFrom n (i + 1) sizes
+unfoldable pub small_from : ℕ → ℕ → List ℕ → Bool
+small_from zero i sizes = true
+small_from (suc n) i sizes = leb (get_or sizes i 0) 4096 && small_from n (i + 1) sizes
 
-unfoldable pub arrayFrom : ℕ → ℕ → ℕ → List ℕ → List ℕ → List ℕ
-arrayFrom zero i p types sizes = []
-arrayFrom (suc n) i p types sizes =
-    joined (elementFields (get_or types i 0) p (get_or sizes i 0)) ++ arrayFrom n (i + 1) (p + get_or sizes i 0) types sizes
+unfoldable pub array_from : ℕ → ℕ → ℕ → List ℕ → List ℕ → List ℕ
+array_from zero i p types sizes = []
+array_from (suc n) i p types sizes =
+    joined (element_fields (get_or types i 0) p (get_or sizes i 0)) ++ array_from n (i + 1) (p + get_or sizes i 0) types sizes
 
 -- "25 a count or value beyond its limit"; sizes that don't sum to the number of lent octets, too
-unfoldable pub elementsFit : Elements → List ℕ → Bool
-elementsFit e v = leb e.count 8 && (smallFrom e.count 0 e.sizes && eqb (sumFrom e.count 0 e.sizes) (length v))
+unfoldable pub elements_fit : Elements → List ℕ → Bool
+elements_fit e v = leb e.count 8 && (small_from e.count 0 e.sizes && eqb (sum_from e.count 0 e.sizes) (length v))
 
-unfoldable pub handedSize : Elements → List ℕ → ℕ
-handedSize e v = cond (elementsFit e v) (12 * e.count + length v) 0
+unfoldable pub handed_size : Elements → List ℕ → ℕ
+handed_size e v = cond (elements_fit e v) (12 * e.count + length v) 0
 
 -- "26 a critical type outside a test call"
-unfoldable pub ordinaryFrom : ℕ → ℕ → List ℕ → Bool
-ordinaryFrom zero i types = true
-ordinaryFrom (suc n) i types = not (negative (signed32 (get_or types i 0))) && ordinaryFrom n (i + 1) types
+unfoldable pub ordinary_from : ℕ → ℕ → List ℕ → Bool
+ordinary_from zero i types = true
+ordinary_from (suc n) i types = not (negative (signed32 (get_or types i 0))) && ordinary_from n (i + 1) types
 
-abbrev pub typesOrdinary : Elements → Bool
-typesOrdinary e = ordinaryFrom e.count 0 e.types
+abbrev pub types_ordinary : Elements → Bool
+types_ordinary e = ordinary_from e.count 0 e.types
 
-abbrev pub noElements : Elements
-noElements = record { count = 0; types = 0 ∷ 0 ∷ 0 ∷ 0 ∷ 0 ∷ 0 ∷ 0 ∷ 0 ∷ []; sizes = 0 ∷ 0 ∷ 0 ∷ 0 ∷ 0 ∷ 0 ∷ 0 ∷ 0 ∷ [] }
+abbrev pub no_elements : Elements
+no_elements = record { count = 0; types = 0 ∷ 0 ∷ 0 ∷ 0 ∷ 0 ∷ 0 ∷ 0 ∷ 0 ∷ []; sizes = 0 ∷ 0 ∷ 0 ∷ 0 ∷ 0 ∷ 0 ∷ 0 ∷ 0 ∷ [] }
 
 -- "A written pulse alert has type 1 and an eight-octet value: length 8, reason 1."
-abbrev pub pulseValue : List ℕ
-pulseValue = octetsOf 4 8 ++ octetsOf 4 1
+abbrev pub pulse_value : List ℕ
+pulse_value = octets_of 4 8 ++ octets_of 4 1
 
 abbrev pub pulses : List Item
-pulses = record { type = 1; value = pulseValue } ∷ []
+pulses = record { type = 1; value = pulse_value } ∷ []
 
-abbrev pub pulseElements : Elements
-pulseElements = record { count = 1; types = 1 ∷ 0 ∷ 0 ∷ 0 ∷ 0 ∷ 0 ∷ 0 ∷ 0 ∷ []; sizes = 8 ∷ 0 ∷ 0 ∷ 0 ∷ 0 ∷ 0 ∷ 0 ∷ 0 ∷ [] }
+abbrev pub pulse_elements : Elements
+pulse_elements = record { count = 1; types = 1 ∷ 0 ∷ 0 ∷ 0 ∷ 0 ∷ 0 ∷ 0 ∷ 0 ∷ []; sizes = 8 ∷ 0 ∷ 0 ∷ 0 ∷ 0 ∷ 0 ∷ 0 ∷ 0 ∷ [] }
 
 abbrev pub HandedWhole : Type 0
 HandedWhole =
-    (e : Elements) (v : List ℕ) → elementsFit e v ≡ true
-    → (length (items_of e v) ≡ e.count) × ((joined (itemValues (items_of e v)) ≡ v) × (itemsFit (items_of e v) ≡ true))
+    (e : Elements) (v : List ℕ) → elements_fit e v ≡ true
+    → (length (items_of e v) ≡ e.count) × ((joined (item_values (items_of e v)) ≡ v) × (items_fit (items_of e v) ≡ true))
 
 abbrev pub TypesAlone : Type 0
-TypesAlone = (e : Elements) (v : List ℕ) → typesOrdinary e ≡ ordinary (items_of e v)
+TypesAlone = (e : Elements) (v : List ℕ) → types_ordinary e ≡ ordinary (items_of e v)

@@ -2,7 +2,7 @@
 ghost use Rattle.std.specs.Prelude.{◌≡◌, true, ◌+◌, ◌*◌, ◌≤◌, ◌<◌, length};
 ghost use Rattle.octets.specs.Octets.{signed32, negative};
 ghost use Rattle.put.specs.Put.{Written, joined};
-ghost use Rattle.elements.specs.Elements.{offset_of, elementFields, arrayFrom, sumFrom, itemOctets, items_of, elementsFit, handedSize, typesOrdinary, noElements, pulseElements, pulseValue};
+ghost use Rattle.elements.specs.Elements.{offset_of, element_fields, array_from, sum_from, item_octets, items_of, elements_fit, handed_size, types_ordinary, no_elements, pulse_elements, pulse_value};
 
 use message::field;
 use octets::to_i32;
@@ -32,7 +32,7 @@ impl Elements {
 
     // None.
     pub fn none() -> Elements
-        ensures { result ≡ noElements }
+        ensures { result ≡ no_elements }
     {
         let zeros = [0u32; 8];
         Elements {
@@ -44,7 +44,7 @@ impl Elements {
 
     // The pulse, one alert. Its value is lent beside it: `pulse_value`.
     pub fn pulse() -> Elements
-        ensures { result ≡ pulseElements }
+        ensures { result ≡ pulse_elements }
     {
         let types = [Elements::PULSE_TYPE, 0, 0, 0, 0, 0, 0, 0];
         let sizes = [Elements::PULSE_LENGTH, 0, 0, 0, 0, 0, 0, 0];
@@ -57,7 +57,7 @@ impl Elements {
 
     // A pulse's value.
     pub fn pulse_value() -> [u8; 8]
-        ensures { result ≡ pulseValue }
+        ensures { result ≡ pulse_value }
     {
         [
             Elements::PULSE_LENGTH as u8,
@@ -74,7 +74,7 @@ impl Elements {
 
 // Whether elements keep their limits, and their sizes sum to the lent octets. No size is added before it is found small, so that no sum wraps.
 pub fn fits(e: Elements, values: &[u8]) -> bool
-    ensures { result ≡ elementsFit e values.now }
+    ensures { result ≡ elements_fit e values.now }
 {
     let count = e.count;
     let sizes = e.sizes;
@@ -96,7 +96,7 @@ pub fn fits(e: Elements, values: &[u8]) -> bool
 
 // How many octets elements are written as, array and values. Those that break their limits are not written: 0.
 pub fn size_of(e: Elements, values: &[u8]) -> usize
-    ensures { result ≡ handedSize e values.now }
+    ensures { result ≡ handed_size e values.now }
 {
     if fits(e, values) {
         return field::ELEMENT * e.count + values.len();
@@ -114,7 +114,7 @@ fn is_critical(kind: u32) -> bool
 // Whether no type is critical.
 pub fn are_ordinary(e: Elements) -> bool
     requires { e.count ≤ 8 }
-    ensures { result ≡ typesOrdinary e }
+    ensures { result ≡ types_ordinary e }
 {
     let count = e.count;
     let types = e.types;
@@ -139,7 +139,7 @@ pub fn offset_of(size: usize, offset: MessageOffset) -> MessageOffset
 // One element, whose value stands at an offset.
 fn put_element(d: &mut [u8], at: usize, kind: u32, offset: MessageOffset, size: u32) -> usize
     requires { at + 12 ≤ length d.old }
-    ensures { Written d.old at 12 (joined (elementFields kind offset.0 size)) d.new result }
+    ensures { Written d.old at 12 (joined (element_fields kind offset.0 size)) d.new result }
 {
     let stored = offset_of(size as usize, offset);
     let offset_at = put_u32(d, at, kind);
@@ -149,8 +149,8 @@ fn put_element(d: &mut [u8], at: usize, kind: u32, offset: MessageOffset, size: 
 
 // The array, whose first value stands at an offset, and each further one where the one before it ends.
 fn put_array(d: &mut [u8], at: usize, e: Elements, first: MessageOffset) -> usize
-    requires { (e.count ≤ 8) × ((at + 12 * e.count ≤ length d.old) × (first.0 + sumFrom e.count 0 e.sizes < 4294967296)) }
-    ensures { Written d.old at (12 * e.count) (arrayFrom e.count 0 first.0 e.types e.sizes) d.new result }
+    requires { (e.count ≤ 8) × ((at + 12 * e.count ≤ length d.old) × (first.0 + sum_from e.count 0 e.sizes < 4294967296)) }
+    ensures { Written d.old at (12 * e.count) (array_from e.count 0 first.0 e.types e.sizes) d.new result }
 {
     let count = e.count;
     let types = e.types;
@@ -176,9 +176,9 @@ pub fn put_elements(
     values: &[u8],
     offset: MessageOffset,
 ) -> usize
-    requires { (elementsFit e values.now ≡ true) × ((at + (12 * e.count + length values.now) ≤ length d.old) × (offset.0 ≤ 4294900000)) }
+    requires { (elements_fit e values.now ≡ true) × ((at + (12 * e.count + length values.now) ≤ length d.old) × (offset.0 ≤ 4294900000)) }
     ensures { Written d.old at (12 * e.count + length values.now)
-        (itemOctets offset.0 (items_of e values.now)) d.new result }
+        (item_octets offset.0 (items_of e values.now)) d.new result }
 {
     let size = field::ELEMENT as u32 * e.count as u32;
     let first = MessageOffset(offset.0 + size);

@@ -1,8 +1,8 @@
 // ALERT, with its alerts.
 ghost use Rattle.std.specs.Prelude.{◌≡◌, true, ◌++◌, ◌+◌, ◌*◌, ◌≤◌, length};
 ghost use Rattle.put.specs.Put.{Written, joined};
-ghost use Rattle.elements.specs.Elements.{items_of, elementsFit};
-ghost use Rattle.encode.specs.Encode.{headFields, alertFields, encoded, alertOf, told, storingHanded};
+ghost use Rattle.elements.specs.Elements.{items_of, elements_fit};
+ghost use Rattle.encode.specs.Encode.{head_fields, alert_fields, encoded, alert_of, told, storing_handed};
 
 use elements::{Elements, fits, offset_of, put_elements};
 use encode::{Heading, Stored, has_room, put_head, put_vector};
@@ -22,7 +22,7 @@ fn put_header(
     alerts: u16,
 ) -> usize
     requires { at + 72 ≤ length d.old }
-    ensures { Written d.old at 72 (joined (headFields heading size ++ alertFields scheme code offset.0 alerts))
+    ensures { Written d.old at 72 (joined (head_fields heading size ++ alert_fields scheme code offset.0 alerts))
         d.new result }
 {
     let scheme_at = put_head(d, at, heading, size);
@@ -42,10 +42,10 @@ fn put_alert(
     alerts: Elements,
     values: &[u8],
 ) -> usize
-    requires { (elementsFit alerts values.now ≡ true)
+    requires { (elements_fit alerts values.now ≡ true)
         × ((at + (72 + (12 * alerts.count + length values.now)) ≤ length d.old) × ((alerts.count ≤ 8) × (length values.now ≤ 32768))) }
     ensures { Written d.old at (72 + (12 * alerts.count + length values.now))
-        (encoded heading (alertOf scheme code (items_of alerts values.now))) d.new result }
+        (encoded heading (alert_of scheme code (items_of alerts values.now))) d.new result }
 {
     let count = alerts.count;
     let size = (Kind::ALERT_HEADER_LEN + (field::ELEMENT * count + values.len())) as u32;
@@ -70,8 +70,8 @@ pub fn write(
     alerts: Elements,
     values: &[u8],
 ) -> Stored
-    ensures { told result d.new ≡ storingHanded (elementsFit alerts values.now) d.old at heading
-        (alertOf scheme code (items_of alerts values.now)) }
+    ensures { told result d.new ≡ storing_handed (elements_fit alerts values.now) d.old at heading
+        (alert_of scheme code (items_of alerts values.now)) }
 {
     if heading.kind.0 != Kind::ALERT {
         return Stored::Nothing;

@@ -1,7 +1,7 @@
 // INITIATOR_META_DATA, ACCEPTOR_META_DATA, CHALLENGE and AP_REQUEST.
 ghost use Rattle.std.specs.Prelude.{◌≡◌, ◌+◌, ◌≤◌, length};
 ghost use Rattle.put.specs.Put.{Written};
-ghost use Rattle.encode.specs.Encode.{encoded, exchangeOf, told, storing};
+ghost use Rattle.encode.specs.Encode.{encoded, exchange_of, told, storing};
 
 use encode::{Heading, Stored, has_room, put_head, put_octet_vector};
 use message::Kind;
@@ -14,7 +14,7 @@ const MOST: usize = 4294967295 - Kind::EXCHANGE_HEADER_LEN;
 // The message, where it has room.
 fn put_exchange(d: &mut [u8], at: usize, heading: Heading, scheme: [u8; 16], value: &[u8]) -> usize
     requires { (at + (64 + length value.now) ≤ length d.old) × (length value.now ≤ 4294967231) }
-    ensures { Written d.old at (64 + length value.now) (encoded heading (exchangeOf scheme value.now))
+    ensures { Written d.old at (64 + length value.now) (encoded heading (exchange_of scheme value.now))
         d.new result }
 {
     let length = value.len();
@@ -31,7 +31,7 @@ fn put_exchange(d: &mut [u8], at: usize, heading: Heading, scheme: [u8; 16], val
 
 // Writes a message that carries an exchange or metadata at a place.
 pub fn write(d: &mut [u8], at: usize, heading: Heading, scheme: [u8; 16], value: &[u8]) -> Stored
-    ensures { told result d.new ≡ storing d.old at heading (exchangeOf scheme value.now) }
+    ensures { told result d.new ≡ storing d.old at heading (exchange_of scheme value.now) }
 {
     if heading.kind.0 < Kind::INITIATOR_META_DATA {
         return Stored::Nothing;

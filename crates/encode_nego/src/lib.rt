@@ -1,8 +1,8 @@
 // INITIATOR_NEGO and ACCEPTOR_NEGO.
 ghost use Rattle.std.specs.Prelude.{◌≡◌, true, ◌++◌, ◌+◌, ◌*◌, ◌≤◌, length};
 ghost use Rattle.put.specs.Put.{Written, joined};
-ghost use Rattle.elements.specs.Elements.{items_of, elementsFit};
-ghost use Rattle.encode.specs.Encode.{headFields, negoFields, encoded, negoOf, told, storingHanded};
+ghost use Rattle.elements.specs.Elements.{items_of, elements_fit};
+ghost use Rattle.encode.specs.Encode.{head_fields, nego_fields, encoded, nego_of, told, storing_handed};
 
 use elements::{Elements, fits, offset_of, put_elements};
 use encode::{Heading, Stored, has_room, put_head, put_vector};
@@ -25,7 +25,7 @@ fn put_header(
     extensions: u16,
 ) -> usize
     requires { at + 96 ≤ length d.old }
-    ensures { Written d.old at 96 (joined (headFields heading size ++ negoFields random schemes offset.0 extensions))
+    ensures { Written d.old at 96 (joined (head_fields heading size ++ nego_fields random schemes offset.0 extensions))
         d.new result }
 {
     let version = [0u8; 8];
@@ -46,11 +46,11 @@ fn put_nego(
     extensions: Elements,
     values: &[u8],
 ) -> usize
-    requires { (elementsFit extensions values.now ≡ true)
+    requires { (elements_fit extensions values.now ≡ true)
         × ((at + (96 + length schemes.now + (12 * extensions.count + length values.now)) ≤ length d.old)
         × ((length schemes.now ≤ 1048560) × ((extensions.count ≤ 8) × (length values.now ≤ 32768)))) }
     ensures { Written d.old at (96 + length schemes.now + (12 * extensions.count + length values.now))
-        (encoded heading (negoOf random schemes.now (items_of extensions values.now))) d.new result }
+        (encoded heading (nego_of random schemes.now (items_of extensions values.now))) d.new result }
 {
     let length = schemes.len();
     let count = extensions.count;
@@ -82,8 +82,8 @@ pub fn write(
     extensions: Elements,
     values: &[u8],
 ) -> Stored
-    ensures { told result d.new ≡ storingHanded (elementsFit extensions values.now) d.old at heading
-        (negoOf random schemes.now (items_of extensions values.now)) }
+    ensures { told result d.new ≡ storing_handed (elements_fit extensions values.now) d.old at heading
+        (nego_of random schemes.now (items_of extensions values.now)) }
 {
     if Kind::ACCEPTOR_NEGO < heading.kind.0 {
         return Stored::Nothing;

@@ -1,7 +1,7 @@
 // VERIFY.
 ghost use Rattle.std.specs.Prelude.{◌≡◌, ◌+◌, ◌≤◌, length};
 ghost use Rattle.put.specs.Put.{Written};
-ghost use Rattle.encode.specs.Encode.{encoded, verifyOf, told, storing};
+ghost use Rattle.encode.specs.Encode.{encoded, verify_of, told, storing};
 
 use encode::{Heading, Stored, has_room, put_head, put_octet_vector};
 use message::{Kind, verify};
@@ -21,7 +21,7 @@ fn put_verify(
     value: &[u8],
 ) -> usize
     requires { (at + (80 + length value.now) ≤ length d.old) × (length value.now ≤ 4294967215) }
-    ensures { Written d.old at (80 + length value.now) (encoded heading (verifyOf scheme checksum value.now))
+    ensures { Written d.old at (80 + length value.now) (encoded heading (verify_of scheme checksum value.now))
         d.new result }
 {
     let length = value.len();
@@ -49,7 +49,7 @@ pub fn write(
     checksum: i32,
     value: &[u8],
 ) -> Stored
-    ensures { told result d.new ≡ storing d.old at heading (verifyOf scheme checksum value.now) }
+    ensures { told result d.new ≡ storing d.old at heading (verify_of scheme checksum value.now) }
 {
     if heading.kind.0 != Kind::VERIFY {
         return Stored::Nothing;

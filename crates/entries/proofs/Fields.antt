@@ -11,9 +11,9 @@ use lib.Dec.{leb}
 use borrow.Author.Tests.{leb-true, lt-ltb, le-ltb}
 use Rattle.octets.proofs.Bools.{and_l, and_r}
 use Rattle.octets.specs.Octets.{le, octets}
-use Rattle.message.specs.Layout.{Shape, nego, exchange, verify, alert, headerOf, Head, head_of, contentOf}
-use Rattle.entries.specs.Entries.{Field, fields_of, no_field, field_at, number_at, headerEntry}
-use Rattle.entries.specs.Lookup.{flat, tableEntry, Row}
+use Rattle.message.specs.Layout.{Shape, nego, exchange, verify, alert, header_of, Head, head_of, content_of}
+use Rattle.entries.specs.Entries.{Field, fields_of, no_field, field_at, number_at, header_entry}
+use Rattle.entries.specs.Lookup.{flat, table_entry, Row}
 use Rattle.entries.specs.Claims.{FieldsTile, PadsListed, FieldsRead}
 
 pub fields-tile : FieldsTile
@@ -28,7 +28,7 @@ pads-listed exchange = refl
 pads-listed verify = refl
 pads-listed alert = refl
 
-head_read : (m : List ℕ) (shape : Shape) → ◌≡◌ {A = Head}
+head_read_lem : (m : List ℕ) (shape : Shape) → ◌≡◌ {A = Head}
     (record {
       signature = le (field_at shape 0).size m (field_at shape 0).at;
       kind = le (field_at shape 1).size m (field_at shape 1).at;
@@ -41,14 +41,14 @@ head_read : (m : List ℕ) (shape : Shape) → ◌≡◌ {A = Head}
       conversation = octets (field_at shape 5).size m (field_at shape 5).at;
     }) (head_of m)
 unfolding head_of
-head_read m nego = refl
-head_read m exchange = refl
-head_read m verify = refl
-head_read m alert = refl
+head_read_lem m nego = refl
+head_read_lem m exchange = refl
+head_read_lem m verify = refl
+head_read_lem m alert = refl
 
 pub fields_read : FieldsRead
-unfolding contentOf
-fields_read m = (head_read m, (refl, (refl, (refl, refl))))
+unfolding content_of
+fields_read m = (head_read_lem m, (refl, (refl, (refl, refl))))
 
 -- ---- a table, three numbers a row
 three : (a b c : ℕ) (l : List ℕ) (x : ℕ) → get_or (a ∷ b ∷ c ∷ l) (3 + x) 0 ≡ get_or l x 0
@@ -76,35 +76,35 @@ rowed (f ∷ fs) (suc k) h =
     }
 
 -- fields that end within a header, and have two octets at the least
-allIn : ℕ → List Field → Bool
-allIn h [] = true
-allIn h (f ∷ fs) = (leb (f.at + f.size) h && leb 2 f.size) && allIn h fs
+all_in : ℕ → List Field → Bool
+all_in h [] = true
+all_in h (f ∷ fs) = (leb (f.at + f.size) h && leb 2 f.size) && all_in h fs
 
-one_in : (h : ℕ) (fs : List Field) (k : ℕ) → allIn h fs ≡ true → k < length fs
+one_in : (h : ℕ) (fs : List Field) (k : ℕ) → all_in h fs ≡ true → k < length fs
     → ((get_or fs k no_field).at + (get_or fs k no_field).size ≤ h) × (2 ≤ (get_or fs k no_field).size)
-unfolding allIn
+unfolding all_in
 one_in h [] k e l = absurd (omega arith)
 one_in h (f ∷ fs) zero e l =
-    let here : (leb (f.at + f.size) h && leb 2 f.size) ≡ true = and_l (leb (f.at + f.size) h && leb 2 f.size) (allIn h fs) e in
+    let here : (leb (f.at + f.size) h && leb 2 f.size) ≡ true = and_l (leb (f.at + f.size) h && leb 2 f.size) (all_in h fs) e in
     (leb-true _ _ (and_l (leb (f.at + f.size) h) (leb 2 f.size) here), leb-true _ _ (and_r (leb (f.at + f.size) h) (leb 2 f.size) here))
-one_in h (f ∷ fs) (suc k) e l = one_in h fs k (and_r (leb (f.at + f.size) h && leb 2 f.size) (allIn h fs) e) (omega arith)
+one_in h (f ∷ fs) (suc k) e l = one_in h fs k (and_r (leb (f.at + f.size) h && leb 2 f.size) (all_in h fs) e) (omega arith)
 
-all_in : (shape : Shape) → allIn (headerOf shape) (fields_of shape) ≡ true
-unfolding allIn
-all_in nego = refl
-all_in exchange = refl
-all_in verify = refl
-all_in alert = refl
+all_in_lem : (shape : Shape) → all_in (header_of shape) (fields_of shape) ≡ true
+unfolding all_in
+all_in_lem nego = refl
+all_in_lem exchange = refl
+all_in_lem verify = refl
+all_in_lem alert = refl
 
-pub row_in : (shape : Shape) (m : List ℕ) (k : ℕ) → headerOf shape ≤ length m → k < length (fields_of shape) → Row (flat (fields_of shape)) m k
+pub row_in : (shape : Shape) (m : List ℕ) (k : ℕ) → header_of shape ≤ length m → k < length (fields_of shape) → Row (flat (fields_of shape)) m k
 row_in shape m k h l =
     let r = rowed (fields_of shape) k l in
-    let (fits, some) = one_in (headerOf shape) (fields_of shape) k (all_in shape) l in
+    let (fits, some) = one_in (header_of shape) (fields_of shape) k (all_in_lem shape) l in
     record { inside = r.inside; lies = omega (arith, r.at, r.size, fits); some = omega (arith, r.size, some) }
 
 pub row-entry : (p i : ℕ) (m : List ℕ) (shape : Shape) (k : ℕ) → k < length (fields_of shape)
-    → tableEntry p i m (flat (fields_of shape)) k ≡ headerEntry p i m shape k
-unfolding tableEntry headerEntry
+    → table_entry p i m (flat (fields_of shape)) k ≡ header_entry p i m shape k
+unfolding table_entry header_entry
 row-entry p i m shape k l =
     let r = rowed (fields_of shape) k l in
     rw (r.what, r.at, r.size)

@@ -10,12 +10,12 @@ use lib.Dec.{leb}
 use borrow.Author.Tests.{eq-eqb, ne_eqb, leb-true, leb-false}
 use Rattle.octets.proofs.Bools.{which}
 use Rattle.vector.specs.declared.Vector.{Vector}
-use Rattle.message.specs.Layout.{nego, exchange, verify, alert, shape_of, schemeVector, extensionVector, alertVector}
+use Rattle.message.specs.Layout.{nego, exchange, verify, alert, shape_of, scheme_vector, extension_vector, alert_vector}
 use Rattle.message.proofs.Shapes.{shape-nego, shape-exchange, shape-verify, shape-alert}
-use Rattle.coverage.specs.Coverage.{noVector}
+use Rattle.coverage.specs.Coverage.{no_vector}
 use Rattle.entries.specs.declared.Entry.{Entry}
-use Rattle.entries.specs.Entries.{fields_of, headerEntry, vectorWhat, vectorNumber, idsVector, arrayVector, typeWhat, valueWhat}
-use Rattle.entries.specs.Lookup.{flat, tableEntry, Row, Holds}
+use Rattle.entries.specs.Entries.{fields_of, header_entry, vector_what, vector_number, ids_vector, array_vector, type_what, value_what}
+use Rattle.entries.specs.Lookup.{flat, table_entry, Row, Holds}
 use Rattle.entries.proofs.Fields.{row_in, row-entry}
 use Rattle.entries.proofs.Bounds.{holds-header}
 
@@ -41,72 +41,72 @@ module _ (kind : ℕ) where
   pub fields-alert : 1 < kind → 5 < kind → (kind ≡ 6 → ⊥) → 11 ≡ length (fields_of (shape_of kind))
   fields-alert h g e = rw (shape-alert kind h g e)
 
-  pub type-nego : kind ≤ 1 → 27 ≡ typeWhat (shape_of kind)
+  pub type-nego : kind ≤ 1 → 27 ≡ type_what (shape_of kind)
   type-nego h = rw (shape-nego kind h)
 
-  pub type-none : 1 < kind → kind ≤ 6 → 0 ≡ typeWhat (shape_of kind)
+  pub type-none : 1 < kind → kind ≤ 6 → 0 ≡ type_what (shape_of kind)
   type-none h g = elim (between h g) [ inl e ↦ rw e | inr e ↦ rw e ]
 
-  pub type-alert : 1 < kind → 6 < kind → 29 ≡ typeWhat (shape_of kind)
+  pub type-alert : 1 < kind → 6 < kind → 29 ≡ type_what (shape_of kind)
   type-alert h g = rw (last h g)
 
-  pub value-nego : kind ≤ 1 → 28 ≡ valueWhat (shape_of kind)
+  pub value-nego : kind ≤ 1 → 28 ≡ value_what (shape_of kind)
   value-nego h = rw (shape-nego kind h)
 
-  pub value_none : 1 < kind → kind ≤ 6 → 0 ≡ valueWhat (shape_of kind)
+  pub value_none : 1 < kind → kind ≤ 6 → 0 ≡ value_what (shape_of kind)
   value_none h g = elim (between h g) [ inl e ↦ rw e | inr e ↦ rw e ]
 
-  pub value-alert : 1 < kind → 6 < kind → 30 ≡ valueWhat (shape_of kind)
+  pub value-alert : 1 < kind → 6 < kind → 30 ≡ value_what (shape_of kind)
   value-alert h g = rw (last h g)
 
   module _ (k : ℕ) where
-    pub what-schemes : kind ≤ 1 → k ≡ 0 → 20 ≡ vectorWhat (shape_of kind) k
+    pub what-schemes : kind ≤ 1 → k ≡ 0 → 20 ≡ vector_what (shape_of kind) k
     what-schemes h e = rw (shape-nego kind h) (simp (eq-eqb k 0 e))
 
-    pub what-extensions : kind ≤ 1 → (k ≡ 0 → ⊥) → k ≡ 1 → 21 ≡ vectorWhat (shape_of kind) k
+    pub what-extensions : kind ≤ 1 → (k ≡ 0 → ⊥) → k ≡ 1 → 21 ≡ vector_what (shape_of kind) k
     what-extensions h n e = rw (shape-nego kind h) (simp (ne_eqb k 0 n, eq-eqb k 1 e))
 
-    pub what-extension : kind ≤ 1 → (k ≡ 0 → ⊥) → (k ≡ 1 → ⊥) → 22 ≡ vectorWhat (shape_of kind) k
+    pub what-extension : kind ≤ 1 → (k ≡ 0 → ⊥) → (k ≡ 1 → ⊥) → 22 ≡ vector_what (shape_of kind) k
     what-extension h n e = rw (shape-nego kind h) (simp (ne_eqb k 0 n, ne_eqb k 1 e))
 
-    pub what-exchange : 1 < kind → kind ≤ 5 → 23 ≡ vectorWhat (shape_of kind) k
+    pub what-exchange : 1 < kind → kind ≤ 5 → 23 ≡ vector_what (shape_of kind) k
     what-exchange h g = rw (shape-exchange kind h g)
 
-    pub what-checksum : 1 < kind → 5 < kind → kind ≡ 6 → 24 ≡ vectorWhat (shape_of kind) k
+    pub what-checksum : 1 < kind → 5 < kind → kind ≡ 6 → 24 ≡ vector_what (shape_of kind) k
     what-checksum h g e = rw (shape-verify kind h g e)
 
-    pub what-alerts : 1 < kind → 5 < kind → (kind ≡ 6 → ⊥) → k ≡ 0 → 25 ≡ vectorWhat (shape_of kind) k
+    pub what-alerts : 1 < kind → 5 < kind → (kind ≡ 6 → ⊥) → k ≡ 0 → 25 ≡ vector_what (shape_of kind) k
     what-alerts h g e z = rw (shape-alert kind h g e) (simp (eq-eqb k 0 z))
 
-    pub what-alert : 1 < kind → 5 < kind → (kind ≡ 6 → ⊥) → (k ≡ 0 → ⊥) → 26 ≡ vectorWhat (shape_of kind) k
+    pub what-alert : 1 < kind → 5 < kind → (kind ≡ 6 → ⊥) → (k ≡ 0 → ⊥) → 26 ≡ vector_what (shape_of kind) k
     what-alert h g e z = rw (shape-alert kind h g e) (simp (ne_eqb k 0 z))
 
-    pub number-nego : kind ≤ 1 → (r : ℕ) → r ≡ k - 2 → r ≡ vectorNumber (shape_of kind) k
+    pub number-nego : kind ≤ 1 → (r : ℕ) → r ≡ k - 2 → r ≡ vector_number (shape_of kind) k
     number-nego h r e = rw (shape-nego kind h) e
 
-    pub number-none : 1 < kind → kind ≤ 6 → 0 ≡ vectorNumber (shape_of kind) k
+    pub number-none : 1 < kind → kind ≤ 6 → 0 ≡ vector_number (shape_of kind) k
     number-none h g = elim (between h g) [ inl e ↦ rw e | inr e ↦ rw e ]
 
-    pub number-alert : 1 < kind → 6 < kind → (r : ℕ) → r ≡ k - 1 → r ≡ vectorNumber (shape_of kind) k
+    pub number-alert : 1 < kind → 6 < kind → (r : ℕ) → r ≡ k - 1 → r ≡ vector_number (shape_of kind) k
     number-alert h g r e = rw (last h g) e
 
   module _ (m : List ℕ) (v : Vector) where
-    pub ids-nego : kind ≤ 1 → v ≡ schemeVector m → v ≡ idsVector (shape_of kind) m
+    pub ids-nego : kind ≤ 1 → v ≡ scheme_vector m → v ≡ ids_vector (shape_of kind) m
     ids-nego h e = rw (shape-nego kind h) e
 
-    pub ids-none : 1 < kind → v ≡ noVector → v ≡ idsVector (shape_of kind) m
+    pub ids-none : 1 < kind → v ≡ no_vector → v ≡ ids_vector (shape_of kind) m
     ids-none h e = elim (which (leb kind 6)) [
       | inl g ↦ elim (between h (leb-true _ _ g)) [ inl s ↦ rw s e | inr s ↦ rw s e ]
       | inr g ↦ rw (last h (leb-false _ _ g)) e
     ]
 
-    pub array-nego : kind ≤ 1 → v ≡ extensionVector m → v ≡ arrayVector (shape_of kind) m
+    pub array-nego : kind ≤ 1 → v ≡ extension_vector m → v ≡ array_vector (shape_of kind) m
     array-nego h e = rw (shape-nego kind h) e
 
-    pub array-none : 1 < kind → kind ≤ 6 → v ≡ noVector → v ≡ arrayVector (shape_of kind) m
+    pub array-none : 1 < kind → kind ≤ 6 → v ≡ no_vector → v ≡ array_vector (shape_of kind) m
     array-none h g e = elim (between h g) [ inl s ↦ rw s e | inr s ↦ rw s e ]
 
-    pub array-alert : 1 < kind → 6 < kind → v ≡ alertVector m → v ≡ arrayVector (shape_of kind) m
+    pub array-alert : 1 < kind → 6 < kind → v ≡ alert_vector m → v ≡ array_vector (shape_of kind) m
     array-alert h g e = rw (last h g) e
 
   -- ---- the words of `header_entry`
@@ -124,17 +124,17 @@ module _ (kind : ℕ) where
     row-alert h g e = row_in alert m k (rw (shape-alert kind h g e) at (holds-header p m kind on)) (rw (shape-alert kind h g e) at few)
 
     module _ (i : ℕ) (x : Entry) where
-      pub header-nego : kind ≤ 1 → x ≡ tableEntry p i m (flat (fields_of nego)) k → x ≡ headerEntry p i m (shape_of kind) k
+      pub header-nego : kind ≤ 1 → x ≡ table_entry p i m (flat (fields_of nego)) k → x ≡ header_entry p i m (shape_of kind) k
       header-nego h e = rw (shape-nego kind h) (e ∙ row-entry p i m nego k (rw (shape-nego kind h) at few))
 
-      pub header-exchange : 1 < kind → kind ≤ 5 → x ≡ tableEntry p i m (flat (fields_of exchange)) k → x ≡ headerEntry p i m (shape_of kind) k
+      pub header-exchange : 1 < kind → kind ≤ 5 → x ≡ table_entry p i m (flat (fields_of exchange)) k → x ≡ header_entry p i m (shape_of kind) k
       header-exchange h g e = rw (shape-exchange kind h g) (e ∙ row-entry p i m exchange k (rw (shape-exchange kind h g) at few))
 
-      pub header-verify : 1 < kind → 5 < kind → kind ≡ 6 → x ≡ tableEntry p i m (flat (fields_of verify)) k → x ≡ headerEntry p i m (shape_of kind) k
+      pub header-verify : 1 < kind → 5 < kind → kind ≡ 6 → x ≡ table_entry p i m (flat (fields_of verify)) k → x ≡ header_entry p i m (shape_of kind) k
       header-verify h g s e = rw (shape-verify kind h g s) (e ∙ row-entry p i m verify k (rw (shape-verify kind h g s) at few))
 
-      pub header-alert : 1 < kind → 5 < kind → (kind ≡ 6 → ⊥) → x ≡ tableEntry p i m (flat (fields_of alert)) k
-          → x ≡ headerEntry p i m (shape_of kind) k
+      pub header-alert : 1 < kind → 5 < kind → (kind ≡ 6 → ⊥) → x ≡ table_entry p i m (flat (fields_of alert)) k
+          → x ≡ header_entry p i m (shape_of kind) k
       header-alert h g s e = rw (shape-alert kind h g s) (e ∙ row-entry p i m alert k (rw (shape-alert kind h g s) at few))
 
 pub ruleset counts = (fields-nego, fields-exchange, fields-verify, fields-alert)

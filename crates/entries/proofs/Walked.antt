@@ -13,9 +13,9 @@ use borrow.Author.Tests.{eqb-true, eqb-false}
 use Rattle.octets.proofs.Bools.{which}
 use Rattle.message.specs.Layout.{head_of, shape_of}
 use Rattle.message.specs.Show.{first_of}
-use Rattle.token.specs.Token.{Placed, tokenOf}
-use Rattle.token.specs.Split.{Numbered, join, placedFrom}
-use Rattle.token.specs.Walk.{messagesOf, Accepts}
+use Rattle.token.specs.Token.{Placed, token_of}
+use Rattle.token.specs.Split.{Numbered, join, placed_from}
+use Rattle.token.specs.Walk.{messages_of, Accepts}
 use Rattle.token.proofs.Cuts.{behind, behind-length}
 use Rattle.token.proofs.Splits.{accepted-splits}
 use Rattle.token.proofs.Walks.{Left, Turn, turn, turn-fits, turn-less, accepted-short, Walk, walk-begun, walk-ended, walk-passed}
@@ -26,8 +26,8 @@ use Rattle.table.specs.Table.{numbers, Held}
 use Rattle.table.proofs.Numbers.{length-numbers, both-written}
 use Rattle.table.proofs.Entries.{message-held, entry-within}
 use Rattle.entries.specs.declared.Entry.{Entry}
-use Rattle.entries.specs.Entries.{idsVector, arrayVector, entriesIn, entriesFrom, entriesOf, entryOctets}
-use Rattle.entries.specs.Lookup.{noEntry, countIn, Filled}
+use Rattle.entries.specs.Entries.{ids_vector, array_vector, entries_in, entries_from, entries_of, entry_octets}
+use Rattle.entries.specs.Lookup.{no_entry, count_in, Filled}
 use Rattle.entries.specs.Claims.{EntriesFew}
 use Rattle.entries.proofs.Bounds.{ids-inside, array-inside}
 use Rattle.entries.proofs.Pieces.{count-is, few-fields}
@@ -49,21 +49,21 @@ take-both (x ∷ a) b (suc k) =
     ap (λ (l : List Entry). x ∷ l) (take-both a b k ∙ ap (λ (j : ℕ). take k a ++ take j b) e)
 
 -- ---- entries in octets
-octets-append : (xs ys : List Entry) → entryOctets (xs ++ ys) ≡ entryOctets xs ++ entryOctets ys
-unfolding entryOctets
+octets-append : (xs ys : List Entry) → entry_octets (xs ++ ys) ≡ entry_octets xs ++ entry_octets ys
+unfolding entry_octets
 octets-append [] ys = refl
 octets-append (x ∷ xs) ys =
     let six = numbers (x.what ∷ x.message ∷ x.number ∷ x.value ∷ x.place ∷ x.length ∷ []) in
-    ap (λ (l : List ℕ). six ++ l) (octets-append xs ys) ∙ sym (append_assoc six (entryOctets xs) (entryOctets ys))
+    ap (λ (l : List ℕ). six ++ l) (octets-append xs ys) ∙ sym (append_assoc six (entry_octets xs) (entry_octets ys))
 
-pub octets-length : (es : List Entry) → length (entryOctets es) ≡ 24 * length es
-unfolding entryOctets
+pub octets-length : (es : List Entry) → length (entry_octets es) ≡ 24 * length es
+unfolding entry_octets
 octets-length [] = refl
 octets-length (x ∷ xs) =
     let six = numbers (x.what ∷ x.message ∷ x.number ∷ x.value ∷ x.place ∷ x.length ∷ []) in
     omega (
       arith,
-      length-append six (entryOctets xs),
+      length-append six (entry_octets xs),
       length-numbers
           (x.what ∷ x.message ∷ x.number ∷ x.value ∷ x.place ∷ x.length ∷ []),
       octets-length xs,
@@ -82,28 +82,28 @@ short-most : (a b : ℕ) → min a b ≤ b
 short-most a b = omega arith
 
 -- ---- the words of `put_message`
-pub part-number : (p i : ℕ) (m : List ℕ) (begin k n count room : ℕ) → n ≡ countIn m → count ≡ min (n - begin) room → k < count
-    → begin + k < length (entriesIn p i m)
+pub part-number : (p i : ℕ) (m : List ℕ) (begin k n count room : ℕ) → n ≡ count_in m → count ≡ min (n - begin) room → k < count
+    → begin + k < length (entries_in p i m)
 part-number p i m begin k n count room n-is count-is' h = omega (arith, count-is p i m)
 
-module _ (p i : ℕ) (m : List ℕ) (d : List ℕ) (at n begin count : ℕ) (n-is : n ≡ countIn m)
+module _ (p i : ℕ) (m : List ℕ) (d : List ℕ) (at n begin count : ℕ) (n-is : n ≡ count_in m)
     (count-is' : count ≡ min (n - begin) ((length d - at) / 24)) where
   E : List Entry
-  E = entriesIn p i m
+  E = entries_in p i m
 
   E-length : length E ≡ n
   unfolding E
   E-length = count-is p i m ∙ sym n-is
 
   abbrev Part : ℕ → List ℕ → ℕ → Type 0
-  Part k e next = Written d at (24 * k) (entryOctets (take k (drop begin (entriesIn p i m)))) e next
+  Part k e next = Written d at (24 * k) (entry_octets (take k (drop begin (entries_in p i m)))) e next
 
   pub part_none : Part 0 d at
-  unfolding entryOctets
+  unfolding entry_octets
   part_none = let z : at ≡ at + 0 = omega arith in record { size = refl; after = z; holds = sym (put-none d at) }
 
   module _ (k : ℕ) (e : List ℕ) (next : ℕ) (on : Part k e next) where
-    pub part-all : (from : ℕ) → begin ≡ min from n → count ≤ k → k ≤ count → Filled d at (drop from (entriesIn p i m)) e next
+    pub part-all : (from : ℕ) → begin ≡ min from n → count ≤ k → k ≤ count → Filled d at (drop from (entries_in p i m)) e next
     unfolding Filled E
     part-all from begin-is h g =
         let rest : drop begin E ≡ drop from E = ap (λ (j : ℕ). drop j E) (begin-is ∙ ap (min from) (sym E-length)) ∙ drop-least E from in
@@ -118,8 +118,8 @@ module _ (p i : ℕ) (m : List ℕ) (d : List ℕ) (at n begin count : ℕ) (n-i
         subst (λ (l : List Entry). k ≤ length l) (sym rest)
         (subst (λ (j : ℕ). j ≤ length (drop from E)) (sym k-is) (short-most ((length d - at) / 24) (length (drop from E)))) in
         let long : k ≡ length (take k (drop begin E)) = sym (length-take-le k (drop begin E) few) in
-        subst (λ (l : List Entry). Written d at (24 * length l) (entryOctets l) e next) shown
-        (subst (λ (j : ℕ). Written d at (24 * j) (entryOctets (take k (drop begin E))) e next) long on)
+        subst (λ (l : List Entry). Written d at (24 * length l) (entry_octets l) e next) shown
+        (subst (λ (j : ℕ). Written d at (24 * j) (entry_octets (take k (drop begin E))) e next) long on)
 
     module _ (more : k < count) where
       pub part-place : begin + k < n
@@ -128,22 +128,22 @@ module _ (p i : ℕ) (m : List ℕ) (d : List ℕ) (at n begin count : ℕ) (n-i
       pub part_room : next + 24 ≤ length e
       part_room =
           let l : length e ≡ length d =
-          ap length on.holds ∙ length-put d at (entryOctets (take k (drop begin (entriesIn p i m)))) (omega (arith, on.size)) in
+          ap length on.holds ∙ length-put d at (entry_octets (take k (drop begin (entries_in p i m)))) (omega (arith, on.size)) in
           omega (arith, on.after)
 
-      pub part-next : (x : Entry) → x ≡ get_or (entriesIn p i m) (begin + k) noEntry → (e' : List ℕ) (next' : ℕ)
-          → Written e next 24 (entryOctets (x ∷ [])) e' next' → Part (k + 1) e' next'
+      pub part-next : (x : Entry) → x ≡ get_or (entries_in p i m) (begin + k) no_entry → (e' : List ℕ) (next' : ℕ)
+          → Written e next 24 (entry_octets (x ∷ [])) e' next' → Part (k + 1) e' next'
       unfolding E
       part-next x x-is e' next' w =
           let size : 24 * k + 24 ≡ 24 * (k + 1) = omega arith in
           let few : k < length (drop begin E) = omega (arith, length-drop begin E, E-length) in
           let one : take (k + 1) (drop begin E) ≡ take k (drop begin E) ++ (x ∷ []) =
-          (rw add-one (take-suc (drop begin E) k noEntry few))
-          ∙ ap (λ (y : Entry). take k (drop begin E) ++ (y ∷ [])) (get_or-drop begin E k noEntry ∙ sym x-is) in
-          let is : entryOctets (take k (drop begin E)) ++ entryOctets (x ∷ []) ≡ entryOctets (take (k + 1) (drop begin E)) =
-          sym (ap entryOctets one ∙ octets-append (take k (drop begin E)) (x ∷ [])) in
+          (rw add-one (take-suc (drop begin E) k no_entry few))
+          ∙ ap (λ (y : Entry). take k (drop begin E) ++ (y ∷ [])) (get_or-drop begin E k no_entry ∙ sym x-is) in
+          let is : entry_octets (take k (drop begin E)) ++ entry_octets (x ∷ []) ≡ entry_octets (take (k + 1) (drop begin E)) =
+          sym (ap entry_octets one ∙ octets-append (take k (drop begin E)) (x ∷ [])) in
           subst (λ (l : List ℕ). Written d at (24 * (k + 1)) l e' next') is
-          (subst (λ (j : ℕ). Written d at j (entryOctets (take k (drop begin E)) ++ entryOctets (x ∷ [])) e' next') size
+          (subst (λ (j : ℕ). Written d at j (entry_octets (take k (drop begin E)) ++ entry_octets (x ∷ [])) e' next') size
           (both-written (omega arith) on w))
 
 pub ruleset parts = (part_none, part-all, part-place, part-number, part_room, part-next)
@@ -156,49 +156,49 @@ fill_more d xs ys e next e' next' a b =
     let R = (length d - 0) / 24 in
     let A = take R xs in
     let B = take ((length e - next) / 24) ys in
-    let l : length e ≡ length d = ap length a.holds ∙ length-put d 0 (entryOctets A) (omega (arith, octets-length A, length-take R xs)) in
+    let l : length e ≡ length d = ap length a.holds ∙ length-put d 0 (entry_octets A) (omega (arith, octets-length A, length-take R xs)) in
     let r : (length e - next) / 24 ≡ R - length A = omega (arith, a.after, length-take R xs) in
     let is : take R (xs ++ ys) ≡ A ++ B = take-both xs ys R ∙ ap (λ (j : ℕ). A ++ take j ys) (sym r) in
     let size : 24 * length A + 24 * length B ≡ 24 * length (A ++ B) = omega (arith, length-append A B) in
-    subst (λ (l : List Entry). Written d 0 (24 * length l) (entryOctets l) e' next') (sym is)
-    (subst (λ (j : ℕ). Written d 0 j (entryOctets (A ++ B)) e' next') size
+    subst (λ (l : List Entry). Written d 0 (24 * length l) (entry_octets l) e' next') (sym is)
+    (subst (λ (j : ℕ). Written d 0 j (entry_octets (A ++ B)) e' next') size
     (subst (λ (l : List ℕ). Written d 0 (24 * length A + 24 * length B) l e' next') (sym (octets-append A B))
     (both-written (omega (arith, length-take R xs, length-take ((length e - next) / 24) ys)) a b)))
 
 -- ---- how many entries a message has
 module _ (p : ℕ) (m : List ℕ) (held : Held p m) where
-  few-ids : 16 * (idsVector (shape_of (head_of m).kind) m).count ≤ length m
-  few-ids = elim (which (eqb (idsVector (shape_of (head_of m).kind) m).count 0)) [
-    | inl e ↦ let z : (idsVector (shape_of (head_of m).kind) m).count ≡ 0 = eqb-true _ _ e in omega arith
-    | inr e ↦ let z : ((idsVector (shape_of (head_of m).kind) m).count ≡ 0) → ⊥ =
+  few-ids : 16 * (ids_vector (shape_of (head_of m).kind) m).count ≤ length m
+  few-ids = elim (which (eqb (ids_vector (shape_of (head_of m).kind) m).count 0)) [
+    | inl e ↦ let z : (ids_vector (shape_of (head_of m).kind) m).count ≡ 0 = eqb-true _ _ e in omega arith
+    | inr e ↦ let z : ((ids_vector (shape_of (head_of m).kind) m).count ≡ 0) → ⊥ =
         eqb-false _ _ e in omega (arith, ids-inside p m held (shape_of (head_of m).kind) refl 0 (omega arith))
   ]
 
-  few-elements : 12 * (arrayVector (shape_of (head_of m).kind) m).count ≤ length m
-  few-elements = elim (which (eqb (arrayVector (shape_of (head_of m).kind) m).count 0)) [
-    | inl e ↦ let z : (arrayVector (shape_of (head_of m).kind) m).count ≡ 0 = eqb-true _ _ e in omega arith
-    | inr e ↦ let z : ((arrayVector (shape_of (head_of m).kind) m).count ≡ 0) → ⊥ =
+  few-elements : 12 * (array_vector (shape_of (head_of m).kind) m).count ≤ length m
+  few-elements = elim (which (eqb (array_vector (shape_of (head_of m).kind) m).count 0)) [
+    | inl e ↦ let z : (array_vector (shape_of (head_of m).kind) m).count ≡ 0 = eqb-true _ _ e in omega arith
+    | inr e ↦ let z : ((array_vector (shape_of (head_of m).kind) m).count ≡ 0) → ⊥ =
         eqb-false _ _ e in omega (arith, array-inside p m held (shape_of (head_of m).kind) refl 0 (omega arith))
   ]
 
-  few-entries : countIn m ≤ length m
-  unfolding countIn
+  few-entries : count_in m ≤ length m
+  unfolding count_in
   few-entries = omega (arith, few-ids, few-elements, few-fields (shape_of (head_of m).kind), entry-within p m held)
 
 -- ---- on the way through a token: `done` are the entries of the i messages passed
 pub record Walked (T : List Entry) (rest : List ℕ) (place i : ℕ) (done : List Entry) : Type 0 where
-  pub walk : Walk T (λ ps. done ++ entriesFrom i ps) rest place
+  pub walk : Walk T (λ ps. done ++ entries_from i ps) rest place
   pub ends : place + length rest ≤ 65535
   pub few : length done ≤ place
   pub early : i ≤ place
 
-walked-begin : (s : List ℕ) → Accepts s → Walked (entriesOf (messagesOf (tokenOf s))) s 0 0 []
+walked-begin : (s : List ℕ) → Accepts s → Walked (entries_of (messages_of (token_of s))) s 0 0 []
 walked-begin s a =
-    record { walk = walk-begun entriesOf s a; ends = omega (arith, accepted-short s a); few = omega arith; early = omega arith }
+    record { walk = walk-begun entries_of s a; ends = omega (arith, accepted-short s a); few = omega arith; early = omega arith }
 
 module _ (T : List Entry) (rest : List ℕ) (place i : ℕ) (done : List Entry) (on : Walked T rest place i done) where
   walked_end : length rest ≤ 0 → done ≡ T
-  unfolding entriesFrom
+  unfolding entries_from
   walked_end h = sym (walk-ended T _ rest place on.walk h ∙ append-nil done)
 
   module _ (more : 0 < length rest) (m : List ℕ) (m-is : m ≡ first_of rest) where
@@ -208,16 +208,16 @@ module _ (T : List Entry) (rest : List ℕ) (place i : ℕ) (done : List Entry) 
     walked-held : (p : ℕ) → p ≤ place → Held p m
     walked-held p h = message-held p _ _ m here.first (let a = on.ends in omega (arith, here.fits))
 
-    walked_on : Walked T (behind rest (length m)) (place + length m) (i + 1) (done ++ entriesIn place i m)
+    walked_on : Walked T (behind rest (length m)) (place + length m) (i + 1) (done ++ entries_in place i m)
     walked_on = record {
-      walk = walk-passed T _ rest place on.walk more m m-is (λ ps. done ++ entriesIn place i m ++ entriesFrom (i + 1) ps)
-          (λ ps. unfold entriesFrom in sym (append_assoc done (entriesIn place i m) (entriesFrom (i + 1) ps)));
+      walk = walk-passed T _ rest place on.walk more m m-is (λ ps. done ++ entries_in place i m ++ entries_from (i + 1) ps)
+          (λ ps. unfold entries_from in sym (append_assoc done (entries_in place i m) (entries_from (i + 1) ps)));
       ends = let a = on.ends in omega (arith, behind-length rest (length m), here.fits);
       few =
           let a = on.few in
           omega (
             arith,
-            length-append done (entriesIn place i m),
+            length-append done (entries_in place i m),
             count-is place i m,
             few-entries place m
                 (walked-held place (omega arith)),
@@ -233,7 +233,7 @@ pub record Counted (T : List Entry) (rest : List ℕ) (n : ℕ) : Type 0 where
   pub walked : Walked T rest place i done
   pub n-is : n ≡ length done
 
-pub counted-begin : (s : List ℕ) → Accepts s → Counted (entriesOf (messagesOf (tokenOf s))) s 0
+pub counted-begin : (s : List ℕ) → Accepts s → Counted (entries_of (messages_of (token_of s))) s 0
 counted-begin s a = record { place = 0; i = 0; done = []; walked = walked-begin s a; n-is = refl }
 
 module _ (T : List Entry) (rest : List ℕ) (n : ℕ) (on : Counted T rest n) where
@@ -247,7 +247,7 @@ module _ (T : List Entry) (rest : List ℕ) (n : ℕ) (on : Counted T rest n) wh
     pub counted-held : Held 0 m
     counted-held = walked-held T rest on.place on.i on.done on.walked more m m-is 0 (omega arith)
 
-    module _ (c : ℕ) (c-is : c ≡ countIn m) where
+    module _ (c : ℕ) (c-is : c ≡ count_in m) where
       pub counted-sum : n + c < 2 ^ 64
       counted-sum = omega (arith, on.n-is, on.walked.few, on.walked.ends, turn-fits rest counted-left more m m-is, few-entries 0 m counted-held)
 
@@ -255,9 +255,9 @@ module _ (T : List Entry) (rest : List ℕ) (n : ℕ) (on : Counted T rest n) wh
       counted-on = record {
         place = on.place + length m;
         i = on.i + 1;
-        done = on.done ++ entriesIn on.place on.i m;
+        done = on.done ++ entries_in on.place on.i m;
         walked = walked_on T rest on.place on.i on.done on.walked more m m-is;
-        n-is = omega (arith, on.n-is, length-append on.done (entriesIn on.place on.i m), count-is on.place on.i m);
+        n-is = omega (arith, on.n-is, length-append on.done (entries_in on.place on.i m), count-is on.place on.i m);
       }
 
 pub ruleset counting = (counted-begin, counted-end, counted-left, turn-fits, turn-less, counted-held, counted-sum, counted-on)
@@ -269,8 +269,8 @@ pub record Shown (T : List Entry) (d : List ℕ) (from : ℕ) (rest : List ℕ) 
   pub skipped : skip ≡ from - length done
   pub written : Filled d 0 (drop from done) e next
 
-pub shown-begin : (s : List ℕ) → Accepts s → (d : List ℕ) (from : ℕ) → Shown (entriesOf (messagesOf (tokenOf s))) d from s 0 0 from d 0
-unfolding Filled entryOctets
+pub shown-begin : (s : List ℕ) → Accepts s → (d : List ℕ) (from : ℕ) → Shown (entries_of (messages_of (token_of s))) d from s 0 0 from d 0
+unfolding Filled entry_octets
 shown-begin s a d from =
     let none : take ((length d - 0) / 24) (drop from []) ≡ [] = ap (take ((length d - 0) / 24)) (drop-nil from) ∙ take-nil ((length d - 0) / 24) in
     let z : from ≡ from - 0 = omega arith in
@@ -279,7 +279,7 @@ shown-begin s a d from =
       walked = walked-begin s a;
       skipped = z;
       written =
-          subst (λ (l : List Entry). Written d 0 (24 * length l) (entryOctets l) d 0) (sym none)
+          subst (λ (l : List Entry). Written d 0 (24 * length l) (entry_octets l) d 0) (sym none)
           (record { size = refl; after = refl; holds = sym (put-none d 0) });
     }
 
@@ -311,26 +311,26 @@ module _ (T : List Entry) (d : List ℕ) (from : ℕ) (rest : List ℕ) (place i
     unfolding Filled
     shown-room =
         let A = take ((length d - 0) / 24) (drop from on.done) in
-        let w : Written d 0 (24 * length A) (entryOctets A) e next = on.written in
+        let w : Written d 0 (24 * length A) (entry_octets A) e next = on.written in
         let l : length e ≡ length d =
-        ap length w.holds ∙ length-put d 0 (entryOctets A)
+        ap length w.holds ∙ length-put d 0 (entry_octets A)
         (omega (arith, octets-length A, length-take ((length d - 0) / 24) (drop from on.done))) in
         omega (arith, w.after, length-take ((length d - 0) / 24) (drop from on.done))
 
-    pub shown-on : (e' : List ℕ) (next' place' skip' c : ℕ) → c ≡ countIn m → place' ≡ place + length m → skip' ≡ skip - c
-        → Filled e next (drop skip (entriesIn place i m)) e' next'
+    pub shown-on : (e' : List ℕ) (next' place' skip' c : ℕ) → c ≡ count_in m → place' ≡ place + length m → skip' ≡ skip - c
+        → Filled e next (drop skip (entries_in place i m)) e' next'
         → Shown T d from (behind rest (length m)) place' (i + 1) skip' e' next'
     shown-on e' next' place' skip' c c-is place_is skip_is w =
-        let both : drop from on.done ++ drop skip (entriesIn place i m) ≡ drop from (on.done ++ entriesIn place i m) =
-        ap (λ (j : ℕ). drop from on.done ++ drop j (entriesIn place i m)) on.skipped ∙ sym (drop-both on.done (entriesIn place i m) from) in
+        let both : drop from on.done ++ drop skip (entries_in place i m) ≡ drop from (on.done ++ entries_in place i m) =
+        ap (λ (j : ℕ). drop from on.done ++ drop j (entries_in place i m)) on.skipped ∙ sym (drop-both on.done (entries_in place i m) from) in
         subst (λ (p : ℕ). Shown T d from (behind rest (length m)) p (i + 1) skip' e' next') (sym place_is)
         (record {
-          done = on.done ++ entriesIn place i m;
+          done = on.done ++ entries_in place i m;
           walked = walked_on T rest place i on.done on.walked more m m-is;
-          skipped = let s = on.skipped in omega (arith, length-append on.done (entriesIn place i m), count-is place i m);
+          skipped = let s = on.skipped in omega (arith, length-append on.done (entries_in place i m), count-is place i m);
           written =
               subst (λ (l : List Entry). Filled d 0 l e' next') both
-              (fill_more d (drop from on.done) (drop skip (entriesIn place i m)) e next e' next' on.written w);
+              (fill_more d (drop from on.done) (drop skip (entries_in place i m)) e next e' next' on.written w);
         })
 
 pub ruleset shows =
@@ -338,14 +338,14 @@ pub ruleset shows =
 
 -- ---- an accepted token has no more entries than octets
 few-from : (ms : List (List ℕ)) (place i q : ℕ) (v : List ℕ) → Numbered q v ms → place + length (join ms) ≤ 65535
-    → length (entriesFrom i (placedFrom place ms)) ≤ length (join ms)
-unfolding entriesFrom
+    → length (entries_from i (placed_from place ms)) ≤ length (join ms)
+unfolding entries_from
 few-from [] place i q v e h = omega arith
 few-from (m ∷ ms) place i q v e h =
     let held : Held place m = message-held place q v m e.0 (omega (arith, length-append m (join ms))) in
     omega (
       arith,
-      length-append (entriesIn place i m) (entriesFrom (i + 1) (placedFrom (place + length m) ms)),
+      length-append (entries_in place i m) (entries_from (i + 1) (placed_from (place + length m) ms)),
       count-is place i m,
       few-entries place m held,
       length-append m (join ms),
@@ -355,7 +355,7 @@ few-from (m ∷ ms) place i q v e h =
 pub entries-few : EntriesFew
 entries-few s ps e =
     let (ms, (split, places)) = accepted-splits s ps e in
-    let same : length (entriesOf (placedFrom 0 ms)) ≡ length (entriesOf ps) = ap (λ (l : List Placed). length (entriesOf l)) places in
+    let same : length (entries_of (placed_from 0 ms)) ≡ length (entries_of ps) = ap (λ (l : List Placed). length (entries_of l)) places in
     omega (
       arith,
       same,

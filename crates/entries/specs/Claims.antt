@@ -1,8 +1,8 @@
 -- What is proved of the entries.
 --
 -- Glossary
---   tiledTo at fs     where fields end that follow one another without a gap from `at` on, and none where they don't
---   padsIn fs         the pads among fields
+--   tiled_to at fs     where fields end that follow one another without a gap from `at` on, and none where they don't
+--   pads_in fs         the pads among fields
 --   FieldsTile        the fields of a header follow one another from its first octet to its last
 --   PadsListed        the pads among them are those of the layout
 --   FieldsRead        each field stands where the layout reads it: a head and a content, read at the places of the fields, are those of the message
@@ -11,24 +11,24 @@ use Rattle.std.specs.Prelude.{ℕ, ◌+◌, ◌≤◌, ◌≡◌, cond, List, []
 use Rattle.std.proofs.Math.Option.{Option, none, some}
 use Rattle.octets.specs.Octets.{le, octets}
 use Rattle.vector.specs.Vector.{part}
-use Rattle.message.specs.Layout.{Shape, nego, exchange, verify, alert, headerOf, Pad, padsOf, Head, head_of, octetVector, vectorAt, elementsOf, Nego, Exchange, Verify, Alert, contentOf}
-use Rattle.token.specs.Token.{Placed, Accepted, tokenOf}
+use Rattle.message.specs.Layout.{Shape, nego, exchange, verify, alert, header_of, Pad, pads_of, Head, head_of, octet_vector, vector_at, elements_of, Nego, Exchange, Verify, Alert, content_of}
+use Rattle.token.specs.Token.{Placed, Accepted, token_of}
 use Rattle.entries.specs.Names.{PAD}
-use Rattle.entries.specs.Entries.{Field, fields_of, field_at, entriesOf}
+use Rattle.entries.specs.Entries.{Field, fields_of, field_at, entries_of}
 
-abbrev pub tiledTo : ℕ → List Field → Option ℕ
-tiledTo at [] = some at
-tiledTo at (f ∷ fs) = cond (eqb f.at at) (tiledTo (at + f.size) fs) none
+abbrev pub tiled_to : ℕ → List Field → Option ℕ
+tiled_to at [] = some at
+tiled_to at (f ∷ fs) = cond (eqb f.at at) (tiled_to (at + f.size) fs) none
 
-abbrev pub padsIn : List Field → List Pad
-padsIn [] = []
-padsIn (f ∷ fs) = cond (eqb f.what PAD) (record { at = f.at; size = f.size } ∷ padsIn fs) (padsIn fs)
+abbrev pub pads_in : List Field → List Pad
+pads_in [] = []
+pads_in (f ∷ fs) = cond (eqb f.what PAD) (record { at = f.at; size = f.size } ∷ pads_in fs) (pads_in fs)
 
 abbrev pub FieldsTile : Type 0
-FieldsTile = (shape : Shape) → tiledTo 0 (fields_of shape) ≡ some (headerOf shape)
+FieldsTile = (shape : Shape) → tiled_to 0 (fields_of shape) ≡ some (header_of shape)
 
 abbrev pub PadsListed : Type 0
-PadsListed = (shape : Shape) → padsIn (fields_of shape) ≡ padsOf shape
+PadsListed = (shape : Shape) → pads_in (fields_of shape) ≡ pads_of shape
 
 abbrev pub FieldsRead : Type 0
 FieldsRead =
@@ -42,14 +42,14 @@ FieldsRead =
       conversation = octets (field_at shape 5).size m (field_at shape 5).at;
     }) (head_of m))
     × ((Nego (octets (field_at nego 6).size m (field_at nego 6).at) (le (field_at nego 7).size m (field_at nego 7).at)
-    (vectorAt 16 m (field_at nego 8).at) (vectorAt 12 m (field_at nego 10).at) (elementsOf (part m (vectorAt 12 m (field_at nego 10).at)))
-    ≡ contentOf nego m)
-    × ((Exchange (octets (field_at exchange 6).size m (field_at exchange 6).at) (octetVector m (field_at exchange 7).at) ≡ contentOf exchange m)
+    (vector_at 16 m (field_at nego 8).at) (vector_at 12 m (field_at nego 10).at) (elements_of (part m (vector_at 12 m (field_at nego 10).at)))
+    ≡ content_of nego m)
+    × ((Exchange (octets (field_at exchange 6).size m (field_at exchange 6).at) (octet_vector m (field_at exchange 7).at) ≡ content_of exchange m)
     × ((Verify (octets (field_at verify 6).size m (field_at verify 6).at) (le (field_at verify 7).size m (field_at verify 7).at)
     (le (field_at verify 8).size m (field_at verify 8).at) (le (field_at verify 9).size m (field_at verify 9).at)
-    (octetVector m (field_at verify 10).at) ≡ contentOf verify m)
+    (octet_vector m (field_at verify 10).at) ≡ content_of verify m)
     × (Alert (octets (field_at alert 6).size m (field_at alert 6).at) (le (field_at alert 7).size m (field_at alert 7).at)
-    (vectorAt 12 m (field_at alert 8).at) (elementsOf (part m (vectorAt 12 m (field_at alert 8).at))) ≡ contentOf alert m))))
+    (vector_at 12 m (field_at alert 8).at) (elements_of (part m (vector_at 12 m (field_at alert 8).at))) ≡ content_of alert m))))
 
 abbrev pub EntriesFew : Type 0
-EntriesFew = (s : List ℕ) (ms : List Placed) → tokenOf s ≡ Accepted ms → length (entriesOf ms) ≤ length s
+EntriesFew = (s : List ℕ) (ms : List Placed) → token_of s ≡ Accepted ms → length (entries_of ms) ≤ length s

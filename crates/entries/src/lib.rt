@@ -1,10 +1,10 @@
 // All that a viewer shows of a token, as entries of one size.
 ghost use Rattle.std.specs.Prelude.{◌≡◌, ◌+◌, ◌≤◌, min, ◌∷◌, [], length, drop};
-ghost use Rattle.token.specs.Token.{tokenOf};
-ghost use Rattle.token.specs.Walk.{messagesOf, Accepts};
+ghost use Rattle.token.specs.Token.{token_of};
+ghost use Rattle.token.specs.Walk.{messages_of, Accepts};
 ghost use Rattle.put.specs.Put.{Written};
 ghost use Rattle.table.specs.Table.{Held};
-ghost use Rattle.entries.specs.Entries.{entriesIn, entriesOf, entryOctets};
+ghost use Rattle.entries.specs.Entries.{entries_in, entries_of, entry_octets};
 ghost use Rattle.entries.specs.Lookup.{Filled};
 
 use lookup::{entry_count, entry_of, less};
@@ -32,7 +32,7 @@ pub const SIZE: usize = 24;
 // An entry, in octets.
 pub fn put_entry(d: &mut [u8], at: usize, e: Entry) -> usize
     requires { at + 24 ≤ length d.old }
-    ensures { Written d.old at 24 (entryOctets (e ∷ [])) d.new result }
+    ensures { Written d.old at 24 (entry_octets (e ∷ [])) d.new result }
 {
     let message_at = put_u32(d, at, e.what);
     let number_at = put_u32(d, message_at, e.message);
@@ -59,7 +59,7 @@ fn put_message(
     from: usize,
 ) -> usize
     requires { Held place.0 m.now × (at ≤ length d.old) }
-    ensures { Filled d.old at (drop from (entriesIn place.0 message m.now)) d.new result }
+    ensures { Filled d.old at (drop from (entries_in place.0 message m.now)) d.new result }
 {
     let all = entry_count(m);
     let begin = least(from, all);
@@ -76,7 +76,7 @@ fn put_message(
 // How many entries an accepted token has.
 pub fn count_entries(token: &[u8]) -> usize
     requires { Accepts token.now }
-    ensures { result ≡ length (entriesOf (messagesOf (tokenOf token.now))) }
+    ensures { result ≡ length (entries_of (messages_of (token_of token.now))) }
 {
     let mut rest = token;
     let mut count: usize = 0;
@@ -92,7 +92,7 @@ pub fn count_entries(token: &[u8]) -> usize
 // The entries of an accepted token from number `from` on, as many as there is room for, at the buffer's front.
 pub fn put_entries(d: &mut [u8], token: &[u8], from: usize) -> usize
     requires { Accepts token.now }
-    ensures { Filled d.old 0 (drop from (entriesOf (messagesOf (tokenOf token.now)))) d.new result }
+    ensures { Filled d.old 0 (drop from (entries_of (messages_of (token_of token.now)))) d.new result }
 {
     let mut rest = token;
     let mut place = TokenPlace(0);

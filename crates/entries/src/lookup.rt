@@ -1,10 +1,10 @@
 // The entries of one message, by number.
 ghost use Rattle.std.specs.Prelude.{◌≡◌, ◌+◌, ◌-◌, ◌*◌, ◌≤◌, ◌<◌, ◌^◌, length, get_or};
-ghost use Rattle.message.specs.Layout.{head_of, shape_of, headerOf};
-ghost use Rattle.coverage.specs.Coverage.{vectorsIn, noVector};
+ghost use Rattle.message.specs.Layout.{head_of, shape_of, header_of};
+ghost use Rattle.coverage.specs.Coverage.{vectors_in, no_vector};
 ghost use Rattle.table.specs.Table.{Held};
-ghost use Rattle.entries.specs.Entries.{fields_of, number_at, fieldEntry, messageEntry, headerEntry, vectorWhat, vectorNumber, vectorEntry, idsVector, arrayVector, typeWhat, valueWhat, elementsIn, listsIn, bodyIn, entriesIn};
-ghost use Rattle.entries.specs.Lookup.{tableEntry, Row, Holds, noEntry, countIn};
+ghost use Rattle.entries.specs.Entries.{fields_of, number_at, field_entry, message_entry, header_entry, vector_what, vector_number, vector_entry, ids_vector, array_vector, type_what, value_what, elements_in, lists_in, body_in, entries_in};
+ghost use Rattle.entries.specs.Lookup.{table_entry, Row, Holds, no_entry, count_in};
 
 use super::{Entry, name};
 use coverage::vectors::{vector_count, vector_of};
@@ -36,7 +36,7 @@ pub fn field_entry(
     size: u32,
 ) -> Entry
     requires { (place.0 + length m.now < 2 ^ 32) × (at.0 + size ≤ length m.now) × (2 ≤ size) }
-    ensures { result ≡ fieldEntry place.0 message m.now what number at.0 size }
+    ensures { result ≡ field_entry place.0 message m.now what number at.0 size }
 {
     let from = in_token(place, at);
     Entry {
@@ -52,7 +52,7 @@ pub fn field_entry(
 // The entry of field k of a header, by its layout's table.
 fn table_entry(table: &[u8], place: TokenPlace, message: u32, m: &[u8], k: usize) -> Entry
     requires { (place.0 + length m.now < 2 ^ 32) × Row table.now m.now k }
-    ensures { result ≡ tableEntry place.0 message m.now table.now k }
+    ensures { result ≡ table_entry place.0 message m.now table.now k }
 {
     let row = 3 * k;
     let what = table[row] as u32;
@@ -80,7 +80,7 @@ fn field_count(kind: Kind) -> usize
 // The entry of field k of a header. The tables have a row of three numbers a field: what it is, where it stands, its size.
 fn header_entry(kind: Kind, place: TokenPlace, message: u32, m: &[u8], k: usize) -> Entry
     requires { Holds place.0 m.now kind.0 × (k < length (fields_of (shape_of kind.0))) }
-    ensures { result ≡ headerEntry place.0 message m.now (shape_of kind.0) k }
+    ensures { result ≡ header_entry place.0 message m.now (shape_of kind.0) k }
 {
     if kind.0 <= Kind::ACCEPTOR_NEGO {
         let nego =
@@ -104,7 +104,7 @@ fn header_entry(kind: Kind, place: TokenPlace, message: u32, m: &[u8], k: usize)
 
 // What vector k of a message of a kind points at.
 fn vector_what(kind: Kind, k: usize) -> u32
-    ensures { result ≡ vectorWhat (shape_of kind.0) k }
+    ensures { result ≡ vector_what (shape_of kind.0) k }
 {
     if kind.0 <= Kind::ACCEPTOR_NEGO {
         if k == 0 {
@@ -139,7 +139,7 @@ pub(crate) fn less(k: usize, n: usize) -> usize
 
 // The number of vector k in its list.
 fn vector_number(kind: Kind, k: usize) -> usize
-    ensures { result ≡ vectorNumber (shape_of kind.0) k }
+    ensures { result ≡ vector_number (shape_of kind.0) k }
 {
     if kind.0 <= Kind::ACCEPTOR_NEGO {
         return less(k, 2);
@@ -152,8 +152,8 @@ fn vector_number(kind: Kind, k: usize) -> usize
 
 // The entry of the octets that vector k points at.
 fn vector_entry(kind: Kind, place: TokenPlace, message: u32, m: &[u8], k: usize) -> Entry
-    requires { Holds place.0 m.now kind.0 × (k < length (vectorsIn m.now)) }
-    ensures { result ≡ vectorEntry place.0 message m.now (shape_of kind.0) k }
+    requires { Holds place.0 m.now kind.0 × (k < length (vectors_in m.now)) }
+    ensures { result ≡ vector_entry place.0 message m.now (shape_of kind.0) k }
 {
     let vector = vector_of(m, k);
     let from = vector_place(place, vector);
@@ -169,7 +169,7 @@ fn vector_entry(kind: Kind, place: TokenPlace, message: u32, m: &[u8], k: usize)
 
 // No elements.
 fn no_vector() -> Vector
-    ensures { result ≡ noVector }
+    ensures { result ≡ no_vector }
 {
     Vector {
         size: 1,
@@ -180,8 +180,8 @@ fn no_vector() -> Vector
 
 // The vector of a list of schemes.
 fn ids_vector(kind: Kind, m: &[u8]) -> Vector
-    requires { headerOf (shape_of kind.0) ≤ length m.now }
-    ensures { result ≡ idsVector (shape_of kind.0) m.now }
+    requires { header_of (shape_of kind.0) ≤ length m.now }
+    ensures { result ≡ ids_vector (shape_of kind.0) m.now }
 {
     if kind.0 <= Kind::ACCEPTOR_NEGO {
         return scheme_vector(m);
@@ -191,8 +191,8 @@ fn ids_vector(kind: Kind, m: &[u8]) -> Vector
 
 // The vector of extensions or alerts.
 fn array_vector(kind: Kind, m: &[u8]) -> Vector
-    requires { headerOf (shape_of kind.0) ≤ length m.now }
-    ensures { result ≡ arrayVector (shape_of kind.0) m.now }
+    requires { header_of (shape_of kind.0) ≤ length m.now }
+    ensures { result ≡ array_vector (shape_of kind.0) m.now }
 {
     if kind.0 <= Kind::ACCEPTOR_NEGO {
         return extension_vector(m);
@@ -205,7 +205,7 @@ fn array_vector(kind: Kind, m: &[u8]) -> Vector
 
 // What the type of an element is.
 fn type_what(kind: Kind) -> u32
-    ensures { result ≡ typeWhat (shape_of kind.0) }
+    ensures { result ≡ type_what (shape_of kind.0) }
 {
     if kind.0 <= Kind::ACCEPTOR_NEGO {
         return name::EXTENSION_TYPE;
@@ -218,7 +218,7 @@ fn type_what(kind: Kind) -> u32
 
 // What the vector of an element's value is.
 fn value_what(kind: Kind) -> u32
-    ensures { result ≡ valueWhat (shape_of kind.0) }
+    ensures { result ≡ value_what (shape_of kind.0) }
 {
     if kind.0 <= Kind::ACCEPTOR_NEGO {
         return name::EXTENSION_VALUE_VECTOR;
@@ -231,8 +231,8 @@ fn value_what(kind: Kind) -> u32
 
 // Entry k of those of a message's extensions or alerts.
 fn element_entry(kind: Kind, place: TokenPlace, message: u32, m: &[u8], k: usize) -> Entry
-    requires { Holds place.0 m.now kind.0 × (k < length (elementsIn place.0 message m.now (shape_of kind.0))) }
-    ensures { result ≡ get_or (elementsIn place.0 message m.now (shape_of kind.0)) k noEntry }
+    requires { Holds place.0 m.now kind.0 × (k < length (elements_in place.0 message m.now (shape_of kind.0))) }
+    ensures { result ≡ get_or (elements_in place.0 message m.now (shape_of kind.0)) k no_entry }
 {
     let array = array_vector(kind, m);
     let count = array.count as usize;
@@ -247,8 +247,8 @@ fn element_entry(kind: Kind, place: TokenPlace, message: u32, m: &[u8], k: usize
 
 // Entry k of those of a message's schemes, and of what follows them.
 fn list_entry(kind: Kind, place: TokenPlace, message: u32, m: &[u8], k: usize) -> Entry
-    requires { Holds place.0 m.now kind.0 × (k < length (listsIn place.0 message m.now (shape_of kind.0))) }
-    ensures { result ≡ get_or (listsIn place.0 message m.now (shape_of kind.0)) k noEntry }
+    requires { Holds place.0 m.now kind.0 × (k < length (lists_in place.0 message m.now (shape_of kind.0))) }
+    ensures { result ≡ get_or (lists_in place.0 message m.now (shape_of kind.0)) k no_entry }
 {
     let ids = ids_vector(kind, m);
     let count = ids.count as usize;
@@ -261,8 +261,8 @@ fn list_entry(kind: Kind, place: TokenPlace, message: u32, m: &[u8], k: usize) -
 
 // Entry k of those of a message's vectors, and of what follows them.
 fn body_entry(kind: Kind, place: TokenPlace, message: u32, m: &[u8], k: usize) -> Entry
-    requires { Holds place.0 m.now kind.0 × (k < length (bodyIn place.0 message m.now (shape_of kind.0))) }
-    ensures { result ≡ get_or (bodyIn place.0 message m.now (shape_of kind.0)) k noEntry }
+    requires { Holds place.0 m.now kind.0 × (k < length (body_in place.0 message m.now (shape_of kind.0))) }
+    ensures { result ≡ get_or (body_in place.0 message m.now (shape_of kind.0)) k no_entry }
 {
     let count = vector_count(m);
     if k < count {
@@ -273,8 +273,8 @@ fn body_entry(kind: Kind, place: TokenPlace, message: u32, m: &[u8], k: usize) -
 
 // Entry k of a message.
 pub(crate) fn entry_of(place: TokenPlace, message: u32, m: &[u8], k: usize) -> Entry
-    requires { Held place.0 m.now × (k < length (entriesIn place.0 message m.now)) }
-    ensures { result ≡ get_or (entriesIn place.0 message m.now) k noEntry }
+    requires { Held place.0 m.now × (k < length (entries_in place.0 message m.now)) }
+    ensures { result ≡ get_or (entries_in place.0 message m.now) k no_entry }
 {
     let kind = Kind(le_u32(m, field::TYPE));
     if k == 0 {
@@ -297,7 +297,7 @@ pub(crate) fn entry_of(place: TokenPlace, message: u32, m: &[u8], k: usize) -> E
 // How many entries a message has.
 pub(crate) fn entry_count(m: &[u8]) -> usize
     requires { Held 0 m.now }
-    ensures { result ≡ countIn m.now }
+    ensures { result ≡ count_in m.now }
 {
     let kind = Kind(le_u32(m, field::TYPE));
     let ids = ids_vector(kind, m);

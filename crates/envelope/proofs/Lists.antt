@@ -16,8 +16,8 @@ use Rattle.der.specs.Holder.{Holder, part, Cuts}
 use Rattle.der.specs.declared.Cut.{Cut}
 use Rattle.der.specs.declared.Cut.TheVariants.{Element, Refused}
 use Rattle.der.proofs.Parts.{part_none, part-cons, length_part}
-use Rattle.envelope.specs.Reading.{filled, identifiersOf, list_of, mechanismsOf}
-use Rattle.envelope.specs.Answers.{left_of, count_of, toldCount, mechanismsIn, value_of, refusalOf, toldList, ListPlaced, Lists}
+use Rattle.envelope.specs.Reading.{filled, identifiers_of, list_of, mechanisms_of}
+use Rattle.envelope.specs.Answers.{left_of, count_of, told_count, mechanisms_in, value_of, refusal_of, told_list, ListPlaced, Lists}
 use Rattle.envelope.specs.declared.Counted.{Counted}
 use Rattle.envelope.specs.declared.Counted.TheVariants as counts
 use Rattle.envelope.specs.declared.Listed.{Listed}
@@ -25,11 +25,11 @@ use Rattle.envelope.specs.declared.Listed.TheVariants as lists
 use Rattle.envelope.proofs.Holders.{got-no, got-ok, got-inside, holder_in, holder-behind, closed-end, closed-left}
 use Rattle.envelope.proofs.Identifiers.{identifiers-forth}
 
-pub refusal-no : (c : Cut) (n : ℕ) → c ≡ Refused n → no n ≡ refusalOf c
-refusal-no c n e = sym (ap refusalOf e)
+pub refusal-no : (c : Cut) (n : ℕ) → c ≡ Refused n → no n ≡ refusal_of c
+refusal-no c n e = sym (ap refusal_of e)
 
-pub refusal-none : (c : Cut) (b d : ℕ) → c ≡ Element b d → no 0 ≡ refusalOf c
-refusal-none c b d e = sym (ap refusalOf e)
+pub refusal-none : (c : Cut) (b d : ℕ) → c ≡ Element b d → no 0 ≡ refusal_of c
+refusal-none c b d e = sym (ap refusal_of e)
 
 pub ruleset refusals = (refusal-no, refusal-none)
 
@@ -61,9 +61,9 @@ module _ (s : List ℕ) (at end left : ℕ) (x : Got ℕ) (h : Holder s at end) 
     unfolding filled
     is-filled = rw (part-cons s at end some h.inside)
 
-    pub turn-no : (n : ℕ) → c ≡ Refused n → (r : Counted) → toldCount r ≡ refusalOf c → toldCount r ≡ x
+    pub turn-no : (n : ℕ) → c ≡ Refused n → (r : Counted) → told_count r ≡ refusal_of c → told_count r ≡ x
     unfolding left_of
-    turn-no n e r r-is = r-is ∙ ap refusalOf e ∙ sym (inv ∙ stop left) where
+    turn-no n e r r-is = r-is ∙ ap refusal_of e ∙ sym (inv ∙ stop left) where
       stop : (k : ℕ) → left_of k (part s at end) ≡ no n
       stop zero = rw (is-filled, got-no says n e)
       stop (suc k) = rw (is-filled, got-no says n e)
@@ -89,10 +89,10 @@ module _ (s : List ℕ) (at end left : ℕ) (x : Got ℕ) (h : Holder s at end) 
 pub ruleset turns = (turn_end, turn-no, turn_many, turn_more, turn-holder, turn-less)
 
 -- what the loop answers, of the list
-left_is : (k : ℕ) (v : List ℕ) → left_of k v ≡ bind (identifiersOf k v) (λ ms. ok (k - length ms))
-unfolding left_of identifiersOf
+left_is : (k : ℕ) (v : List ℕ) → left_of k v ≡ bind (identifiers_of k v) (λ ms. ok (k - length ms))
+unfolding left_of identifiers_of
 left_is zero v = go (which (filled v)) where
-  go : (filled v ≡ true) ⊎ (filled v ≡ false) → left_of 0 v ≡ bind (identifiersOf 0 v) (λ ms. ok (0 - length ms))
+  go : (filled v ≡ true) ⊎ (filled v ≡ false) → left_of 0 v ≡ bind (identifiers_of 0 v) (λ ms. ok (0 - length ms))
   go (inl e) = rw e (two (cut 0x06 any v)) where
     two : (g : Got (Part (List ℕ)))
         → ◌≡◌ {A = Got ℕ} (bind g (λ q. no 23)) (bind (bind {B = List (List ℕ)} g (λ q. no 23)) (λ ms. ok (0 - length ms)))
@@ -100,8 +100,8 @@ left_is zero v = go (which (filled v)) where
     two (no n) = refl
   go (inr e) = rw e
 left_is (suc k) v = go (which (filled v)) (left_is k) where
-  go : (filled v ≡ true) ⊎ (filled v ≡ false) → ((w : List ℕ) → left_of k w ≡ bind (identifiersOf k w) (λ ms. ok (k - length ms)))
-      → left_of (suc k) v ≡ bind (identifiersOf (suc k) v) (λ ms. ok (suc k - length ms))
+  go : (filled v ≡ true) ⊎ (filled v ≡ false) → ((w : List ℕ) → left_of k w ≡ bind (identifiers_of k w) (λ ms. ok (k - length ms)))
+      → left_of (suc k) v ≡ bind (identifiers_of (suc k) v) (λ ms. ok (suc k - length ms))
   go (inl e) f = rw e (two (cut 0x06 any v)) where
     three : (m : List ℕ) (g : Got (List (List ℕ)))
         → bind g (λ ms. ok (k - length ms)) ≡ bind (bind g (λ ms. ok (m ∷ ms))) (λ ms. ok (suc k - length ms))
@@ -109,16 +109,16 @@ left_is (suc k) v = go (which (filled v)) (left_is k) where
     three m (no n) = refl
 
     two : (g : Got (Part (List ℕ))) → bind g (λ q. left_of k q.rest)
-        ≡ bind (bind g (λ q. bind (identifiersOf k q.rest) (λ ms. ok (q.value ∷ ms)))) (λ ms. ok (suc k - length ms))
-    two (ok q) = f q.rest ∙ three q.value (identifiersOf k q.rest)
+        ≡ bind (bind g (λ q. bind (identifiers_of k q.rest) (λ ms. ok (q.value ∷ ms)))) (λ ms. ok (suc k - length ms))
+    two (ok q) = f q.rest ∙ three q.value (identifiers_of k q.rest)
     two (no n) = refl
   go (inr e) f = let z : suc k ≡ suc k - 0 = omega arith in rw e (ap ok z)
 
 count-is : (v : List ℕ) → count_of v ≡ bind (list_of v) (λ ms. ok (16 - length ms))
 unfolding count_of list_of check
 count-is v = go (filled v) (left_is 16 v) where
-  go : (b : Bool) → left_of 16 v ≡ bind (identifiersOf 16 v) (λ ms. ok (16 - length ms))
-      → check b 20 (left_of 16 v) ≡ bind (check b 20 (identifiersOf 16 v)) (λ ms. ok (16 - length ms))
+  go : (b : Bool) → left_of 16 v ≡ bind (identifiers_of 16 v) (λ ms. ok (16 - length ms))
+      → check b 20 (left_of 16 v) ≡ bind (check b 20 (identifiers_of 16 v)) (λ ms. ok (16 - length ms))
   go true e = e
   go false e = refl
 
@@ -130,7 +130,7 @@ list-no v n e = go (list_of v) (sym (count-is v) ∙ e) where
 
 few : (v : List ℕ) (ms : List (List ℕ)) → list_of v ≡ ok ms → length ms ≤ 16
 unfolding list_of
-few v ms e = (identifiers-forth 16 v ms (Rattle.der.proofs.Gots.check-ok (filled v) 20 (identifiersOf 16 v) ms e).1).1
+few v ms e = (identifiers-forth 16 v ms (Rattle.der.proofs.Gots.check-ok (filled v) 20 (identifiers_of 16 v) ms e).1).1
 
 record Listing (v : List ℕ) (n : ℕ) : Type 0 where
   is : list_of v ≡ ok (value_of (list_of v))
@@ -146,7 +146,7 @@ list-ok v n e = go (list_of v) refl (sym (count-is v) ∙ e) where
       record { is = rw k; left = omega arith; number = rw k (omega arith) }
   go (no m) k h = let z : ◌≡◌ {A = ℕ} 0 1 = cc in absurd (omega arith)
 
-in-holder : (s : List ℕ) (b e : ℕ) → Holder s b e → mechanismsIn (part s b e) ≡ value_of (list_of (part s b e))
+in-holder : (s : List ℕ) (b e : ℕ) → Holder s b e → mechanisms_in (part s b e) ≡ value_of (list_of (part s b e))
 unfolding check
 in-holder s b e h =
     let o = h.order in let i = h.inside in let m = h.small in
@@ -154,7 +154,7 @@ in-holder s b e h =
 
 module _ (s : List ℕ) (at end : ℕ) (h : Holder s at end) (x : Cut) (says : Cuts s at end (cut 0xA0 any (part s at end)) x) where
   abbrev Says : Listed → Type 0
-  Says r = Lists s end (mechanismsOf (part s at end)) r
+  Says r = Lists s end (mechanisms_of (part s at end)) r
 
   pub list-outer-no : (n : ℕ) → x ≡ Refused n → Says (lists.Refused n)
   unfolding within
@@ -173,20 +173,20 @@ module _ (s : List ℕ) (at end : ℕ) (h : Holder s at end) (x : Cut) (says : C
         pub list-inner : Holder s c d
         list-inner = holder_in says' c d y-is list-outer
 
-        module _ (i : Counted) (i-is : toldCount i ≡ count_of (part s c d)) where
+        module _ (i : Counted) (i-is : told_count i ≡ count_of (part s c d)) where
           pub list-refused : (n : ℕ) → i ≡ counts.Refused n → Says (lists.Refused n)
           unfolding within only
           list-refused n k =
               record {
-                same = sym (rw (got-ok says b e x-is, got-ok says' c d y-is, list-no (part s c d) n (sym i-is ∙ ap toldCount k)));
+                same = sym (rw (got-ok says b e x-is, got-ok says' c d y-is, list-no (part s c d) n (sym i-is ∙ ap told_count k)));
                 placed = tt;
               }
 
           module _ (n : ℕ) (i-ok : i ≡ counts.Left n) where
             listing : Listing (part s c d) n
-            listing = list-ok (part s c d) n (sym i-is ∙ ap toldCount i-ok)
+            listing = list-ok (part s c d) n (sym i-is ∙ ap told_count i-ok)
 
-            listed : list_of (part s c d) ≡ ok (mechanismsIn (part s c d))
+            listed : list_of (part s c d) ≡ ok (mechanisms_in (part s c d))
             listed = listing.is ∙ ap ok (sym (in-holder s c d list-inner))
 
             behind : Holder s d e
@@ -200,12 +200,12 @@ module _ (s : List ℕ) (at end : ℕ) (h : Holder s at end) (x : Cut) (says : C
             list_left k =
                 record {
                   same = sym
-                      (rw (got-ok says b e x-is, got-ok says' c d y-is, listed, closed-left s d e behind (mechanismsIn (part s c d)) k));
+                      (rw (got-ok says b e x-is, got-ok says' c d y-is, listed, closed-left s d e behind (mechanisms_in (part s c d)) k));
                   placed = tt;
                 }
 
             found : (ms : List (List ℕ)) → list_of (part s c d) ≡ ok ms → d ≡ e
-                → mechanismsOf (part s at end) ≡ ok (record { value = ms; rest = part s e end })
+                → mechanisms_of (part s at end) ≡ ok (record { value = ms; rest = part s e end })
             unfolding within only
             found ms is k = rw (got-ok says b e x-is, got-ok says' c d y-is, is, closed-end s d e behind ms k)
 
@@ -213,7 +213,7 @@ module _ (s : List ℕ) (at end : ℕ) (h : Holder s at end) (x : Cut) (says : C
             list-found k =
                 let o = list-inner in
                 record {
-                  same = sym (found (mechanismsIn (part s c d)) listed k);
+                  same = sym (found (mechanisms_in (part s c d)) listed k);
                   placed = (
                     record { order = o.order; inside = o.inside; counted = listing.number ∙ ap length (sym (in-holder s c d list-inner)) },
                     holder-behind says b e x-is h,
@@ -225,10 +225,10 @@ pub ruleset listings = (list-outer-no, list-outer, list-inner-no, list-inner, li
 -- what the answer gives
 module _ {s : List ℕ} {end : ℕ} {g : Got (Part (List (List ℕ)))} {o : Listed} (says : Lists s end g o) where
   pub list-got-no : (n : ℕ) → o ≡ lists.Refused n → g ≡ no n
-  list-got-no n e = sym says.same ∙ ap (toldList s end) e
+  list-got-no n e = sym says.same ∙ ap (told_list s end) e
 
-  pub list-got : (b e k a : ℕ) → o ≡ lists.At b e k a → g ≡ ok (record { value = mechanismsIn (part s b e); rest = part s a end })
-  list-got b e k a w = sym says.same ∙ ap (toldList s end) w
+  pub list-got : (b e k a : ℕ) → o ≡ lists.At b e k a → g ≡ ok (record { value = mechanisms_in (part s b e); rest = part s a end })
+  list-got b e k a w = sym says.same ∙ ap (told_list s end) w
 
   pub list-placed : (b e k a : ℕ) → o ≡ lists.At b e k a → ListPlaced s b e k
   list-placed b e k a w = (rw w at says.placed).0

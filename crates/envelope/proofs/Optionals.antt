@@ -18,7 +18,7 @@ use Rattle.der.specs.Holder.{Holder, part, Cuts}
 use Rattle.der.specs.declared.Cut.{Cut}
 use Rattle.der.specs.declared.Cut.TheVariants.{Element, Refused}
 use Rattle.der.proofs.Parts.{part_none, part-cons}
-use Rattle.envelope.specs.Answers.{shown, soleField, toldOptional, FieldTo, EndsAt, Optionals, FieldIn}
+use Rattle.envelope.specs.Answers.{shown, sole_field, told_optional, FieldTo, EndsAt, Optionals, FieldIn}
 use Rattle.envelope.specs.declared.Optional.{Optional}
 use Rattle.envelope.specs.declared.Optional.TheVariants as optionals
 use Rattle.envelope.specs.declared.Field.{Field}
@@ -39,32 +39,32 @@ pub ruleset fronts = (starts_none, starts-some)
 
 -- an element alone in its holder
 module _ (c : Cut) (end : ℕ) where
-  pub sole-refused : (n : ℕ) → c ≡ Refused n → optionals.Refused n ≡ soleField c end
+  pub sole-refused : (n : ℕ) → c ≡ Refused n → optionals.Refused n ≡ sole_field c end
   sole-refused n e = rw e
 
-  pub sole-left : (b d : ℕ) → c ≡ Element b d → (d ≡ end → ⊥) → optionals.Refused 22 ≡ soleField c end
+  pub sole-left : (b d : ℕ) → c ≡ Element b d → (d ≡ end → ⊥) → optionals.Refused 22 ≡ sole_field c end
   sole-left b d e k = rw (e, ne_eqb d end k)
 
-  pub sole-alone : (b d : ℕ) → c ≡ Element b d → d ≡ end → optionals.Field (fields.At b d) end ≡ soleField c end
+  pub sole-alone : (b d : ℕ) → c ≡ Element b d → d ≡ end → optionals.Field (fields.At b d) end ≡ sole_field c end
   sole-alone b d e k = rw (e, eq-eqb d end k)
 
 pub ruleset soles = (sole-refused, sole-left, sole-alone)
 
 -- the one element of a field: what it says, and that it ends where the field does
 module _ (s : List ℕ) (b e u : ℕ) (p : List ℕ → Bool) (h : Holder s b e) where
-  abbrev toldField : Optional → Got (Option (List ℕ))
-  toldField (optionals.Field f next) = ok (shown s f)
-  toldField (optionals.Refused n) = no n
+  abbrev told_field : Optional → Got (Option (List ℕ))
+  told_field (optionals.Field f next) = ok (shown s f)
+  told_field (optionals.Refused n) = no n
 
   abbrev Ends : Optional → Type 0
   Ends (optionals.Field f next) = EndsAt f next × (next ≡ e)
   Ends (optionals.Refused n) = Unit {0}
 
-  sole-is : (c : Cut) → Cuts s b e (cut u p (part s b e)) c → (toldField (soleField c e) ≡ sole u p (part s b e)) × Ends (soleField c e)
+  sole-is : (c : Cut) → Cuts s b e (cut u p (part s b e)) c → (told_field (sole_field c e) ≡ sole u p (part s b e)) × Ends (sole_field c e)
   unfolding only within
   sole-is (Refused n) says = (rw (got-no says n refl), tt)
   sole-is (Element f g) says = go (which (eqb g e)) where
-    go : (eqb g e ≡ true) ⊎ (eqb g e ≡ false) → (toldField (soleField (Element f g) e) ≡ sole u p (part s b e)) × Ends (soleField (Element f g) e)
+    go : (eqb g e ≡ true) ⊎ (eqb g e ≡ false) → (told_field (sole_field (Element f g) e) ≡ sole u p (part s b e)) × Ends (sole_field (Element f g) e)
     go (inl k) =
         let is : g ≡ e = eqb-true g e k in
         let i = got-inside says f g refl in
@@ -85,13 +85,13 @@ module _ (s : List ℕ) (at end t u : ℕ) (h : Holder s at end) (w : Bool) (w-i
       pub option-holder : Holder s b d
       option-holder = holder_in says b d c-is h
 
-      pub option-found : (p : List ℕ → Bool) (x : Cut) → Cuts s b d (cut u p (part s b d)) x → (r : Optional) → r ≡ soleField x d
+      pub option-found : (p : List ℕ → Bool) (x : Cut) → Cuts s b d (cut u p (part s b d)) x → (r : Optional) → r ≡ sole_field x d
           → Optionals s end (optional t u p (part s at end)) r
       unfolding optional field within
       option-found p x x-says r r-is =
           let q = sole-is s b d u p option-holder x x-says in
-          rw r-is (go (soleField x d) q.0 q.1) where
-            go : (r : Optional) → toldField s b d u p option-holder r ≡ sole u p (part s b d) → Ends s b d u p option-holder r
+          rw r-is (go (sole_field x d) q.0 q.1) where
+            go : (r : Optional) → told_field s b d u p option-holder r ≡ sole u p (part s b d) → Ends s b d u p option-holder r
                 → Optionals s end (optional t u p (part s at end)) r
             go (optionals.Field f next) e k =
                 record {
@@ -107,10 +107,10 @@ pub ruleset options = (option-absent, option-no, option-holder, option-found)
 -- what a field's answer gives
 module _ {s : List ℕ} {end : ℕ} {g : Got (Part (Option (List ℕ)))} {o : Optional} (says : Optionals s end g o) where
   pub option-got-no : (n : ℕ) → o ≡ optionals.Refused n → g ≡ no n
-  option-got-no n e = sym says.same ∙ ap (toldOptional s end) e
+  option-got-no n e = sym says.same ∙ ap (told_optional s end) e
 
   pub option-got : (f : Field) (a : ℕ) → o ≡ optionals.Field f a → g ≡ ok (record { value = shown s f; rest = part s a end })
-  option-got f a e = sym says.same ∙ ap (toldOptional s end) e
+  option-got f a e = sym says.same ∙ ap (told_optional s end) e
 
   pub option-to : (f : Field) (a : ℕ) → o ≡ optionals.Field f a → FieldTo s end f a
   option-to f a e = rw e at says.placed

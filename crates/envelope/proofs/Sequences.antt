@@ -12,8 +12,8 @@ use Rattle.der.specs.Got.{check}
 use Rattle.der.specs.Grammar.{optional}
 use Rattle.der.specs.Holder.{Holder, part}
 use Rattle.der.proofs.Parts.{part_none, part-cons}
-use Rattle.envelope.specs.Envelope.{isState}
-use Rattle.envelope.specs.Reading.{mechanismsOf, tailOf, initOf, respOf, begins}
+use Rattle.envelope.specs.Envelope.{is_state}
+use Rattle.envelope.specs.Reading.{mechanisms_of, tail_of, init_of, resp_of, begins}
 use Rattle.envelope.specs.Answers.{Optionals, Lists, Tails, Reads}
 use Rattle.envelope.specs.declared.Field.{Field}
 use Rattle.envelope.specs.declared.Optional.{Optional}
@@ -27,23 +27,23 @@ use Rattle.envelope.proofs.Optionals.{option-got-no, option-got, option-to, opti
 use Rattle.envelope.proofs.Tails.{tail-got-no, tail-got, tail-placed}
 use Rattle.envelope.proofs.Lists.{list-got-no, list-got, list-placed, list-behind}
 
-module _ (s : List ℕ) (at end : ℕ) (m : Listed) (m-says : Lists s end (mechanismsOf (part s at end)) m) where
-  pub init-no : (n : ℕ) → m ≡ lists.Refused n → Reads s end (initOf (part s at end)) (reads.Refused n)
-  unfolding initOf
+module _ (s : List ℕ) (at end : ℕ) (m : Listed) (m-says : Lists s end (mechanisms_of (part s at end)) m) where
+  pub init-no : (n : ℕ) → m ≡ lists.Refused n → Reads s end (init_of (part s at end)) (reads.Refused n)
+  unfolding init_of
   init-no n e = record { same = sym (rw (list-got-no m-says n e)); placed = tt }
 
   module _ (l z k a : ℕ) (m-is : m ≡ lists.At l z k a) where
     pub init-behind : Holder s a end
     init-behind = list-behind m-says l z k a m-is
 
-    module _ (t : Tailed) (t-says : Tails s end (tailOf 0x03 (part s a end)) t) where
-      pub init-tail-no : (n : ℕ) → t ≡ tails.Refused n → Reads s end (initOf (part s at end)) (reads.Refused n)
-      unfolding initOf
+    module _ (t : Tailed) (t-says : Tails s end (tail_of 0x03 (part s a end)) t) where
+      pub init-tail-no : (n : ℕ) → t ≡ tails.Refused n → Reads s end (init_of (part s at end)) (reads.Refused n)
+      unfolding init_of
       init-tail-no n e = record { same = sym (rw (list-got m-says l z k a m-is, tail-got-no t-says n e)); placed = tt }
 
       pub init-found : (F T K : Field) → t ≡ tails.Fields F T K
-          → Reads s end (initOf (part s at end)) (reads.Init (record { list = l; end = z; count = k; flags = F; token = T; checksum = K }))
-      unfolding initOf
+          → Reads s end (init_of (part s at end)) (reads.Init (record { list = l; end = z; count = k; flags = F; token = T; checksum = K }))
+      unfolding init_of
       init-found F T K e =
           record {
             same = sym (rw (list-got m-says l z k a m-is, tail-got t-says F T K e));
@@ -72,27 +72,27 @@ module _ (s : List ℕ) (at end : ℕ) (h : Holder s at end) where
 pub ruleset beginnings = (begins-none, begins-low, begins-high)
 
 module _ (s : List ℕ) (at end : ℕ) (w : Bool) (w-is : w ≡ begins (part s at end)) where
-  pub resp-other : w ≡ false → Reads s end (respOf (part s at end)) (reads.Refused 20)
-  unfolding respOf check
+  pub resp-other : w ≡ false → Reads s end (resp_of (part s at end)) (reads.Refused 20)
+  unfolding resp_of check
   resp-other e = record { same = sym (rw (← w-is, e)); placed = tt }
 
-  module _ (begun : w ≡ true) (x : Optional) (x-says : Optionals s end (optional 0xA0 0x0A isState (part s at end)) x) where
-    pub resp-no : (n : ℕ) → x ≡ optionals.Refused n → Reads s end (respOf (part s at end)) (reads.Refused n)
-    unfolding respOf check
+  module _ (begun : w ≡ true) (x : Optional) (x-says : Optionals s end (optional 0xA0 0x0A is_state (part s at end)) x) where
+    pub resp-no : (n : ℕ) → x ≡ optionals.Refused n → Reads s end (resp_of (part s at end)) (reads.Refused n)
+    unfolding resp_of check
     resp-no n e = record { same = sym (rw (← w-is, begun, option-got-no x-says n e)); placed = tt }
 
     module _ (X : Field) (a : ℕ) (x-is : x ≡ optionals.Field X a) where
       pub resp-behind : Holder s a end
       resp-behind = option-behind x-says X a x-is
 
-      module _ (t : Tailed) (t-says : Tails s end (tailOf 0x06 (part s a end)) t) where
-        pub resp-tail-no : (n : ℕ) → t ≡ tails.Refused n → Reads s end (respOf (part s at end)) (reads.Refused n)
-        unfolding respOf check
+      module _ (t : Tailed) (t-says : Tails s end (tail_of 0x06 (part s a end)) t) where
+        pub resp-tail-no : (n : ℕ) → t ≡ tails.Refused n → Reads s end (resp_of (part s at end)) (reads.Refused n)
+        unfolding resp_of check
         resp-tail-no n e = record { same = sym (rw (← w-is, begun, option-got x-says X a x-is, tail-got-no t-says n e)); placed = tt }
 
         pub resp-found : (M T K : Field) → t ≡ tails.Fields M T K
-            → Reads s end (respOf (part s at end)) (reads.Resp (record { state = X; mechanism = M; token = T; checksum = K }))
-        unfolding respOf check
+            → Reads s end (resp_of (part s at end)) (reads.Resp (record { state = X; mechanism = M; token = T; checksum = K }))
+        unfolding resp_of check
         resp-found M T K e =
             record {
               same = sym (rw (← w-is, begun, option-got x-says X a x-is, tail-got t-says M T K e));

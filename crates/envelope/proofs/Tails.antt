@@ -7,12 +7,12 @@ use native.Mathlib.Omega.{arith}
 use lib.ListN.{length}
 use Rattle.der.specs.Got.{Got, ok, no}
 use Rattle.der.specs.Element.{any}
-use Rattle.der.specs.Grammar.{fieldOctets, optional}
+use Rattle.der.specs.Grammar.{field_octets, optional}
 use Rattle.der.specs.Holder.{Holder, part}
 use Rattle.der.proofs.Parts.{part_none, length_part}
 use Rattle.der.proofs.Nesting.{optional-forth}
-use Rattle.envelope.specs.Reading.{Tail, tailOf}
-use Rattle.envelope.specs.Answers.{shown, FieldIn, Before, FieldTo, Optionals, TailPlaced, toldTail, Tails}
+use Rattle.envelope.specs.Reading.{Tail, tail_of}
+use Rattle.envelope.specs.Answers.{shown, FieldIn, Before, FieldTo, Optionals, TailPlaced, told_tail, Tails}
 use Rattle.envelope.specs.declared.Field.{Field}
 use Rattle.envelope.specs.declared.Field.TheVariants as fields
 use Rattle.envelope.specs.declared.Optional.{Optional}
@@ -39,18 +39,18 @@ module _ (s : List ℕ) (t k : Field) (inside : FieldIn s t) (last : Before s (l
   pub token-size : length (part s b e) ≡ e - b
   token-size = length_part s b e token-inside.0 token-inside.1
 
-  pub token-place : length s - (length (part s b e) + length (fieldOctets 0xA3 0x04 (shown s k))) ≡ b
+  pub token-place : length s - (length (part s b e) + length (field_octets 0xA3 0x04 (shown s k))) ≡ b
   token-place =
       let i = token-inside in
-      let behind : part s e (length s) ≡ fieldOctets 0xA3 0x04 (shown s k) = rw there at last in
+      let behind : part s e (length s) ≡ field_octets 0xA3 0x04 (shown s k) = rw there at last in
       omega (arith, token-size, length_part s e (length s) i.1 (omega arith), ap length behind)
 
 module _ (s : List ℕ) (at end u : ℕ) (h : Holder s at end) (y : Optional) (y-says : Optionals s end (optional 0xA1 u any (part s at end)) y) where
   abbrev Says : Tailed → Type 0
-  Says r = Tails s end (tailOf u (part s at end)) r
+  Says r = Tails s end (tail_of u (part s at end)) r
 
   pub tail-no : (n : ℕ) → y ≡ optionals.Refused n → Says (tails.Refused n)
-  unfolding tailOf
+  unfolding tail_of
   tail-no n e = record { same = sym (rw (option-got-no y-says n e)); placed = tt }
 
   module _ (Y : Field) (a : ℕ) (y-is : y ≡ optionals.Field Y a) where
@@ -59,7 +59,7 @@ module _ (s : List ℕ) (at end u : ℕ) (h : Holder s at end) (y : Optional) (y
 
     module _ (t : Optional) (t-says : Optionals s end (optional 0xA2 0x04 any (part s a end)) t) where
       pub tail-token-no : (n : ℕ) → t ≡ optionals.Refused n → Says (tails.Refused n)
-      unfolding tailOf
+      unfolding tail_of
       tail-token-no n e = record { same = sym (rw (option-got y-says Y a y-is, option-got-no t-says n e)); placed = tt }
 
       module _ (T : Field) (b : ℕ) (t-is : t ≡ optionals.Field T b) where
@@ -68,7 +68,7 @@ module _ (s : List ℕ) (at end u : ℕ) (h : Holder s at end) (y : Optional) (y
 
         module _ (k : Optional) (k-says : Optionals s end (optional 0xA3 0x04 any (part s b end)) k) where
           pub tail-checksum-no : (n : ℕ) → k ≡ optionals.Refused n → Says (tails.Refused n)
-          unfolding tailOf
+          unfolding tail_of
           tail-checksum-no n e =
               record { same = sym (rw (option-got y-says Y a y-is, option-got t-says T b t-is, option-got-no k-says n e)); placed = tt }
 
@@ -77,7 +77,7 @@ module _ (s : List ℕ) (at end u : ℕ) (h : Holder s at end) (y : Optional) (y
             rest = option-behind k-says K c k-is
 
             pub tail-left : (c ≡ end → ⊥) → Says (tails.Refused 22)
-            unfolding tailOf
+            unfolding tail_of
             tail-left e =
                 record {
                   same = sym
@@ -87,7 +87,7 @@ module _ (s : List ℕ) (at end u : ℕ) (h : Holder s at end) (y : Optional) (y
                 }
 
             pub tail-found : c ≡ end → Says (tails.Fields Y T K)
-            unfolding tailOf
+            unfolding tail_of
             tail-found e =
                 let yt = option-to y-says Y a y-is in
                 let tt' = option-to t-says T b t-is in
@@ -96,9 +96,9 @@ module _ (s : List ℕ) (at end u : ℕ) (h : Holder s at end) (y : Optional) (y
                   same = sym (rw (option-got y-says Y a y-is, option-got t-says T b t-is, option-got k-says K c k-is) (closed-end s c end rest _ e));
                   placed =
                       record {
-                        second-in = field_in s end Y a yt;
-                        token-in = field_in s end T b tt';
-                        checksum-in = field_in s end K c kt;
+                        second_in = field_in s end Y a yt;
+                        token_in = field_in s end T b tt';
+                        checksum_in = field_in s end K c kt;
                         last = before s end T K b c tt' (option-got k-says K c k-is) e;
                       };
                 }
@@ -108,10 +108,10 @@ pub ruleset tailing = (tail-no, tail-second, tail-token-no, tail-third, tail-che
 -- what the answer gives
 module _ {s : List ℕ} {end : ℕ} {g : Got Tail} {o : Tailed} (says : Tails s end g o) where
   pub tail-got-no : (n : ℕ) → o ≡ tails.Refused n → g ≡ no n
-  tail-got-no n e = sym says.same ∙ ap (toldTail s) e
+  tail-got-no n e = sym says.same ∙ ap (told_tail s) e
 
   pub tail-got : (y t k : Field) → o ≡ tails.Fields y t k → g ≡ ok (record { second = shown s y; token = shown s t; checksum = shown s k })
-  tail-got y t k e = sym says.same ∙ ap (toldTail s) e
+  tail-got y t k e = sym says.same ∙ ap (told_tail s) e
 
   pub tail-placed : (y t k : Field) → o ≡ tails.Fields y t k → TailPlaced s end y t k
   tail-placed y t k e = rw e at says.placed

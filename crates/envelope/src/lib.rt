@@ -3,9 +3,9 @@ ghost use Rattle.std.specs.Prelude.{◌≡◌, length};
 ghost use Rattle.der.specs.Element.{any};
 ghost use Rattle.der.specs.Grammar.{only, starts, optional};
 ghost use Rattle.der.specs.Holder.{Holder, part};
-ghost use Rattle.envelope.specs.Envelope.{isState};
-ghost use Rattle.envelope.specs.Reading.{mechanismsOf, tailOf, initOf, begins, respOf, wrappedOf, envelopeOf};
-ghost use Rattle.envelope.specs.Answers.{soleField, Optionals, count_of, toldCount, refusalOf, Lists, Tails, Reads, closedRead};
+ghost use Rattle.envelope.specs.Envelope.{is_state};
+ghost use Rattle.envelope.specs.Reading.{mechanisms_of, tail_of, init_of, begins, resp_of, wrapped_of, envelope_of};
+ghost use Rattle.envelope.specs.Answers.{sole_field, Optionals, count_of, told_count, refusal_of, Lists, Tails, Reads, closed_read};
 
 use der::{Cut, cut_at, cut_at_most, cut_exactly};
 
@@ -84,7 +84,7 @@ fn starts_at(s: &[u8], at: usize, end: usize, tag: u8) -> bool
 
 // An element as a field, where it is alone in its holder.
 fn sole_field(c: Cut, end: usize) -> Optional
-    ensures { result ≡ soleField c end }
+    ensures { result ≡ sole_field c end }
 {
     match c {
         Cut::Refused(n) => Optional::Refused(n),
@@ -114,7 +114,7 @@ fn optional_at(s: &[u8], at: usize, end: usize, tag: u8, inner: u8) -> Optional
 // The state, which may be missing.
 fn state_at(s: &[u8], at: usize, end: usize) -> Optional
     requires { Holder s.now at end }
-    ensures { Optionals s.now end (optional 0xA0 0x0A isState (part s.now at end)) result }
+    ensures { Optionals s.now end (optional 0xA0 0x0A is_state (part s.now at end)) result }
 {
     if starts_at(s, at, end, 0xA0) {} else {
         return Optional::Field(Field::Absent, at);
@@ -127,7 +127,7 @@ fn state_at(s: &[u8], at: usize, end: usize) -> Optional
 
 // An element's refusal.
 fn refused(c: Cut) -> Counted
-    ensures { toldCount result ≡ refusalOf c }
+    ensures { told_count result ≡ refusal_of c }
 {
     match c {
         Cut::Refused(n) => Counted::Refused(n),
@@ -138,7 +138,7 @@ fn refused(c: Cut) -> Counted
 // The identifiers of a list: one at the least, sixteen at the most.
 fn identifiers_at(s: &[u8], at: usize, end: usize) -> Counted
     requires { Holder s.now at end }
-    ensures { toldCount result ≡ count_of (part s.now at end) }
+    ensures { told_count result ≡ count_of (part s.now at end) }
 {
     if at == end {
         return Counted::Refused(20);
@@ -162,7 +162,7 @@ fn identifiers_at(s: &[u8], at: usize, end: usize) -> Counted
 // The list of mechanisms.
 fn mechanisms_at(s: &[u8], at: usize, end: usize) -> Listed
     requires { Holder s.now at end }
-    ensures { Lists s.now end (mechanismsOf (part s.now at end)) result }
+    ensures { Lists s.now end (mechanisms_of (part s.now at end)) result }
 {
     match cut_at(s, at, end, 0xA0) {
         Cut::Refused(n) => Listed::Refused(n),
@@ -184,7 +184,7 @@ fn mechanisms_at(s: &[u8], at: usize, end: usize) -> Listed
 // The three fields behind the first; the second has an element with the tag `inner` in it.
 fn tail_at(s: &[u8], at: usize, end: usize, inner: u8) -> Tailed
     requires { Holder s.now at end }
-    ensures { Tails s.now end (tailOf inner (part s.now at end)) result }
+    ensures { Tails s.now end (tail_of inner (part s.now at end)) result }
 {
     match optional_at(s, at, end, 0xA1, inner) {
         Optional::Refused(n) => Tailed::Refused(n),
@@ -206,7 +206,7 @@ fn tail_at(s: &[u8], at: usize, end: usize, inner: u8) -> Tailed
 // The contents of an Init's sequence.
 fn init_at(s: &[u8], at: usize, end: usize) -> Read
     requires { Holder s.now at end }
-    ensures { Reads s.now end (initOf (part s.now at end)) result }
+    ensures { Reads s.now end (init_of (part s.now at end)) result }
 {
     match mechanisms_at(s, at, end) {
         Listed::Refused(n) => Read::Refused(n),
@@ -241,7 +241,7 @@ fn begins_at(s: &[u8], at: usize, end: usize) -> bool
 // The contents of a Resp's sequence.
 fn resp_at(s: &[u8], at: usize, end: usize) -> Read
     requires { Holder s.now at end }
-    ensures { Reads s.now end (respOf (part s.now at end)) result }
+    ensures { Reads s.now end (resp_of (part s.now at end)) result }
 {
     if begins_at(s, at, end) {} else {
         return Read::Refused(20);
@@ -262,7 +262,7 @@ fn resp_at(s: &[u8], at: usize, end: usize) -> Read
 
 // A reading, in a holder that ends behind it or not.
 fn closed_read(ends: bool, r: Read) -> Read
-    ensures { result ≡ closedRead ends r }
+    ensures { result ≡ closed_read ends r }
 {
     if ends {
         return r;
@@ -277,7 +277,7 @@ fn closed_read(ends: bool, r: Read) -> Read
 // An Init's sequence.
 fn init_sequence(s: &[u8], at: usize, end: usize) -> Read
     requires { Holder s.now at end }
-    ensures { Reads s.now end (only 0x30 any initOf (part s.now at end)) result }
+    ensures { Reads s.now end (only 0x30 any init_of (part s.now at end)) result }
 {
     match cut_at(s, at, end, 0x30) {
         Cut::Refused(n) => Read::Refused(n),
@@ -288,7 +288,7 @@ fn init_sequence(s: &[u8], at: usize, end: usize) -> Read
 // An Init.
 fn init_token(s: &[u8], at: usize, end: usize) -> Read
     requires { Holder s.now at end }
-    ensures { Reads s.now end (only 0xA0 any (only 0x30 any initOf) (part s.now at end)) result }
+    ensures { Reads s.now end (only 0xA0 any (only 0x30 any init_of) (part s.now at end)) result }
 {
     match cut_at(s, at, end, 0xA0) {
         Cut::Refused(n) => Read::Refused(n),
@@ -299,7 +299,7 @@ fn init_token(s: &[u8], at: usize, end: usize) -> Read
 // The contents of the wrapper: SPNEGO's identifier, then the Init.
 fn wrapped_at(s: &[u8], at: usize, end: usize) -> Read
     requires { Holder s.now at end }
-    ensures { Reads s.now end (wrappedOf (part s.now at end)) result }
+    ensures { Reads s.now end (wrapped_of (part s.now at end)) result }
 {
     let spnego = [0x2B, 0x06, 0x01, 0x05, 0x05, 0x02];
     match cut_exactly(s, at, end, 0x06, &spnego) {
@@ -311,7 +311,7 @@ fn wrapped_at(s: &[u8], at: usize, end: usize) -> Read
 // The wrapper.
 fn wrapper(s: &[u8], at: usize, end: usize) -> Read
     requires { Holder s.now at end }
-    ensures { Reads s.now end (only 0x60 any wrappedOf (part s.now at end)) result }
+    ensures { Reads s.now end (only 0x60 any wrapped_of (part s.now at end)) result }
 {
     match cut_at(s, at, end, 0x60) {
         Cut::Refused(n) => Read::Refused(n),
@@ -322,7 +322,7 @@ fn wrapper(s: &[u8], at: usize, end: usize) -> Read
 // A Resp's sequence.
 fn resp_sequence(s: &[u8], at: usize, end: usize) -> Read
     requires { Holder s.now at end }
-    ensures { Reads s.now end (only 0x30 any respOf (part s.now at end)) result }
+    ensures { Reads s.now end (only 0x30 any resp_of (part s.now at end)) result }
 {
     match cut_at(s, at, end, 0x30) {
         Cut::Refused(n) => Read::Refused(n),
@@ -333,7 +333,7 @@ fn resp_sequence(s: &[u8], at: usize, end: usize) -> Read
 // A Resp.
 fn resp_token(s: &[u8], at: usize, end: usize) -> Read
     requires { Holder s.now at end }
-    ensures { Reads s.now end (only 0xA1 any (only 0x30 any respOf) (part s.now at end)) result }
+    ensures { Reads s.now end (only 0xA1 any (only 0x30 any resp_of) (part s.now at end)) result }
 {
     match cut_at(s, at, end, 0xA1) {
         Cut::Refused(n) => Read::Refused(n),
@@ -343,7 +343,7 @@ fn resp_token(s: &[u8], at: usize, end: usize) -> Read
 
 // The envelope in a buffer.
 pub fn read_envelope(s: &[u8]) -> Read
-    ensures { Reads s.now (length s.now) (envelopeOf s.now) result }
+    ensures { Reads s.now (length s.now) (envelope_of s.now) result }
 {
     let length = s.len();
     if 65535 < length {

@@ -20,11 +20,11 @@ pub record TokenAt (s : List ℕ) (f k : Field) : Type 0 where
 abbrev pub InitAt : List ℕ → Init → Type 0
 InitAt s i = Placed s (length s) (reads.Init i)
 
-abbrev pub toldInit : List ℕ → Init → Got Envelope
-toldInit s i = told s (reads.Init i)
+abbrev pub told_init : List ℕ → Init → Got Envelope
+told_init s i = told s (reads.Init i)
 
 abbrev pub RespAt : List ℕ → Resp → Type 0
 RespAt s r = Placed s (length s) (reads.Resp r)
 
-abbrev pub toldResp : List ℕ → Resp → Got Envelope
-toldResp s r = told s (reads.Resp r)
+abbrev pub told_resp : List ℕ → Resp → Got Envelope
+told_resp s r = told s (reads.Resp r)

@@ -2,9 +2,9 @@
 ghost use Rattle.std.specs.Prelude.{◌≡◌, ◌∷◌, [], ◌++◌, length, get_or};
 ghost use Rattle.text.specs.Text.{text, written, quoted};
 ghost use Rattle.der.specs.Holder.{part};
-ghost use Rattle.envelope.specs.Answers.{shown, mechanismsIn};
-ghost use Rattle.envelope_lines.specs.Answers.{TokenAt, InitAt, toldInit, RespAt, toldResp};
-ghost use Rattle.envelope_lines.specs.Lines.{octetsText, mechanismLine, mechanismLines, octetsLine, namedLines, stateLine, tokenLine, lastLines, headLine, refusedText, text_of, envelopeText, tokenIn, begun as Lines·begun, wroteLine};
+ghost use Rattle.envelope.specs.Answers.{shown, mechanisms_in};
+ghost use Rattle.envelope_lines.specs.Answers.{TokenAt, InitAt, told_init, RespAt, told_resp};
+ghost use Rattle.envelope_lines.specs.Lines.{octets_text, mechanism_line, mechanism_lines, octets_line, named_lines, state_line, token_line, last_lines, head_line, refused_text, text_of, envelope_text, token_in, begun as Lines·begun, wrote_line};
 
 use der::same;
 use envelope::{Field, Init, Read, Resp, read_envelope};
@@ -13,7 +13,7 @@ use text::{append, field, hex_all, wide_field};
 
 // A field OCTETS.
 fn octets_text(d: &mut [u8], at: usize, v: &[u8]) -> usize
-    ensures { text d.new result ≡ written (octetsText v.now) (text d.old at) }
+    ensures { text d.new result ≡ written (octets_text v.now) (text d.old at) }
 {
     if v.len() == 0 {
         return append(d, at, b"-");
@@ -23,7 +23,7 @@ fn octets_text(d: &mut [u8], at: usize, v: &[u8]) -> usize
 
 // A mechanism's line.
 fn mechanism_line(d: &mut [u8], at: usize, index: usize, v: &[u8]) -> usize
-    ensures { text d.new result ≡ written (mechanismLine index v.now) (text d.old at) }
+    ensures { text d.new result ≡ written (mechanism_line index v.now) (text d.old at) }
 {
     let index_end = wide_field(d, at, b"mechanism ", index);
     let octets_start = append(d, index_end, b" ");
@@ -43,8 +43,8 @@ fn mechanism_lines(
     end: usize,
     count: usize,
 ) -> usize
-    requires { count ≡ length (mechanismsIn (part s.now list end)) }
-    ensures { text d.new result ≡ written (mechanismLines 0 (mechanismsIn (part s.now list end)))
+    requires { count ≡ length (mechanisms_in (part s.now list end)) }
+    ensures { text d.new result ≡ written (mechanism_lines 0 (mechanisms_in (part s.now list end)))
         (text d.old at) }
 {
     let mut next = at;
@@ -58,7 +58,7 @@ fn mechanism_lines(
 
 // A line of octets behind a word.
 fn octets_line(d: &mut [u8], at: usize, word: &[u8], v: &[u8]) -> usize
-    ensures { text d.new result ≡ written (word.now ∷ (octetsText v.now ++ (quoted "\n" ∷ [])))
+    ensures { text d.new result ≡ written (word.now ∷ (octets_text v.now ++ (quoted "\n" ∷ [])))
         (text d.old at) }
 {
     let word_end = append(d, at, word);
@@ -68,7 +68,7 @@ fn octets_line(d: &mut [u8], at: usize, word: &[u8], v: &[u8]) -> usize
 
 // A field's line, where it is there.
 fn field_line(d: &mut [u8], at: usize, word: &[u8], s: &[u8], f: Field) -> usize
-    ensures { text d.new result ≡ written (octetsLine word.now (shown s.now f)) (text d.old at) }
+    ensures { text d.new result ≡ written (octets_line word.now (shown s.now f)) (text d.old at) }
 {
     match f {
         Field::Absent => at,
@@ -78,7 +78,7 @@ fn field_line(d: &mut [u8], at: usize, word: &[u8], s: &[u8], f: Field) -> usize
 
 // The line of a Resp's mechanism, where it is there.
 fn named_line(d: &mut [u8], at: usize, s: &[u8], mechanism: Field) -> usize
-    ensures { text d.new result ≡ written (namedLines (shown s.now mechanism)) (text d.old at) }
+    ensures { text d.new result ≡ written (named_lines (shown s.now mechanism)) (text d.old at) }
 {
     match mechanism {
         Field::Absent => at,
@@ -104,7 +104,7 @@ fn first(v: &[u8]) -> u32
 
 // The line of a state, where it is there.
 fn state_line(d: &mut [u8], at: usize, s: &[u8], state: Field) -> usize
-    ensures { text d.new result ≡ written (stateLine (shown s.now state)) (text d.old at) }
+    ensures { text d.new result ≡ written (state_line (shown s.now state)) (text d.old at) }
 {
     match state {
         Field::Absent => at,
@@ -118,7 +118,7 @@ fn state_line(d: &mut [u8], at: usize, s: &[u8], state: Field) -> usize
 // The token's line, where it is there: its place in the buffer and its length.
 fn token_line(d: &mut [u8], at: usize, s: &[u8], token: Field, checksum: Field) -> usize
     requires { TokenAt s.now token checksum }
-    ensures { text d.new result ≡ written (tokenLine s.now (shown s.now token) (shown s.now checksum))
+    ensures { text d.new result ≡ written (token_line s.now (shown s.now token) (shown s.now checksum))
         (text d.old at) }
 {
     match token {
@@ -134,7 +134,7 @@ fn token_line(d: &mut [u8], at: usize, s: &[u8], token: Field, checksum: Field) 
 // The lines of the token and the checksum.
 fn last_lines(d: &mut [u8], at: usize, s: &[u8], token: Field, checksum: Field) -> usize
     requires { TokenAt s.now token checksum }
-    ensures { text d.new result ≡ written (lastLines s.now (shown s.now token) (shown s.now checksum))
+    ensures { text d.new result ≡ written (last_lines s.now (shown s.now token) (shown s.now checksum))
         (text d.old at) }
 {
     let token_end = token_line(d, at, s, token, checksum);
@@ -143,7 +143,7 @@ fn last_lines(d: &mut [u8], at: usize, s: &[u8], token: Field, checksum: Field) 
 
 // The first line: what the envelope is, and its length.
 fn head_line(d: &mut [u8], word: &[u8], s: &[u8]) -> usize
-    ensures { text d.new result ≡ written (headLine word.now s.now) (text d.old 0) }
+    ensures { text d.new result ≡ written (head_line word.now s.now) (text d.old 0) }
 {
     let length_end = wide_field(d, 0, word, s.len());
     append(d, length_end, b"\n")
@@ -151,7 +151,7 @@ fn head_line(d: &mut [u8], word: &[u8], s: &[u8]) -> usize
 
 // A refusal's line.
 pub fn refused_line(d: &mut [u8], n: u32) -> usize
-    ensures { text d.new result ≡ written (refusedText n) (text d.old 0) }
+    ensures { text d.new result ≡ written (refused_text n) (text d.old 0) }
 {
     let number_end = field(d, 0, b"refused ", n);
     append(d, number_end, b" at=0\n")
@@ -159,7 +159,7 @@ pub fn refused_line(d: &mut [u8], n: u32) -> usize
 
 fn init_text(d: &mut [u8], s: &[u8], i: Init) -> usize
     requires { InitAt s.now i }
-    ensures { text d.new result ≡ written (text_of s.now (toldInit s.now i)) (text d.old 0) }
+    ensures { text d.new result ≡ written (text_of s.now (told_init s.now i)) (text d.old 0) }
 {
     let list = i.list;
     let end = i.end;
@@ -175,7 +175,7 @@ fn init_text(d: &mut [u8], s: &[u8], i: Init) -> usize
 
 fn resp_text(d: &mut [u8], s: &[u8], r: Resp) -> usize
     requires { RespAt s.now r }
-    ensures { text d.new result ≡ written (text_of s.now (toldResp s.now r)) (text d.old 0) }
+    ensures { text d.new result ≡ written (text_of s.now (told_resp s.now r)) (text d.old 0) }
 {
     let state = r.state;
     let mechanism = r.mechanism;
@@ -189,7 +189,7 @@ fn resp_text(d: &mut [u8], s: &[u8], r: Resp) -> usize
 
 // The text of the envelope in a buffer, from the lent slice's front on.
 pub fn envelope_text(d: &mut [u8], s: &[u8]) -> usize
-    ensures { text d.new result ≡ written (envelopeText s.now) (text d.old 0) }
+    ensures { text d.new result ≡ written (envelope_text s.now) (text d.old 0) }
 {
     match read_envelope(s) {
         Read::Refused(n) => refused_line(d, n),
@@ -200,7 +200,7 @@ pub fn envelope_text(d: &mut [u8], s: &[u8]) -> usize
 
 // The token of the envelope in a buffer, nothing where there is none.
 pub fn token(s: &[u8]) -> &[u8]
-    ensures { result.now ≡ tokenIn s.now }
+    ensures { result.now ≡ token_in s.now }
 {
     match read_envelope(s) {
         Read::Refused(_) => &s[..0],
@@ -227,7 +227,7 @@ pub fn begun(v: &[u8]) -> bool
 
 // The line of an envelope that was written.
 pub fn wrote_line(d: &mut [u8], v: &[u8]) -> usize
-    ensures { text d.new result ≡ written (wroteLine v.now) (text d.old 0) }
+    ensures { text d.new result ≡ written (wrote_line v.now) (text d.old 0) }
 {
     let length_end = wide_field(d, 0, b"wrote ", v.len());
     octets_line(d, length_end, b" ", v)

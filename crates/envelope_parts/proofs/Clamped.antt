@@ -10,7 +10,7 @@ use borrow.Author.Tests.{le-leb, lt-leb}
 use Rattle.der.specs.Holder.{Holder, part}
 use Rattle.envelope.specs.declared.Field.{Field}
 use Rattle.envelope.specs.declared.Field.TheVariants as fields
-use Rattle.envelope_parts.specs.Parts.{octetsIn, identifierOf, mechanismOf}
+use Rattle.envelope_parts.specs.Parts.{octets_in, identifier_of, mechanism_of}
 
 module _ (s : List ℕ) (b e : ℕ) where
   pub part-outside : length s < b → [] ≡ part s b e
@@ -32,22 +32,22 @@ module _ (s : List ℕ) (b e : ℕ) where
 
 pub ruleset parts = (part-outside, part-backwards, part-beyond, part-inside)
 
-pub field_at : (s v : List ℕ) (f : Field) (b e : ℕ) → f ≡ fields.At b e → v ≡ part s b e → v ≡ octetsIn s f
+pub field_at : (s v : List ℕ) (f : Field) (b e : ℕ) → f ≡ fields.At b e → v ≡ part s b e → v ≡ octets_in s f
 field_at s v f b e h k = rw h k
 
-pub field-absent : (s : List ℕ) (f : Field) → f ≡ fields.Absent → [] ≡ octetsIn s f
+pub field-absent : (s : List ℕ) (f : Field) → f ≡ fields.Absent → [] ≡ octets_in s f
 field-absent s f h = rw h
 
 pub ruleset shown = (field_at, field-absent)
 
 -- a list that is not too long
 module _ (v w : List ℕ) (k : ℕ) (is : v ≡ w) where
-  pub mechanism-long : 65535 < length v → [] ≡ mechanismOf k w
-  unfolding mechanismOf
+  pub mechanism-long : 65535 < length v → [] ≡ mechanism_of k w
+  unfolding mechanism_of
   mechanism-long h = rw (← is, lt-leb (length v) 65535 h)
 
-  pub mechanism-found : length v ≤ 65535 → (r : List ℕ) → r ≡ identifierOf k (part v 0 (length v)) → r ≡ mechanismOf k w
-  unfolding mechanismOf part
+  pub mechanism-found : length v ≤ 65535 → (r : List ℕ) → r ≡ identifier_of k (part v 0 (length v)) → r ≡ mechanism_of k w
+  unfolding mechanism_of part
   mechanism-found short r e =
       let z : length v - 0 ≡ length v = omega arith in
       e ∙ rw (← is, z, take-length v, le-leb (length v) 65535 short)

@@ -11,35 +11,35 @@ use Rattle.der.specs.declared.Cut.{Cut}
 use Rattle.der.specs.declared.Cut.TheVariants.{Element, Refused}
 use Rattle.der.proofs.Parts.{part_none}
 use Rattle.envelope.proofs.Holders.{got-no, got-ok, got-inside, holder-behind}
-use Rattle.envelope_parts.specs.Parts.{identifierOf}
+use Rattle.envelope_parts.specs.Parts.{identifier_of}
 
-module _ (s : List ℕ) (at end left : ℕ) (x : List ℕ) (h : Holder s at end) (inv : x ≡ identifierOf left (part s at end)) where
+module _ (s : List ℕ) (at end left : ℕ) (x : List ℕ) (h : Holder s at end) (inv : x ≡ identifier_of left (part s at end)) where
   pub nth_end : end ≤ at → [] ≡ x
-  unfolding identifierOf cut frame
+  unfolding identifier_of cut frame
   nth_end e = let o = h.order in
       let z : at ≡ end = omega arith in
       sym (inv ∙ rw (← z, part_none s at) (none left)) where
-        none : (k : ℕ) → identifierOf k [] ≡ []
+        none : (k : ℕ) → identifier_of k [] ≡ []
         none zero = refl
         none (suc k) = refl
 
   module _ (c : Cut) (says : Cuts s at end (cut 0x06 any (part s at end)) c) where
     pub nth-no : (n : ℕ) → c ≡ Refused n → [] ≡ x
-    unfolding identifierOf
+    unfolding identifier_of
     nth-no n e = sym (inv ∙ stop left) where
-      stop : (k : ℕ) → identifierOf k (part s at end) ≡ []
+      stop : (k : ℕ) → identifier_of k (part s at end) ≡ []
       stop zero = rw (got-no says n e)
       stop (suc k) = rw (got-no says n e)
 
     module _ (b d : ℕ) (c-is : c ≡ Element b d) where
       pub nth_here : left ≡ 0 → take (d - b) (drop b s) ≡ x
-      unfolding identifierOf part
+      unfolding identifier_of part
       nth_here e = sym (inv ∙ rw (e, got-ok says b d c-is))
 
-      pub nth-more : (left ≡ 0 → ⊥) → x ≡ identifierOf (left - 1) (part s d end)
-      unfolding identifierOf
+      pub nth-more : (left ≡ 0 → ⊥) → x ≡ identifier_of (left - 1) (part s d end)
+      unfolding identifier_of
       nth-more e = inv ∙ step left e where
-        step : (k : ℕ) → (k ≡ 0 → ⊥) → identifierOf k (part s at end) ≡ identifierOf (k - 1) (part s d end)
+        step : (k : ℕ) → (k ≡ 0 → ⊥) → identifier_of k (part s at end) ≡ identifier_of (k - 1) (part s d end)
         step zero f = absurd (f refl)
         step (suc k) f = let z : suc k - 1 ≡ k = omega arith in rw (got-ok says b d c-is, z)
 

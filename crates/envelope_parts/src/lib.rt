@@ -1,7 +1,7 @@
 // The parts of an envelope that was read, where they stand in the caller's buffer.
 ghost use Rattle.std.specs.Prelude.{◌≡◌};
 ghost use Rattle.der.specs.Holder.{Holder, part};
-ghost use Rattle.envelope_parts.specs.Parts.{octetsIn, identifierOf, mechanismOf, isNegoex};
+ghost use Rattle.envelope_parts.specs.Parts.{octets_in, identifier_of, mechanism_of, is_negoex};
 
 use der::{Cut, cut_at, same};
 use envelope::Field;
@@ -24,7 +24,7 @@ fn part_of(s: &[u8], b: usize, e: usize) -> &[u8]
 
 // A field's octets; none where it is absent.
 pub fn octets(s: &[u8], f: Field) -> &[u8]
-    ensures { result.now ≡ octetsIn s.now f }
+    ensures { result.now ≡ octets_in s.now f }
 {
     match f {
         Field::At(b, e) => part_of(s, b, e),
@@ -35,7 +35,7 @@ pub fn octets(s: &[u8], f: Field) -> &[u8]
 // Identifier k of the holder from `at` to `end`.
 fn identifier(s: &[u8], at: usize, end: usize, k: usize) -> &[u8]
     requires { Holder s.now at end }
-    ensures { result.now ≡ identifierOf k (part s.now at end) }
+    ensures { result.now ≡ identifier_of k (part s.now at end) }
 {
     let mut next = at;
     let mut left = k;
@@ -55,7 +55,7 @@ fn identifier(s: &[u8], at: usize, end: usize, k: usize) -> &[u8]
 
 // Mechanism k of the list whose contents stand from `list` to `end`; nothing where there is none.
 pub fn mechanism(s: &[u8], list: usize, end: usize, k: usize) -> &[u8]
-    ensures { result.now ≡ mechanismOf k (part s.now list end) }
+    ensures { result.now ≡ mechanism_of k (part s.now list end) }
 {
     let identifiers = part_of(s, list, end);
     if 65535 < identifiers.len() {
@@ -66,7 +66,7 @@ pub fn mechanism(s: &[u8], list: usize, end: usize, k: usize) -> &[u8]
 
 // Whether an identifier's contents are those of NEGOEX.
 pub fn is_negoex(v: &[u8]) -> bool
-    ensures { result ≡ isNegoex v.now }
+    ensures { result ≡ is_negoex v.now }
 {
     same(
         v,

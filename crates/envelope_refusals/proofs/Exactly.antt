@@ -9,15 +9,15 @@ use native.Mathlib.Omega.{arith}
 use lib.ListN.{length}
 use lib.Dec.{eqb, leb}
 use borrow.Author.Tests.{eq-eqb, ne_eqb, eqb-true, eqb-false, le-leb, lt-leb, leb-true, leb-false}
-use Rattle.octets.specs.Octets.{sameOctets}
+use Rattle.octets.specs.Octets.{same_octets}
 use Rattle.octets.proofs.Bools.{which}
 use Rattle.octets.proofs.Same.{same-eq, same_refl}
 use Rattle.der.specs.Got.{Got, ok, no, bind, check}
-use Rattle.der.specs.Element.{Part, element, leadOf, size_of, framed, framedFrom, frame, indefinite, shortest, judged, cut, any}
+use Rattle.der.specs.Element.{Part, element, lead_of, size_of, framed, framed_from, frame, indefinite, shortest, judged, cut, any}
 use Rattle.der.specs.Grammar.{within, only, closed, starts}
 use Rattle.der.proofs.Cuts.{cut-forth}
 use Rattle.envelope.specs.Envelope.{Envelope, identifiers}
-use Rattle.envelope.specs.Reading.{filled, identifiersOf, list_of, wrappedOf, respOf, envelopeOf}
+use Rattle.envelope.specs.Reading.{filled, identifiers_of, list_of, wrapped_of, resp_of, envelope_of}
 use Rattle.envelope_refusals.specs.Refusals.{ElementFault, missing, tag, past, contents, long, ElementExactly, WithinFault, outer, inner, WithinExactly, OnlyFault, before, left, OnlyExactly, EnvelopeFault, large, wrapper, response, EnvelopeExactly, SeventeenthFault, SeventeenthLast}
 
 ok-no : {A B : Type 0} (a : A) (n : ℕ) → ok a ≡ no n → B
@@ -26,12 +26,12 @@ ok-no a n e = let z : ◌≡◌ {A = ℕ} 0 1 = cc in absurd (omega arith)
 number_is : {A : Type 0} (m n : ℕ) → ◌≡◌ {A = Got A} (no m) (no n) → m ≡ n
 number_is m n e = cc
 
-not_same : (a b : List ℕ) → sameOctets a b ≡ false → a ≡ b → ⊥
+not_same : (a b : List ℕ) → same_octets a b ≡ false → a ≡ b → ⊥
 not_same a b e k = let z : true ≡ false = sym (same_refl b) ∙ (rw k at e) in let y : ◌≡◌ {A = ℕ} 0 1 = cc in absurd (omega arith)
 
-same_false : (a b : List ℕ) → (a ≡ b → ⊥) → sameOctets a b ≡ false
-same_false a b h = go (which (sameOctets a b)) where
-  go : (sameOctets a b ≡ true) ⊎ (sameOctets a b ≡ false) → sameOctets a b ≡ false
+same_false : (a b : List ℕ) → (a ≡ b → ⊥) → same_octets a b ≡ false
+same_false a b h = go (which (same_octets a b)) where
+  go : (same_octets a b ≡ true) ⊎ (same_octets a b ≡ false) → same_octets a b ≡ false
   go (inl e) = absurd (h (same-eq a b e))
   go (inr e) = e
 
@@ -39,7 +39,7 @@ same_false a b h = go (which (sameOctets a b)) where
 abbrev F : (t : ℕ) (p : List ℕ → Bool) (s : List ℕ) → ℕ → Type 0
 F t p s n = ElementFault t p (t ∷ s) n
 
-judge-no : (t : ℕ) (p : List ℕ → Bool) (s : List ℕ) → leadOf s + size_of s ≤ length s → (n : ℕ) → judged (p (framed s).contents) (framed s) ≡ no n
+judge-no : (t : ℕ) (p : List ℕ → Bool) (s : List ℕ) → lead_of s + size_of s ≤ length s → (n : ℕ) → judged (p (framed s).contents) (framed s) ≡ no n
     → F t p s n
 unfolding judged check
 judge-no t p s fits n =
@@ -55,27 +55,27 @@ judge-no t p s fits n =
       go (inr a) (inr b) c e = rw (← number_is 20 n (rw (a, b) at e)) (contents s fits a (not_same _ _ b))
 
 cut-no : (t : ℕ) (p : List ℕ → Bool) (s : List ℕ) (n : ℕ) → cut t p s ≡ no n → ElementFault t p s n
-unfolding cut frame framedFrom check
+unfolding cut frame framed_from check
 cut-no t p [] n e = rw (← number_is 20 n e) missing
-cut-no t p (x ∷ s) n e = go (which (eqb x t)) (which (leb (leadOf s + size_of s) (length s))) where
-  go : (eqb x t ≡ true) ⊎ (eqb x t ≡ false) → (leb (leadOf s + size_of s) (length s) ≡ true) ⊎ (leb (leadOf s + size_of s) (length s) ≡ false)
+cut-no t p (x ∷ s) n e = go (which (eqb x t)) (which (leb (lead_of s + size_of s) (length s))) where
+  go : (eqb x t ≡ true) ⊎ (eqb x t ≡ false) → (leb (lead_of s + size_of s) (length s) ≡ true) ⊎ (leb (lead_of s + size_of s) (length s) ≡ false)
       → ElementFault t p (x ∷ s) n
   go (inl a) (inl b) = rw (eqb-true x t a) (judge-no t p s (leb-true _ _ b) n (rw (a, b) at e))
   go (inl a) (inr b) = rw (eqb-true x t a, ← number_is 20 n (rw (a, b) at e)) (past s (leb-false _ _ b))
   go (inr a) b = rw (← number_is 20 n (rw a at e)) (tag x s (eqb-false x t a))
 
 no_cut : {t : ℕ} {p : List ℕ → Bool} {s : List ℕ} {n : ℕ} → ElementFault t p s n → cut t p s ≡ no n
-unfolding cut frame framedFrom judged check
+unfolding cut frame framed_from judged check
 no_cut missing = refl
 no_cut {t} (tag x s h) = rw (ne_eqb x t h)
-no_cut {t} (past s h) = rw (eq-eqb t t refl, lt-leb (leadOf s + size_of s) (length s) h)
-no_cut {t} (contents s fits a b) = rw (eq-eqb t t refl, le-leb (leadOf s + size_of s) (length s) fits, a, same_false _ _ b)
-no_cut {t} (long s fits (inl a) c) = rw (eq-eqb t t refl, le-leb (leadOf s + size_of s) (length s) fits, a, same_false _ _ c)
+no_cut {t} (past s h) = rw (eq-eqb t t refl, lt-leb (lead_of s + size_of s) (length s) h)
+no_cut {t} (contents s fits a b) = rw (eq-eqb t t refl, le-leb (lead_of s + size_of s) (length s) fits, a, same_false _ _ b)
+no_cut {t} (long s fits (inl a) c) = rw (eq-eqb t t refl, le-leb (lead_of s + size_of s) (length s) fits, a, same_false _ _ c)
 no_cut {t} {p} (long s fits (inr b) c) =
-    rw (eq-eqb t t refl, le-leb (leadOf s + size_of s) (length s) fits, passes (p (framed s).contents), same_false _ _ c) where
+    rw (eq-eqb t t refl, le-leb (lead_of s + size_of s) (length s) fits, passes (p (framed s).contents), same_false _ _ c) where
       passes : (x : Bool) → x || indefinite (framed s).lead ≡ true
       passes true = refl
-      passes false = ap (λ (v : List ℕ). sameOctets v (0x80 ∷ [])) b ∙ same_refl (0x80 ∷ [])
+      passes false = ap (λ (v : List ℕ). same_octets v (0x80 ∷ [])) b ∙ same_refl (0x80 ∷ [])
 
 pub element-exactly : ElementExactly
 element-exactly t p s = record { only_then = cut-no t p s; then = λ n f. no_cut f }
@@ -116,19 +116,19 @@ only-exactly A t p body s = record { only_then = λ n e. go n (within t p body s
 
 -- The whole buffer.
 pub envelope-exactly : EnvelopeExactly
-unfolding envelopeOf check
+unfolding envelope_of check
 envelope-exactly s = record { only_then = forth; then = λ n f. back f } where
-  forth : (n : ℕ) → envelopeOf s ≡ no n → EnvelopeFault s n
+  forth : (n : ℕ) → envelope_of s ≡ no n → EnvelopeFault s n
   forth n e = go (which (leb (length s) 65535)) (which (starts 0x60 s)) where
     go : (leb (length s) 65535 ≡ true) ⊎ (leb (length s) 65535 ≡ false) → (starts 0x60 s ≡ true) ⊎ (starts 0x60 s ≡ false) → EnvelopeFault s n
-    go (inl a) (inl b) = wrapper n (leb-true _ _ a) b ((only-exactly Envelope 0x60 any wrappedOf s).only_then n (rw (a, b) at e))
-    go (inl a) (inr b) = response n (leb-true _ _ a) b ((only-exactly Envelope 0xA1 any (only 0x30 any respOf) s).only_then n (rw (a, b) at e))
+    go (inl a) (inl b) = wrapper n (leb-true _ _ a) b ((only-exactly Envelope 0x60 any wrapped_of s).only_then n (rw (a, b) at e))
+    go (inl a) (inr b) = response n (leb-true _ _ a) b ((only-exactly Envelope 0xA1 any (only 0x30 any resp_of) s).only_then n (rw (a, b) at e))
     go (inr a) b = rw (← number_is 1 n (rw a at e)) (large (leb-false _ _ a))
 
-  back : {n : ℕ} → EnvelopeFault s n → envelopeOf s ≡ no n
+  back : {n : ℕ} → EnvelopeFault s n → envelope_of s ≡ no n
   back (large h) = rw (lt-leb (length s) 65535 h)
-  back (wrapper n h b f) = rw (le-leb (length s) 65535 h, b) ((only-exactly Envelope 0x60 any wrappedOf s).then n f)
-  back (response n h b f) = rw (le-leb (length s) 65535 h, b) ((only-exactly Envelope 0xA1 any (only 0x30 any respOf) s).then n f)
+  back (wrapper n h b f) = rw (le-leb (length s) 65535 h, b) ((only-exactly Envelope 0x60 any wrapped_of s).then n f)
+  back (response n h b f) = rw (le-leb (length s) 65535 h, b) ((only-exactly Envelope 0xA1 any (only 0x30 any resp_of) s).then n f)
 
 -- The seventeenth identifier.
 record Found (k : ℕ) (s : List ℕ) : Type 0 where
@@ -148,8 +148,8 @@ no-element-23 {A} t p s e = go (cut-no t p s 23 e) refl where
   go (contents s a b c) k = absurd (omega arith)
   go (long s a b c) k = absurd (omega arith)
 
-found : (k : ℕ) (s : List ℕ) → identifiersOf k s ≡ no 23 → Found k s
-unfolding identifiersOf identifiers
+found : (k : ℕ) (s : List ℕ) → identifiers_of k s ≡ no 23 → Found k s
+unfolding identifiers_of identifiers
 found zero s e = go (which (filled s)) where
   go : (filled s ≡ true) ⊎ (filled s ≡ false) → Found 0 s
   go (inl b) = two (cut 0x06 any s) refl (rw b at e) where
@@ -158,7 +158,7 @@ found zero s e = go (which (filled s)) where
     two (no n) h e = no-element-23 0x06 any s (h ∙ ap no (number_is n 23 e))
   go (inr b) = ok-no [] 23 (rw b at e)
 found (suc k) s e = go (which (filled s)) (found k) where
-  go : (filled s ≡ true) ⊎ (filled s ≡ false) → ((r : List ℕ) → identifiersOf k r ≡ no 23 → Found k r) → Found (suc k) s
+  go : (filled s ≡ true) ⊎ (filled s ≡ false) → ((r : List ℕ) → identifiers_of k r ≡ no 23 → Found k r) → Found (suc k) s
   go (inr b) f = ok-no [] 23 (rw b at e)
   go (inl b) f = two (cut 0x06 any s) refl (rw b at e) where
     three : (q : Part (List ℕ)) → cut 0x06 any s ≡ ok q → Found k q.rest → Found (suc k) s
@@ -173,14 +173,14 @@ found (suc k) s e = go (which (filled s)) (found k) where
               ∙ sym (append_assoc (element 0x06 q.value) (identifiers w.read) w.behind);
         }
 
-    four : (q : Part (List ℕ)) (g : Got (List (List ℕ))) → identifiersOf k q.rest ≡ g → bind g (λ ms. ok (q.value ∷ ms)) ≡ no 23
-        → identifiersOf k q.rest ≡ no 23
+    four : (q : Part (List ℕ)) (g : Got (List (List ℕ))) → identifiers_of k q.rest ≡ g → bind g (λ ms. ok (q.value ∷ ms)) ≡ no 23
+        → identifiers_of k q.rest ≡ no 23
     four q (ok ms) h e = ok-no _ 23 e
     four q (no n) h e = h ∙ ap no (number_is n 23 e)
 
-    two : (g : Got (Part (List ℕ))) → cut 0x06 any s ≡ g → bind g (λ q. bind (identifiersOf k q.rest) (λ ms. ok (q.value ∷ ms))) ≡ no 23
+    two : (g : Got (Part (List ℕ))) → cut 0x06 any s ≡ g → bind g (λ q. bind (identifiers_of k q.rest) (λ ms. ok (q.value ∷ ms))) ≡ no 23
         → Found (suc k) s
-    two (ok q) h e = three q h (f q.rest (four q (identifiersOf k q.rest) refl e))
+    two (ok q) h e = three q h (f q.rest (four q (identifiers_of k q.rest) refl e))
     two (no n) h e = no-element-23 0x06 any s (h ∙ ap no (number_is n 23 e))
 
 pub seventeenth-last : SeventeenthLast

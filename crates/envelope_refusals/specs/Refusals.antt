@@ -9,10 +9,10 @@
 --   SeventeenthFault sixteen of a list were read, and a seventeenth is one; SeventeenthLast: so it is wherever a list is refused with 23
 use Rattle.std.specs.Prelude.{ℕ, ◌+◌, ◌<◌, ◌≤◌, ◌≡◌, Bool, true, false, List, [], ◌∷◌, ◌++◌, ◌⊎◌, length}
 use Rattle.der.specs.Got.{Got, ok, no}
-use Rattle.der.specs.Element.{Part, length_of, leadOf, size_of, framed, cut, any}
+use Rattle.der.specs.Element.{Part, length_of, lead_of, size_of, framed, cut, any}
 use Rattle.der.specs.Grammar.{within, only, starts}
 use Rattle.envelope.specs.Envelope.{identifiers}
-use Rattle.envelope.specs.Reading.{list_of, wrappedOf, respOf, envelopeOf}
+use Rattle.envelope.specs.Reading.{list_of, wrapped_of, resp_of, envelope_of}
 
 pub record Exactly {A : Type 0} (g : Got A) (F : ℕ → Type 0) : Type 0 where
   pub only_then : (n : ℕ) → g ≡ no n → F n
@@ -23,10 +23,10 @@ pub record Exactly {A : Type 0} (g : Got A) (F : ℕ → Type 0) : Type 0 where
 pub data ElementFault (t : ℕ) (p : List ℕ → Bool) : List ℕ → ℕ → Type 0 where
   missing : ElementFault t p [] 20
   tag : (x : ℕ) (s : List ℕ) → (x ≡ t → ⊥) → ElementFault t p (x ∷ s) 20
-  past : (s : List ℕ) → length s < leadOf s + size_of s → ElementFault t p (t ∷ s) 20
-  contents : (s : List ℕ) → leadOf s + size_of s ≤ length s → p (framed s).contents ≡ false → ((framed s).lead ≡ 0x80 ∷ [] → ⊥)
+  past : (s : List ℕ) → length s < lead_of s + size_of s → ElementFault t p (t ∷ s) 20
+  contents : (s : List ℕ) → lead_of s + size_of s ≤ length s → p (framed s).contents ≡ false → ((framed s).lead ≡ 0x80 ∷ [] → ⊥)
       → ElementFault t p (t ∷ s) 20
-  long : (s : List ℕ) → leadOf s + size_of s ≤ length s → (p (framed s).contents ≡ true) ⊎ ((framed s).lead ≡ 0x80 ∷ [])
+  long : (s : List ℕ) → lead_of s + size_of s ≤ length s → (p (framed s).contents ≡ true) ⊎ ((framed s).lead ≡ 0x80 ∷ [])
       → ((framed s).lead ≡ length_of (length (framed s).contents) → ⊥) → ElementFault t p (t ∷ s) 21
 
 abbrev pub ElementExactly : Type 0
@@ -51,11 +51,11 @@ OnlyExactly = (A : Type 0) (t : ℕ) (p : List ℕ → Bool) (body : List ℕ �
 -- "1 first"; a wrapper by its first octet, else a Resp
 pub data EnvelopeFault (s : List ℕ) : ℕ → Type 0 where
   large : 65535 < length s → EnvelopeFault s 1
-  wrapper : (n : ℕ) → length s ≤ 65535 → starts 0x60 s ≡ true → OnlyFault 0x60 any wrappedOf s n → EnvelopeFault s n
-  response : (n : ℕ) → length s ≤ 65535 → starts 0x60 s ≡ false → OnlyFault 0xA1 any (only 0x30 any respOf) s n → EnvelopeFault s n
+  wrapper : (n : ℕ) → length s ≤ 65535 → starts 0x60 s ≡ true → OnlyFault 0x60 any wrapped_of s n → EnvelopeFault s n
+  response : (n : ℕ) → length s ≤ 65535 → starts 0x60 s ≡ false → OnlyFault 0xA1 any (only 0x30 any resp_of) s n → EnvelopeFault s n
 
 abbrev pub EnvelopeExactly : Type 0
-EnvelopeExactly = (s : List ℕ) → Exactly (envelopeOf s) (EnvelopeFault s)
+EnvelopeExactly = (s : List ℕ) → Exactly (envelope_of s) (EnvelopeFault s)
 
 -- "23 the seventeenth mechanism identifier": behind sixteen that were read there is one more
 pub record SeventeenthFault (s : List ℕ) : Type 0 where

@@ -3,15 +3,15 @@
 -- Glossary
 --   Said             what a line says: nonsense, init, resp, a state, or octets of a kind
 --   MECHANISM, FLAGS, TOKEN, CHECKSUM   the kinds of octets
---   saidAs l d       what an answer of src/ says, whose octets stand at the front of the slice d
+--   said_as l d       what an answer of src/ says, whose octets stand at the front of the slice d
 --   begins w s       the line s begins with the word w; behind w s: what stands behind it
---   byte n           a number up to 255, as a state; stateSaid v: what a field N says
---   octetsSaid k o   octets of the kind k, where they are good
+--   byte n           a number up to 255, as a state; state_said v: what a field N says
+--   octets_said k o   octets of the kind k, where they are good
 --   line_of s room    what the line s says, where a slice of `room` octets is lent; field_of: a line of octets
 use Rattle.std.specs.Prelude.{ℕ, Bool, cond, List, length, take, drop, ltb}
-use Rattle.octets.specs.Octets.{sameOctets}
+use Rattle.octets.specs.Octets.{same_octets}
 use Rattle.text.specs.Text.{quoted}
-use Rattle.fields.specs.Fields.{Numeral, is, nothing, roomOf, Front, front, bad, fit, octetsOf}
+use Rattle.fields.specs.Fields.{Numeral, is, nothing, room_of, Front, front, bad, fit, octets_of}
 use Rattle.envelope_script.specs.declared.Line.{Line}
 use Rattle.envelope_script.specs.declared.Line.TheVariants as answer
 
@@ -34,15 +34,15 @@ TOKEN = 3
 abbrev pub CHECKSUM : ℕ
 CHECKSUM = 4
 
-abbrev pub saidAs : Line → List ℕ → Said
-saidAs answer.Bad d = nonsense
-saidAs answer.Init d = init
-saidAs answer.Resp d = resp
-saidAs (answer.State n) d = state n
-saidAs (answer.Octets k n) d = octets k (take n d)
+abbrev pub said_as : Line → List ℕ → Said
+said_as answer.Bad d = nonsense
+said_as answer.Init d = init
+said_as answer.Resp d = resp
+said_as (answer.State n) d = state n
+said_as (answer.Octets k n) d = octets k (take n d)
 
 unfoldable pub begins : List ℕ → List ℕ → Bool
-begins w s = sameOctets (take (length w) s) w
+begins w s = same_octets (take (length w) s) w
 
 abbrev pub behind : List ℕ → List ℕ → List ℕ
 behind w s = drop (length w) s
@@ -52,24 +52,24 @@ abbrev pub byte : Numeral → Said
 byte (is n) = cond (ltb 255 n) nonsense (state n)
 byte nothing = nonsense
 
-unfoldable pub stateSaid : List ℕ → Said
-stateSaid v = cond (ltb 3 (length v)) nonsense (byte (roomOf v))
+unfoldable pub state_said : List ℕ → Said
+state_said v = cond (ltb 3 (length v)) nonsense (byte (room_of v))
 
-abbrev pub octetsSaid : ℕ → Front → Said
-octetsSaid k (front n o) = octets k o
-octetsSaid k bad = nonsense
+abbrev pub octets_said : ℕ → Front → Said
+octets_said k (front n o) = octets k o
+octets_said k bad = nonsense
 
 -- "`mechanism OCTETS`", "`flags OCTETS`", "`token OCTETS`", "`checksum OCTETS`"
 unfoldable pub field_of : List ℕ → ℕ → Said
 field_of s room =
-    cond (begins (quoted "mechanism ") s) (octetsSaid MECHANISM (fit room (octetsOf (behind (quoted "mechanism ") s))))
-    (cond (begins (quoted "flags ") s) (octetsSaid FLAGS (fit room (octetsOf (behind (quoted "flags ") s))))
-    (cond (begins (quoted "token ") s) (octetsSaid TOKEN (fit room (octetsOf (behind (quoted "token ") s))))
-    (cond (begins (quoted "checksum ") s) (octetsSaid CHECKSUM (fit room (octetsOf (behind (quoted "checksum ") s)))) nonsense)))
+    cond (begins (quoted "mechanism ") s) (octets_said MECHANISM (fit room (octets_of (behind (quoted "mechanism ") s))))
+    (cond (begins (quoted "flags ") s) (octets_said FLAGS (fit room (octets_of (behind (quoted "flags ") s))))
+    (cond (begins (quoted "token ") s) (octets_said TOKEN (fit room (octets_of (behind (quoted "token ") s))))
+    (cond (begins (quoted "checksum ") s) (octets_said CHECKSUM (fit room (octets_of (behind (quoted "checksum ") s)))) nonsense)))
 
 -- "`init` or `resp`"; "`state N`"
 unfoldable pub line_of : List ℕ → ℕ → Said
 line_of s room =
-    cond (sameOctets s (quoted "init")) init
-    (cond (sameOctets s (quoted "resp")) resp
-    (cond (begins (quoted "state ") s) (stateSaid (behind (quoted "state ") s)) (field_of s room)))
+    cond (same_octets s (quoted "init")) init
+    (cond (same_octets s (quoted "resp")) resp
+    (cond (begins (quoted "state ") s) (state_said (behind (quoted "state ") s)) (field_of s room)))

@@ -1,7 +1,7 @@
 // The text that `wrap` takes: a line read into what it says.
 ghost use Rattle.std.specs.Prelude.{◌≡◌, length, drop};
-ghost use Rattle.fields.specs.Fields.{fit, octetsOf};
-ghost use Rattle.envelope_script.specs.Grammar.{saidAs, begins, stateSaid, octetsSaid, field_of, line_of};
+ghost use Rattle.fields.specs.Fields.{fit, octets_of};
+ghost use Rattle.envelope_script.specs.Grammar.{said_as, begins, state_said, octets_said, field_of, line_of};
 
 use fields::hex::{Decoded, octets};
 use fields::number::{Number, room};
@@ -42,7 +42,7 @@ fn behind(s: &[u8], from: usize) -> &[u8]
 
 // What a field N says.
 fn state(v: &[u8], lent: &[u8]) -> Line
-    ensures { saidAs result lent.now ≡ stateSaid v.now }
+    ensures { said_as result lent.now ≡ state_said v.now }
 {
     if 3 < v.len() {
         return Line::Bad;
@@ -60,7 +60,7 @@ fn state(v: &[u8], lent: &[u8]) -> Line
 
 // What a field OCTETS says.
 fn octets_of(kind: u8, v: &[u8], lent: &mut [u8]) -> Line
-    ensures { saidAs result lent.new ≡ octetsSaid kind (fit (length lent.old) (octetsOf v.now)) }
+    ensures { said_as result lent.new ≡ octets_said kind (fit (length lent.old) (octets_of v.now)) }
 {
     match octets(v, lent) {
         Decoded::Bad => Line::Bad,
@@ -70,7 +70,7 @@ fn octets_of(kind: u8, v: &[u8], lent: &mut [u8]) -> Line
 
 // What a line of octets says, by its word.
 fn field_line(s: &[u8], lent: &mut [u8]) -> Line
-    ensures { saidAs result lent.new ≡ field_of s.now (length lent.old) }
+    ensures { said_as result lent.new ≡ field_of s.now (length lent.old) }
 {
     if starts(s, b"mechanism ") {
         return octets_of(MECHANISM, behind(s, 10), lent);
@@ -89,7 +89,7 @@ fn field_line(s: &[u8], lent: &mut [u8]) -> Line
 
 // What a line says; octets stand at the front of the lent slice.
 pub fn read_line(s: &[u8], lent: &mut [u8]) -> Line
-    ensures { saidAs result lent.new ≡ line_of s.now (length lent.old) }
+    ensures { said_as result lent.new ≡ line_of s.now (length lent.old) }
 {
     if is_word(s, b"init") {
         return Line::Init;

@@ -2,7 +2,7 @@
 --
 -- Glossary
 --   Span              a place in the buffer, and a length in octets
---   spanIn s t k      where the token t stands in the envelope s, whose checksum is k: behind the token there is the checksum alone; 19 where there is no token
+--   span_in s t k      where the token t stands in the envelope s, whose checksum is k: behind the token there is the checksum alone; 19 where there is no token
 --   span_of s e        that of what was read
 --   carried_of s       that of the envelope in s, or the envelope's refusal
 --   said              what an answer of src/ says
@@ -10,9 +10,9 @@
 use Rattle.std.specs.Prelude.{ℕ, ◌+◌, ◌-◌, ◌≤◌, ◌≡◌, List, length}
 use Rattle.std.proofs.Math.Option.{Option, none, some}
 use Rattle.der.specs.Got.{Got, ok, no, bind}
-use Rattle.der.specs.Grammar.{fieldOctets}
+use Rattle.der.specs.Grammar.{field_octets}
 use Rattle.envelope.specs.Envelope.{Envelope, Init, Resp}
-use Rattle.envelope.specs.Reading.{envelopeOf}
+use Rattle.envelope.specs.Reading.{envelope_of}
 use Rattle.envelope.specs.Answers.{FieldIn, Before}
 use Rattle.envelope.specs.declared.Field.{Field}
 use Rattle.envelope_token.specs.declared.Carried.{Carried}
@@ -22,16 +22,16 @@ pub record Span : Type 0 where
   pub place : ℕ
   pub size : ℕ
 
-abbrev pub spanIn : List ℕ → Option (List ℕ) → Option (List ℕ) → Got Span
-spanIn s none k = no 19
-spanIn s (some v) k = ok (record { place = length s - (length v + length (fieldOctets 0xA3 0x04 k)); size = length v })
+abbrev pub span_in : List ℕ → Option (List ℕ) → Option (List ℕ) → Got Span
+span_in s none k = no 19
+span_in s (some v) k = ok (record { place = length s - (length v + length (field_octets 0xA3 0x04 k)); size = length v })
 
 abbrev pub span_of : List ℕ → Envelope → Got Span
-span_of s (Init mechanisms flags token checksum) = spanIn s token checksum
-span_of s (Resp state mechanism token checksum) = spanIn s token checksum
+span_of s (Init mechanisms flags token checksum) = span_in s token checksum
+span_of s (Resp state mechanism token checksum) = span_in s token checksum
 
 unfoldable pub carried_of : List ℕ → Got Span
-carried_of s = bind (envelopeOf s) (λ e. span_of s e)
+carried_of s = bind (envelope_of s) (λ e. span_of s e)
 
 abbrev pub said : Carried → Got Span
 said (answer.At place size) = ok (record { place = place; size = size })

@@ -1,7 +1,7 @@
 // Where the token stands in an envelope.
 ghost use Rattle.std.specs.Prelude.{◌≡◌};
 ghost use Rattle.envelope.specs.Answers.{shown};
-ghost use Rattle.envelope_token.specs.Tokens.{spanIn, carried_of, said, TokenAt};
+ghost use Rattle.envelope_token.specs.Tokens.{span_in, carried_of, said, TokenAt};
 
 use envelope::{Field, Read, read_envelope};
 
@@ -15,7 +15,7 @@ pub enum Carried {
 // The span of a token, behind which the checksum alone stands.
 fn span(s: &[u8], token: Field, checksum: Field) -> Carried
     requires { TokenAt s.now token checksum }
-    ensures { said result ≡ spanIn s.now (shown s.now token) (shown s.now checksum) }
+    ensures { said result ≡ span_in s.now (shown s.now token) (shown s.now checksum) }
 {
     match token {
         Field::At(b, e) => Carried::At(b as u32, (e - b) as u32),

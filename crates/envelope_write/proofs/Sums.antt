@@ -14,10 +14,10 @@ use borrow.Author.Tests.{eq-eqb, ne_eqb, eqb-true, eqb-false, le-leb, lt-leb}
 use Rattle.octets.proofs.Bools.{which}
 use Rattle.der.specs.Element.{at_most}
 use Rattle.der.specs.Holder.{capped}
-use Rattle.der_put.specs.Size.{elementSize, fieldSize, given}
+use Rattle.der_put.specs.Size.{element_size, field_size, given}
 use Rattle.der_put.proofs.Heads.{size-bounds}
-use Rattle.envelope.specs.Envelope.{fineState}
-use Rattle.envelope_write.specs.Given.{sum_of, identifiersSize, tailSize, mechanismsRefusal}
+use Rattle.envelope.specs.Envelope.{fine_state}
+use Rattle.envelope_write.specs.Given.{sum_of, identifiers_size, tail_size, mechanisms_refusal}
 
 eqb_same : (a b c d : ℕ) → (a ≡ b → c ≡ d) → (c ≡ d → a ≡ b) → eqb a b ≡ eqb c d
 eqb_same a b c d f g = go (which (eqb a b)) where
@@ -46,71 +46,71 @@ module _ (ns : List ℕ) (n i left : ℕ) (inv : eqb n (sum_of ns) ≡ eqb left 
 pub ruleset sums = (sum-end, sum_past, sum_more)
 
 -- identifiers, one element more
-pub with-long : (n m : ℕ) → 65535 < m → 65536 ≡ capped (n + elementSize m)
+pub with-long : (n m : ℕ) → 65535 < m → 65536 ≡ capped (n + element_size m)
 with-long n m h = omega arith
 
-pub with-short : (n m a r : ℕ) → a ≡ elementSize m → r ≡ capped (n + a) → r ≡ capped (n + elementSize m)
+pub with-short : (n m a r : ℕ) → a ≡ element_size m → r ≡ capped (n + a) → r ≡ capped (n + element_size m)
 with-short n m a r e k = k ∙ rw e
 
-pub with-limit : (m a : ℕ) → m ≤ 65535 → a ≡ elementSize m → a ≤ 65539
+pub with-limit : (m a : ℕ) → m ≤ 65535 → a ≡ element_size m → a ≤ 65539
 with-limit m a h e = let b = size-bounds m in omega arith
 
 pub ruleset withs = (with-long, with-short)
 
-module _ (ns : List ℕ) (n i : ℕ) (inv : capped (identifiersSize ns) ≡ capped (n + identifiersSize (drop i ns))) where
-  pub sizes-end : length ns ≤ i → n ≤ 65536 → n ≡ capped (identifiersSize ns)
-  unfolding identifiersSize
+module _ (ns : List ℕ) (n i : ℕ) (inv : capped (identifiers_size ns) ≡ capped (n + identifiers_size (drop i ns))) where
+  pub sizes-end : length ns ≤ i → n ≤ 65536 → n ≡ capped (identifiers_size ns)
+  unfolding identifiers_size
   sizes-end h k = sym (inv ∙ rw (drop_of_length-le ns h) (omega arith))
 
-  pub sizes-more : i < length ns → (m : ℕ) → m ≡ capped (n + elementSize (get_or ns i 0))
-      → capped (identifiersSize ns) ≡ capped (m + identifiersSize (drop (i + 1) ns))
-  unfolding identifiersSize
+  pub sizes-more : i < length ns → (m : ℕ) → m ≡ capped (n + element_size (get_or ns i 0))
+      → capped (identifiers_size ns) ≡ capped (m + identifiers_size (drop (i + 1) ns))
+  unfolding identifiers_size
   sizes-more h m e = inv ∙ rw (drop-cons ns i 0 h, add-one) (omega arith)
 
-pub sizes-start : (ns : List ℕ) → capped (identifiersSize ns) ≡ capped (0 + identifiersSize ns)
+pub sizes-start : (ns : List ℕ) → capped (identifiers_size ns) ≡ capped (0 + identifiers_size ns)
 sizes-start ns = omega arith
 
-pub sizes-limit : (n x m : ℕ) → m ≡ capped (n + elementSize x) → m ≤ 65536
+pub sizes-limit : (n x m : ℕ) → m ≡ capped (n + element_size x) → m ≤ 65536
 sizes-limit n x m e = omega arith
 
 pub ruleset sizes = (sizes-end, sizes-more, sizes-limit)
 
-pub tail-size : (by : Bool) (y : ℕ) (bt : Bool) (t : ℕ) (bk : Bool) (k y' t' k' r : ℕ) → y' ≡ capped (fieldSize by y) → t' ≡ capped (fieldSize bt t)
-    → k' ≡ capped (fieldSize bk k)
-    → r ≡ capped (y' + (t' + k')) → r ≡ capped (tailSize by y bt t bk k)
-unfolding tailSize
+pub tail-size : (by : Bool) (y : ℕ) (bt : Bool) (t : ℕ) (bk : Bool) (k y' t' k' r : ℕ) → y' ≡ capped (field_size by y) → t' ≡ capped (field_size bt t)
+    → k' ≡ capped (field_size bk k)
+    → r ≡ capped (y' + (t' + k')) → r ≡ capped (tail_size by y bt t bk k)
+unfolding tail_size
 tail-size by y bt t bk k y' t' k' r a b c e = omega arith
 
-pub state-there : (there : Bool) (x : ℕ) → there ≡ true → leb x 3 ≡ fineState (given there (x ∷ []))
+pub state-there : (there : Bool) (x : ℕ) → there ≡ true → leb x 3 ≡ fine_state (given there (x ∷ []))
 unfolding at_most
 state-there there x e = rw e
 
-pub state-none : (there : Bool) (x : ℕ) → there ≡ false → true ≡ fineState (given there (x ∷ []))
+pub state-none : (there : Bool) (x : ℕ) → there ≡ false → true ≡ fine_state (given there (x ∷ []))
 state-none there x e = rw e
 
 pub ruleset states = (state-there, state-none)
 
 -- what is wrong with mechanisms
 module _ (ns : List ℕ) (n : ℕ) (b : Bool) (b-is : b ≡ eqb n (sum_of ns)) where
-  pub refusal-sum : b ≡ false → 20 ≡ mechanismsRefusal ns n
-  unfolding mechanismsRefusal
+  pub refusal-sum : b ≡ false → 20 ≡ mechanisms_refusal ns n
+  unfolding mechanisms_refusal
   refusal-sum e = rw (← b-is, e)
 
   module _ (right : b ≡ true) where
-    pub refusal-none : length ns ≡ 0 → 20 ≡ mechanismsRefusal ns n
-    unfolding mechanismsRefusal
+    pub refusal-none : length ns ≡ 0 → 20 ≡ mechanisms_refusal ns n
+    unfolding mechanisms_refusal
     refusal-none e = rw (← b-is, right, lt-leb 1 (length ns) (omega arith))
 
     module _ (some : length ns ≡ 0 → ⊥) where
       one : leb 1 (length ns) ≡ true
       one = le-leb 1 (length ns) (omega arith)
 
-      pub refusal-many : 16 < length ns → 23 ≡ mechanismsRefusal ns n
-      unfolding mechanismsRefusal
+      pub refusal-many : 16 < length ns → 23 ≡ mechanisms_refusal ns n
+      unfolding mechanisms_refusal
       refusal-many e = rw (← b-is, right, one, lt-leb (length ns) 16 e)
 
-      pub refusal-no : length ns ≤ 16 → 0 ≡ mechanismsRefusal ns n
-      unfolding mechanismsRefusal
+      pub refusal-no : length ns ≤ 16 → 0 ≡ mechanisms_refusal ns n
+      unfolding mechanisms_refusal
       refusal-no e = rw (← b-is, right, one, le-leb (length ns) 16 e)
 
 pub ruleset refusals = (refusal-sum, refusal-none, refusal-many, refusal-no)

@@ -14,7 +14,7 @@ use Rattle.octets.proofs.Bools.{which}
 use Rattle.put.specs.Put.{put}
 use Rattle.der.specs.Got.{ok}
 use Rattle.envelope.specs.Envelope.{Envelope, encoded, fine, few}
-use Rattle.envelope.specs.Reading.{envelopeOf}
+use Rattle.envelope.specs.Reading.{envelope_of}
 use Rattle.envelope.specs.Claims.{OneReading}
 use Rattle.envelope.proofs.RoundTrip.{encoded-read, read-encoded}
 use Rattle.envelope_write.specs.Writing.{stored, unstored, storing}
@@ -44,7 +44,7 @@ test d e = go (which (fine e)) (which (few e)) (which (leb (length (encoded e)) 
 pub envelope-reads : EnvelopeReads
 unfolding put
 envelope-reads d e n d' h = go (test d e) where
-  go : Test d e → envelopeOf (take n d') ≡ ok e
+  go : Test d e → envelope_of (take n d') ≡ ok e
   go (done a b c is) =
       let s : stored (length (encoded e)) (put d 0 (encoded e)) ≡ stored n d' = sym is ∙ h in
       let s1 : length (encoded e) ≡ n = cc in
@@ -58,7 +58,7 @@ read-written s e d h room =
     let w : OneReading s e = read-encoded s e h in
     let c : leb (length s) 65535 ≡ true = le-leb _ _ w.short in
     let f : leb (length s) (length d) ≡ true = le-leb _ _ room in
-    rw (w.is-fine, w.is-few, ← w.same, c, f)
+    rw (w.is_fine, w.is_few, ← w.same, c, f)
 
 pub refused-keeps : RefusedKeeps
 refused-keeps d e n d' h = go (test d e) where

@@ -3,12 +3,12 @@
 -- Glossary
 --   Outcome        what a writer leaves: the number of octets and the buffer, or a refusal and the buffer
 --   storing d e    the outcome of writing e into d, from its first octet on
---   storingInit    the same of an Init, whose mechanisms are given as sizes and joined octets
+--   storing_init    the same of an Init, whose mechanisms are given as sizes and joined octets
 --   told r d       of an answer of src/ that leaves the buffer d
 use Rattle.std.specs.Prelude.{ℕ, Bool, cond, List, length, leb, eqb}
 use Rattle.put.specs.Put.{put}
 use Rattle.envelope.specs.Envelope.{Envelope, encoded, fine, few}
-use Rattle.envelope_write.specs.Given.{sum_of, initGiven}
+use Rattle.envelope_write.specs.Given.{sum_of, init_given}
 use Rattle.envelope_write.specs.declared.Stored.{Stored}
 use Rattle.envelope_write.specs.declared.Stored.TheVariants as answer
 
@@ -33,6 +33,6 @@ storing d e =
     (unstored 20 d)
 
 -- sizes that don't sum to the joined octets name no mechanisms: 20
-unfoldable pub storingInit : List ℕ → List ℕ → List ℕ → Bool → List ℕ → Bool → List ℕ → Bool → List ℕ → Outcome
-storingInit d sizes octets bf f bt t bk k =
-    cond (eqb (length octets) (sum_of sizes)) (storing d (initGiven sizes octets bf f bt t bk k)) (unstored 20 d)
+unfoldable pub storing_init : List ℕ → List ℕ → List ℕ → Bool → List ℕ → Bool → List ℕ → Bool → List ℕ → Outcome
+storing_init d sizes octets bf f bt t bk k =
+    cond (eqb (length octets) (sum_of sizes)) (storing d (init_given sizes octets bf f bt t bk k)) (unstored 20 d)

@@ -2,12 +2,12 @@
 ghost use Rattle.std.specs.Prelude.{◌≡◌, true, ◌∷◌, [], ◌+◌, ◌≤◌, length, eqb};
 ghost use Rattle.std.proofs.Math.Option.{some};
 ghost use Rattle.put.specs.Put.{Written};
-ghost use Rattle.der.specs.Grammar.{fieldOctets};
+ghost use Rattle.der.specs.Grammar.{field_octets};
 ghost use Rattle.der.specs.Holder.{capped};
-ghost use Rattle.der_put.specs.Size.{elementSize, fieldSize, given};
-ghost use Rattle.envelope.specs.Envelope.{encoded, identifiers, tailOctets, fineState};
-ghost use Rattle.envelope_write.specs.Given.{sum_of, splitBy, initGiven, respGiven, identifiersSize, tailSize, initSize, respSize, IdentifiersRoom, ListRoom, TailRoom, mechanismsRefusal, Mechanisms, InitSized, InitRoom, RespSized, RespRoom};
-ghost use Rattle.envelope_write.specs.Writing.{told, storing, storingInit};
+ghost use Rattle.der_put.specs.Size.{element_size, field_size, given};
+ghost use Rattle.envelope.specs.Envelope.{encoded, identifiers, tail_octets, fine_state};
+ghost use Rattle.envelope_write.specs.Given.{sum_of, split_by, init_given, resp_given, identifiers_size, tail_size, init_size, resp_size, IdentifiersRoom, ListRoom, TailRoom, mechanisms_refusal, Mechanisms, InitSized, InitRoom, RespSized, RespRoom};
+ghost use Rattle.envelope_write.specs.Writing.{told, storing, storing_init};
 
 use der_put::{cap, element_size, field_size, put_element, put_field, put_head};
 
@@ -38,7 +38,7 @@ fn sums_to(sizes: &[usize], total: usize) -> bool
 // n octets with an element of m octets behind them, capped.
 fn with_element(n: usize, m: usize) -> usize
     requires { n ≤ 65536 }
-    ensures { result ≡ capped (n + elementSize m) }
+    ensures { result ≡ capped (n + element_size m) }
 {
     if 65535 < m {
         return 65536;
@@ -48,7 +48,7 @@ fn with_element(n: usize, m: usize) -> usize
 
 // How many octets identifiers of these sizes have, capped.
 fn identifiers_size(sizes: &[usize]) -> usize
-    ensures { result ≡ capped (identifiersSize sizes.now) }
+    ensures { result ≡ capped (identifiers_size sizes.now) }
 {
     let mut size: usize = 0;
     let mut i: usize = 0;
@@ -68,7 +68,7 @@ fn tail_size(
     checked: bool,
     checksum: usize,
 ) -> usize
-    ensures { result ≡ capped (tailSize named second carried token checked checksum) }
+    ensures { result ≡ capped (tail_size named second carried token checked checksum) }
 {
     let second_field = field_size(named, second);
     let token_field = field_size(carried, token);
@@ -79,8 +79,8 @@ fn tail_size(
 // Identifiers, each as an element; `sizes` cuts `octets` into them.
 fn put_identifiers(d: &mut [u8], at: usize, sizes: &[usize], octets: &[u8]) -> usize
     requires { IdentifiersRoom sizes.now octets.now d.old at }
-    ensures { Written d.old at (identifiersSize sizes.now)
-        (identifiers (splitBy sizes.now octets.now)) d.new result }
+    ensures { Written d.old at (identifiers_size sizes.now)
+        (identifiers (split_by sizes.now octets.now)) d.new result }
 {
     if sizes.len() == 0 {
         return at;
@@ -93,8 +93,8 @@ fn put_identifiers(d: &mut [u8], at: usize, sizes: &[usize], octets: &[u8]) -> u
 // The list of mechanisms; `size` is that of its identifiers.
 fn put_list(d: &mut [u8], at: usize, sizes: &[usize], octets: &[u8], size: usize) -> usize
     requires { ListRoom sizes.now octets.now d.old at size }
-    ensures { Written d.old at (fieldSize true size)
-        (fieldOctets 0xA0 0x30 (some (identifiers (splitBy sizes.now octets.now)))) d.new result }
+    ensures { Written d.old at (field_size true size)
+        (field_octets 0xA0 0x30 (some (identifiers (split_by sizes.now octets.now)))) d.new result }
 {
     let inner = element_size(size);
     let sequence_at = put_head(d, at, 0xA0, inner);
@@ -114,10 +114,10 @@ fn put_tail(
     checked: bool,
     checksum: &[u8],
 ) -> usize
-    requires { TailRoom d.old at (tailSize named (length second.now) carried (length token.now) checked (length checksum.now)) }
+    requires { TailRoom d.old at (tail_size named (length second.now) carried (length token.now) checked (length checksum.now)) }
     ensures { Written d.old at
-        (tailSize named (length second.now) carried (length token.now) checked (length checksum.now))
-        (tailOctets inner (given named second.now) (given carried token.now) (given checked checksum.now))
+        (tail_size named (length second.now) carried (length token.now) checked (length checksum.now))
+        (tail_octets inner (given named second.now) (given carried token.now) (given checked checksum.now))
         d.new result }
 {
     let token_at = put_field(d, at, 0xA1, inner, named, second);
@@ -140,9 +140,9 @@ fn put_init(
     checksum: &[u8],
 ) -> usize
     requires { InitRoom sizes.now octets.now d.old list inner
-        (tailSize flagged (length flags.now) carried (length token.now) checked (length checksum.now)) }
-    ensures { Written d.old 0 (initSize inner)
-        (encoded (initGiven sizes.now octets.now flagged flags.now carried token.now checked
+        (tail_size flagged (length flags.now) carried (length token.now) checked (length checksum.now)) }
+    ensures { Written d.old 0 (init_size inner)
+        (encoded (init_given sizes.now octets.now flagged flags.now carried token.now checked
         checksum.now)) d.new result }
 {
     let spnego = [0x2B, 0x06, 0x01, 0x05, 0x05, 0x02];
@@ -173,9 +173,9 @@ fn store_init(
     checksum: &[u8],
 ) -> Stored
     requires { InitSized sizes.now octets.now list inner
-        (tailSize flagged (length flags.now) carried (length token.now) checked (length checksum.now)) }
+        (tail_size flagged (length flags.now) carried (length token.now) checked (length checksum.now)) }
     ensures { told result d.new ≡ storing d.old
-        (initGiven sizes.now octets.now flagged flags.now carried token.now checked
+        (init_given sizes.now octets.now flagged flags.now carried token.now checked
         checksum.now) }
 {
     let all = element_size(8 + element_size(element_size(inner)));
@@ -204,7 +204,7 @@ fn size_init(
 ) -> Stored
     requires { Mechanisms sizes.now octets.now }
     ensures { told result d.new ≡ storing d.old
-        (initGiven sizes.now octets.now flagged flags.now carried token.now checked
+        (init_given sizes.now octets.now flagged flags.now carried token.now checked
         checksum.now) }
 {
     let list = identifiers_size(sizes);
@@ -233,7 +233,7 @@ fn size_init(
 
 // What is wrong with mechanisms of these sizes, whose joined octets are n; 0 where nothing is.
 fn mechanisms_refusal(sizes: &[usize], n: usize) -> u32
-    ensures { result ≡ mechanismsRefusal sizes.now n }
+    ensures { result ≡ mechanisms_refusal sizes.now n }
 {
     if sums_to(sizes, n) {} else {
         return 20;
@@ -259,7 +259,7 @@ pub fn write_init(
     checked: bool,
     checksum: &[u8],
 ) -> Stored
-    ensures { told result d.new ≡ storingInit d.old sizes.now octets.now flagged
+    ensures { told result d.new ≡ storing_init d.old sizes.now octets.now flagged
         flags.now carried token.now checked checksum.now }
 {
     let number = mechanisms_refusal(sizes, octets.len());
@@ -273,7 +273,7 @@ pub fn write_init(
 
 // Whether a state may be written.
 fn fine_state(there: bool, state: u8) -> bool
-    ensures { result ≡ fineState (given there (state ∷ [])) }
+    ensures { result ≡ fine_state (given there (state ∷ [])) }
 {
     if there {
         return state <= 3;
@@ -294,10 +294,10 @@ fn put_resp(
     checked: bool,
     checksum: &[u8],
 ) -> usize
-    requires { RespRoom d.old inner (fieldSize stated 1)
-        (tailSize named (length mechanism.now) carried (length token.now) checked (length checksum.now)) }
-    ensures { Written d.old 0 (respSize inner)
-        (encoded (respGiven stated state named mechanism.now carried token.now checked checksum.now))
+    requires { RespRoom d.old inner (field_size stated 1)
+        (tail_size named (length mechanism.now) carried (length token.now) checked (length checksum.now)) }
+    ensures { Written d.old 0 (resp_size inner)
+        (encoded (resp_given stated state named mechanism.now carried token.now checked checksum.now))
         d.new result }
 {
     let octet = [state];
@@ -323,10 +323,10 @@ fn store_resp(
     checked: bool,
     checksum: &[u8],
 ) -> Stored
-    requires { RespSized (given stated (state ∷ [])) inner (fieldSize stated 1)
-        (tailSize named (length mechanism.now) carried (length token.now) checked (length checksum.now)) }
+    requires { RespSized (given stated (state ∷ [])) inner (field_size stated 1)
+        (tail_size named (length mechanism.now) carried (length token.now) checked (length checksum.now)) }
     ensures { told result d.new ≡ storing d.old
-        (respGiven stated state named mechanism.now carried token.now checked checksum.now) }
+        (resp_given stated state named mechanism.now carried token.now checked checksum.now) }
 {
     let all = element_size(element_size(inner));
     if 65535 < all {
@@ -353,7 +353,7 @@ pub fn write_resp(
     checksum: &[u8],
 ) -> Stored
     ensures { told result d.new ≡ storing d.old
-        (respGiven stated state named mechanism.now carried token.now checked checksum.now) }
+        (resp_given stated state named mechanism.now carried token.now checked checksum.now) }
 {
     if fine_state(stated, state) {} else {
         return Stored::Refused(20);

@@ -14,111 +14,111 @@ use borrow.Author.Tests.{le-leb, lt-leb, lt-ltb, le-ltb, eq-eqb, ne_eqb, leb-tru
 use Rattle.octets.proofs.Bools.{which}
 use Rattle.octets.specs.Octets.{le, signed32, negative}
 use Rattle.vector.specs.declared.Vector.{Vector}
-use Rattle.vector.specs.Vector.{keepsRule, part, shown}
-use Rattle.message.specs.Layout.{nego, alert, head_of, shape_of, headerOf, Element, elementsAt, elementsOf, extensionVector, alertVector, contentOf, contentIn, vectors_of}
+use Rattle.vector.specs.Vector.{keeps_rule, part, shown}
+use Rattle.message.specs.Layout.{nego, alert, head_of, shape_of, header_of, Element, elements_at, elements_of, extension_vector, alert_vector, content_of, content_in, vectors_of}
 use Rattle.message.proofs.Shapes.{shape-nego, shape-exchange, shape-verify, shape-alert, header-least}
 use Rattle.parts.proofs.Shows.{length-elements}
-use Rattle.coverage.specs.Coverage.{headerIn, vectorsIn, noVector, vectorIn}
+use Rattle.coverage.specs.Coverage.{header_in, vectors_in, no_vector, vector_in}
 use Rattle.coverage.proofs.Numbered.{count-nego, count-one, count-alert}
 use Rattle.faults.specs.declared.Spot.{Spot}
-use Rattle.faults.specs.Faults.{spot, firstBroken, brokenIn, vectorSpot, brokenSpot, firstCritical, criticalSpot, checksumSpot, spot_of}
+use Rattle.faults.specs.Faults.{spot, first_broken, broken_in, vector_spot, broken_spot, first_critical, critical_spot, checksum_spot, spot_of}
 
 -- ---- the words of `broken_vector`
-pub type-room : (m : List ℕ) → headerIn m ≤ length m → 8 + 4 ≤ length m
+pub type-room : (m : List ℕ) → header_in m ≤ length m → 8 + 4 ≤ length m
 type-room m h = omega (arith, header-least (shape_of (head_of m).kind))
 
-pub broken-begin : (m : List ℕ) (kind : ℕ) → kind ≡ le 4 m 8 → (h : ℕ) → h ≡ headerOf (shape_of kind)
-    → brokenIn m ≡ firstBroken h (length m) (drop 0 (vectorsIn m)) 0
+pub broken-begin : (m : List ℕ) (kind : ℕ) → kind ≡ le 4 m 8 → (h : ℕ) → h ≡ header_of (shape_of kind)
+    → broken_in m ≡ first_broken h (length m) (drop 0 (vectors_in m)) 0
 unfolding head_of
-broken-begin m kind kind-is h e = ap (λ (x : ℕ). firstBroken x (length m) (vectorsIn m) 0) (sym (e ∙ ap (λ (x : ℕ). headerOf (shape_of x)) kind-is))
+broken-begin m kind kind-is h e = ap (λ (x : ℕ). first_broken x (length m) (vectors_in m) 0) (sym (e ∙ ap (λ (x : ℕ). header_of (shape_of x)) kind-is))
 
-module _ (m : List ℕ) (h k : ℕ) (on : brokenIn m ≡ firstBroken h (length m) (drop k (vectorsIn m)) k) where
-  pub broken-end : (n : ℕ) → n ≡ length (vectorsIn m) → n ≤ k → k ≡ brokenIn m
-  unfolding firstBroken
+module _ (m : List ℕ) (h k : ℕ) (on : broken_in m ≡ first_broken h (length m) (drop k (vectors_in m)) k) where
+  pub broken-end : (n : ℕ) → n ≡ length (vectors_in m) → n ≤ k → k ≡ broken_in m
+  unfolding first_broken
   broken-end n n-is g =
-      let all : length (vectorsIn m) ≤ k = omega arith in
-      sym (on ∙ ap (λ (l : List Vector). firstBroken h (length m) l k) (drop_of_length-le (vectorsIn m) all))
+      let all : length (vectors_in m) ≤ k = omega arith in
+      sym (on ∙ ap (λ (l : List Vector). first_broken h (length m) l k) (drop_of_length-le (vectors_in m) all))
 
-  module _ (n : ℕ) (n-is : n ≡ length (vectorsIn m)) (more : k < n) (v : Vector) (v-is : v ≡ vectorIn m k) (b : Bool)
-      (b-is : b ≡ keepsRule h (length m) v) where
-    next-is : drop k (vectorsIn m) ≡ v ∷ drop (k + 1) (vectorsIn m)
+  module _ (n : ℕ) (n-is : n ≡ length (vectors_in m)) (more : k < n) (v : Vector) (v-is : v ≡ vector_in m k) (b : Bool)
+      (b-is : b ≡ keeps_rule h (length m) v) where
+    next-is : drop k (vectors_in m) ≡ v ∷ drop (k + 1) (vectors_in m)
     next-is =
-        drop-cons (vectorsIn m) k noVector (omega arith) ∙ ap (λ (x : Vector). x ∷ drop (suc k) (vectorsIn m)) (sym v-is)
-        ∙ ap (λ (j : ℕ). v ∷ drop j (vectorsIn m)) (sym (add-one k))
+        drop-cons (vectors_in m) k no_vector (omega arith) ∙ ap (λ (x : Vector). x ∷ drop (suc k) (vectors_in m)) (sym v-is)
+        ∙ ap (λ (j : ℕ). v ∷ drop j (vectors_in m)) (sym (add-one k))
 
-    pub broken-here : b ≡ false → k ≡ brokenIn m
-    unfolding firstBroken
+    pub broken-here : b ≡ false → k ≡ broken_in m
+    unfolding first_broken
     broken-here t =
-        sym (on ∙ ap (λ (l : List Vector). firstBroken h (length m) l k) next-is
-        ∙ ap (λ (x : Bool). cond x (firstBroken h (length m) (drop (k + 1) (vectorsIn m)) (k + 1)) k) (sym b-is ∙ t))
+        sym (on ∙ ap (λ (l : List Vector). first_broken h (length m) l k) next-is
+        ∙ ap (λ (x : Bool). cond x (first_broken h (length m) (drop (k + 1) (vectors_in m)) (k + 1)) k) (sym b-is ∙ t))
 
-    pub broken-next : b ≡ true → brokenIn m ≡ firstBroken h (length m) (drop (k + 1) (vectorsIn m)) (k + 1)
-    unfolding firstBroken
+    pub broken-next : b ≡ true → broken_in m ≡ first_broken h (length m) (drop (k + 1) (vectors_in m)) (k + 1)
+    unfolding first_broken
     broken-next t =
-        on ∙ ap (λ (l : List Vector). firstBroken h (length m) l k) next-is
-        ∙ ap (λ (x : Bool). cond x (firstBroken h (length m) (drop (k + 1) (vectorsIn m)) (k + 1)) k) (sym b-is ∙ t)
+        on ∙ ap (λ (l : List Vector). first_broken h (length m) l k) next-is
+        ∙ ap (λ (x : Bool). cond x (first_broken h (length m) (drop (k + 1) (vectors_in m)) (k + 1)) k) (sym b-is ∙ t)
 
 pub ruleset broken = (broken-begin, broken-end, broken-here, broken-next)
 
 -- ---- the words of `critical_element`
-pub critical-begin : (a : List ℕ) → firstCritical (elementsOf a) 0 ≡ firstCritical (elementsAt (length a / 12 - 0) a (12 * 0)) 0
-critical-begin a = let e : length a / 12 ≡ length a / 12 - 0 = omega arith in ap (λ (j : ℕ). firstCritical (elementsAt j a 0) 0) e
+pub critical-begin : (a : List ℕ) → first_critical (elements_of a) 0 ≡ first_critical (elements_at (length a / 12 - 0) a (12 * 0)) 0
+critical-begin a = let e : length a / 12 ≡ length a / 12 - 0 = omega arith in ap (λ (j : ℕ). first_critical (elements_at j a 0) 0) e
 
-module _ (a : List ℕ) (n k : ℕ) (on : firstCritical (elementsOf a) 0 ≡ firstCritical (elementsAt (n - k) a (12 * k)) k) where
-  pub critical-end : n ≤ k → k ≡ firstCritical (elementsOf a) 0
-  unfolding firstCritical elementsAt
-  critical-end h = let e : n - k ≡ 0 = omega arith in sym (on ∙ ap (λ (j : ℕ). firstCritical (elementsAt j a (12 * k)) k) e)
+module _ (a : List ℕ) (n k : ℕ) (on : first_critical (elements_of a) 0 ≡ first_critical (elements_at (n - k) a (12 * k)) k) where
+  pub critical-end : n ≤ k → k ≡ first_critical (elements_of a) 0
+  unfolding first_critical elements_at
+  critical-end h = let e : n - k ≡ 0 = omega arith in sym (on ∙ ap (λ (j : ℕ). first_critical (elements_at j a (12 * k)) k) e)
 
   module _ (more : k < n) (b : Bool) (b-is : b ≡ negative (signed32 (le 4 a (12 * k)))) where
-    step_is : firstCritical (elementsAt (n - k) a (12 * k)) k
-        ≡ cond (not (negative (signed32 (le 4 a (12 * k))))) (firstCritical (elementsAt (n - (k + 1)) a (12 * (k + 1))) (k + 1)) k
-    unfolding firstCritical elementsAt
+    step_is : first_critical (elements_at (n - k) a (12 * k)) k
+        ≡ cond (not (negative (signed32 (le 4 a (12 * k))))) (first_critical (elements_at (n - (k + 1)) a (12 * (k + 1))) (k + 1)) k
+    unfolding first_critical elements_at
     step_is =
         let e : n - k ≡ suc (n - (k + 1)) = omega arith in
         let f : 12 * k + 12 ≡ 12 * (k + 1) = omega arith in
-        ap (λ (j : ℕ). firstCritical (elementsAt j a (12 * k)) k) e
-        ∙ ap (λ (j : ℕ). cond (not (negative (signed32 (le 4 a (12 * k))))) (firstCritical (elementsAt (n - (k + 1)) a j) (k + 1)) k) f
+        ap (λ (j : ℕ). first_critical (elements_at j a (12 * k)) k) e
+        ∙ ap (λ (j : ℕ). cond (not (negative (signed32 (le 4 a (12 * k))))) (first_critical (elements_at (n - (k + 1)) a j) (k + 1)) k) f
 
-    pub critical-here : b ≡ true → k ≡ firstCritical (elementsOf a) 0
+    pub critical-here : b ≡ true → k ≡ first_critical (elements_of a) 0
     critical-here t =
-        sym (on ∙ step_is ∙ ap (λ (x : Bool). cond (not x) (firstCritical (elementsAt (n - (k + 1)) a (12 * (k + 1))) (k + 1)) k) (sym b-is ∙ t))
+        sym (on ∙ step_is ∙ ap (λ (x : Bool). cond (not x) (first_critical (elements_at (n - (k + 1)) a (12 * (k + 1))) (k + 1)) k) (sym b-is ∙ t))
 
-    pub critical-next : b ≡ false → firstCritical (elementsOf a) 0 ≡ firstCritical (elementsAt (n - (k + 1)) a (12 * (k + 1))) (k + 1)
+    pub critical-next : b ≡ false → first_critical (elements_of a) 0 ≡ first_critical (elements_at (n - (k + 1)) a (12 * (k + 1))) (k + 1)
     critical-next t =
-        on ∙ step_is ∙ ap (λ (x : Bool). cond (not x) (firstCritical (elementsAt (n - (k + 1)) a (12 * (k + 1))) (k + 1)) k) (sym b-is ∙ t)
+        on ∙ step_is ∙ ap (λ (x : Bool). cond (not x) (first_critical (elements_at (n - (k + 1)) a (12 * (k + 1))) (k + 1)) k) (sym b-is ∙ t)
 
 pub ruleset critical = (critical-begin, critical-end, critical-here, critical-next)
 
 -- ---- where a vector's offset and size stand
 module _ (m : List ℕ) (k : ℕ) where
-  pub nego-first : k ≡ 0 → (x : Spot) → x ≡ spot 9 0 80 6 → x ≡ vectorSpot nego m k
+  pub nego-first : k ≡ 0 → (x : Spot) → x ≡ spot 9 0 80 6 → x ≡ vector_spot nego m k
   nego-first e x x-is = rw e x-is
 
-  pub nego-second : (k ≡ 0 → ⊥) → k ≡ 1 → (x : Spot) → x ≡ spot 10 0 88 6 → x ≡ vectorSpot nego m k
+  pub nego-second : (k ≡ 0 → ⊥) → k ≡ 1 → (x : Spot) → x ≡ spot 10 0 88 6 → x ≡ vector_spot nego m k
   nego-second h e x x-is = rw e x-is
 
-  pub nego-value : (k ≡ 0 → ⊥) → (k ≡ 1 → ⊥) → (v : Vector) → v ≡ extensionVector m
-      → ◌≡◌ {A = Spot} (record { what = 28; number = k - 2; at = v.offset.0 + 12 * (k - 2) + 4; size = 8 }) (vectorSpot nego m k)
+  pub nego-value : (k ≡ 0 → ⊥) → (k ≡ 1 → ⊥) → (v : Vector) → v ≡ extension_vector m
+      → ◌≡◌ {A = Spot} (record { what = 28; number = k - 2; at = v.offset.0 + 12 * (k - 2) + 4; size = 8 }) (vector_spot nego m k)
   nego-value h g v v-is = rw v-is (simp (ne_eqb k 0 h, ne_eqb k 1 g))
 
-  pub alert-first : k ≡ 0 → (x : Spot) → x ≡ spot 18 0 60 6 → x ≡ vectorSpot alert m k
+  pub alert-first : k ≡ 0 → (x : Spot) → x ≡ spot 18 0 60 6 → x ≡ vector_spot alert m k
   alert-first e x x-is = rw e x-is
 
-  pub alert-value : (k ≡ 0 → ⊥) → (v : Vector) → v ≡ alertVector m
-      → ◌≡◌ {A = Spot} (record { what = 30; number = k - 1; at = v.offset.0 + 12 * (k - 1) + 4; size = 8 }) (vectorSpot alert m k)
+  pub alert-value : (k ≡ 0 → ⊥) → (v : Vector) → v ≡ alert_vector m
+      → ◌≡◌ {A = Spot} (record { what = 30; number = k - 1; at = v.offset.0 + 12 * (k - 1) + 4; size = 8 }) (vector_spot alert m k)
   alert-value h v v-is = rw v-is (simp (ne_eqb k 0 h))
 
   module _ (kind : ℕ) (x : Spot) where
-    pub kind-nego : kind ≤ 1 → x ≡ vectorSpot nego m k → x ≡ vectorSpot (shape_of kind) m k
+    pub kind-nego : kind ≤ 1 → x ≡ vector_spot nego m k → x ≡ vector_spot (shape_of kind) m k
     kind-nego h e = rw (shape-nego kind h) e
 
-    pub kind-exchange : 1 < kind → kind ≤ 5 → x ≡ spot 12 0 56 8 → x ≡ vectorSpot (shape_of kind) m k
+    pub kind-exchange : 1 < kind → kind ≤ 5 → x ≡ spot 12 0 56 8 → x ≡ vector_spot (shape_of kind) m k
     kind-exchange h g e = rw (shape-exchange kind h g) e
 
-    pub kind-verify : 1 < kind → 5 < kind → kind ≡ 6 → x ≡ spot 16 0 68 8 → x ≡ vectorSpot (shape_of kind) m k
+    pub kind-verify : 1 < kind → 5 < kind → kind ≡ 6 → x ≡ spot 16 0 68 8 → x ≡ vector_spot (shape_of kind) m k
     kind-verify h g s e = rw (shape-verify kind h g s) e
 
-    pub kind-alert : 1 < kind → 5 < kind → (kind ≡ 6 → ⊥) → x ≡ vectorSpot alert m k → x ≡ vectorSpot (shape_of kind) m k
+    pub kind-alert : 1 < kind → 5 < kind → (kind ≡ 6 → ⊥) → x ≡ vector_spot alert m k → x ≡ vector_spot (shape_of kind) m k
     kind-alert h g s e = rw (shape-alert kind h g s) e
 
 pub ruleset vector-spots = (nego-first, nego-second, nego-value, alert-first, alert-value)
@@ -129,66 +129,66 @@ pub ruleset kind-spots = (kind-nego, kind-exchange, kind-verify, kind-alert)
 part-short : (m : List ℕ) (v : Vector) → length (part m v) ≤ length m
 part-short m v = omega (arith, length-take (v.count * v.size) (drop v.offset.0 m), length-drop v.offset.0 m)
 
-few-of : (m : List ℕ) (kind : ℕ) → length (vectors_of (contentOf (shape_of kind) m)) ≤ 2 + length m / 12
+few-of : (m : List ℕ) (kind : ℕ) → length (vectors_of (content_of (shape_of kind) m)) ≤ 2 + length m / 12
 few-of m kind = elim (which (leb kind 1)) [
   | inl e ↦ omega
-      (arith, count-nego m kind (leb-true _ _ e) (extensionVector m) refl (part m (extensionVector m)) refl, part-short m (extensionVector m))
+      (arith, count-nego m kind (leb-true _ _ e) (extension_vector m) refl (part m (extension_vector m)) refl, part-short m (extension_vector m))
   | inr e ↦ elim (which (leb kind 6)) [
     | inl g ↦ omega (arith, count-one m kind (leb-false _ _ e) (leb-true _ _ g))
     | inr g ↦ omega (
       arith,
-      count-alert m kind (leb-false _ _ e) (leb-false _ _ g) (alertVector m) refl (part m (alertVector m)) refl,
+      count-alert m kind (leb-false _ _ e) (leb-false _ _ g) (alert_vector m) refl (part m (alert_vector m)) refl,
       part-short m
-          (alertVector m),
+          (alert_vector m),
     )
   ]
 ]
 
-few-vectors : (m : List ℕ) → length (vectorsIn m) ≤ 2 + length m / 12
-unfolding vectorsIn
-few-vectors m = elim (which (leb (headerIn m) (length m))) [
+few-vectors : (m : List ℕ) → length (vectors_in m) ≤ 2 + length m / 12
+unfolding vectors_in
+few-vectors m = elim (which (leb (header_in m) (length m))) [
   | inl e ↦ rw e (few-of m (head_of m).kind)
   | inr e ↦ rw e (omega arith)
 ]
 
-module _ (m : List ℕ) (n : ℕ) (n-is : n ≡ length (vectorsIn m)) where
-  pub vectors-none : n ≡ 0 → (x : Spot) → x ≡ spot 0 0 0 0 → x ≡ brokenSpot m
-  unfolding brokenSpot
-  vectors-none z x x-is = let h : length (vectorsIn m) ≤ brokenIn m = omega arith in x-is ∙ sym (simp (le-ltb _ _ h))
+module _ (m : List ℕ) (n : ℕ) (n-is : n ≡ length (vectors_in m)) where
+  pub vectors-none : n ≡ 0 → (x : Spot) → x ≡ spot 0 0 0 0 → x ≡ broken_spot m
+  unfolding broken_spot
+  vectors-none z x x-is = let h : length (vectors_in m) ≤ broken_in m = omega arith in x-is ∙ sym (simp (le-ltb _ _ h))
 
-  pub header-there : (n ≡ 0 → ⊥) → headerIn m ≤ length m
-  unfolding vectorsIn
-  header-there some = elim (which (leb (headerIn m) (length m))) [
+  pub header-there : (n ≡ 0 → ⊥) → header_in m ≤ length m
+  unfolding vectors_in
+  header-there some = elim (which (leb (header_in m) (length m))) [
     | inl e ↦ leb-true _ _ e
-    | inr e ↦ absurd (some (n-is ∙ ap (λ (b : Bool). length (cond b (vectors_of (contentIn m)) [])) e))
+    | inr e ↦ absurd (some (n-is ∙ ap (λ (b : Bool). length (cond b (vectors_of (content_in m)) [])) e))
   ]
 
   pub type-there : (n ≡ 0 → ⊥) → 8 + 4 ≤ length m
   type-there some = let a = header-there some in omega (arith, header-least (shape_of (head_of m).kind))
 
-  pub kind-there : (n ≡ 0 → ⊥) → (kind : ℕ) → kind ≡ le 4 m 8 → headerOf (shape_of kind) ≤ length m
+  pub kind-there : (n ≡ 0 → ⊥) → (kind : ℕ) → kind ≡ le 4 m 8 → header_of (shape_of kind) ≤ length m
   unfolding head_of
-  kind-there some kind e = subst (λ (x : ℕ). headerOf (shape_of x) ≤ length m) (sym e) (header-there some)
+  kind-there some kind e = subst (λ (x : ℕ). header_of (shape_of x) ≤ length m) (sym e) (header-there some)
 
-  module _ (k : ℕ) (k-is : k ≡ brokenIn m) where
-    pub broken-none : n ≤ k → (x : Spot) → x ≡ spot 0 0 0 0 → x ≡ brokenSpot m
-    unfolding brokenSpot
-    broken-none h x x-is = let g : length (vectorsIn m) ≤ brokenIn m = omega arith in x-is ∙ sym (simp (le-ltb _ _ g))
+  module _ (k : ℕ) (k-is : k ≡ broken_in m) where
+    pub broken-none : n ≤ k → (x : Spot) → x ≡ spot 0 0 0 0 → x ≡ broken_spot m
+    unfolding broken_spot
+    broken-none h x x-is = let g : length (vectors_in m) ≤ broken_in m = omega arith in x-is ∙ sym (simp (le-ltb _ _ g))
 
     pub broken-few : length m ≤ 65535 → k < n → k < 65536
     broken-few h g = omega (arith, few-vectors m)
 
-    pub broken-some : k < n → (kind : ℕ) → kind ≡ le 4 m 8 → (x : Spot) → x ≡ vectorSpot (shape_of kind) m k → x ≡ brokenSpot m
-    unfolding brokenSpot head_of
+    pub broken-some : k < n → (kind : ℕ) → kind ≡ le 4 m 8 → (x : Spot) → x ≡ vector_spot (shape_of kind) m k → x ≡ broken_spot m
+    unfolding broken_spot head_of
     broken-some h kind kind-is x e =
-        let g : brokenIn m < length (vectorsIn m) = omega arith in
+        let g : broken_in m < length (vectors_in m) = omega arith in
         (rw (kind-is, k-is) at e) ∙ sym (simp (lt-ltb _ _ g))
 
 pub ruleset broken-spots = (vectors-none, type-there, kind-there, broken-none, broken-few, broken-some)
 
 -- ---- the words of `critical_spot` and `checksum_spot`
-critical-most : (es : List Element) (k : ℕ) → firstCritical es k ≤ k + length es
-unfolding firstCritical
+critical-most : (es : List Element) (k : ℕ) → first_critical es k ≤ k + length es
+unfolding first_critical
 critical-most [] k = omega arith
 critical-most (e ∷ es) k = elim (which (not (negative (signed32 e.type)))) [
   | inl t ↦ rw t (omega (arith, critical-most es (k + 1)))
@@ -197,20 +197,20 @@ critical-most (e ∷ es) k = elim (which (not (negative (signed32 e.type)))) [
 
 shown-short : (m : List ℕ) (v : Vector) → length (shown 96 m v) ≤ length m
 unfolding shown
-shown-short m v = elim (which (keepsRule 96 (length m) v)) [
+shown-short m v = elim (which (keeps_rule 96 (length m) v)) [
   | inl e ↦ rw e (part-short m v)
   | inr e ↦ rw e (omega arith)
 ]
 
 module _ (m : List ℕ) where
-  pub critical-none : length m < 96 → (x : Spot) → x ≡ spot 0 0 0 0 → x ≡ criticalSpot m
-  unfolding criticalSpot
+  pub critical-none : length m < 96 → (x : Spot) → x ≡ spot 0 0 0 0 → x ≡ critical_spot m
+  unfolding critical_spot
   critical-none h x e = e ∙ sym (simp (lt-leb _ _ h))
 
-  module _ (a : List ℕ) (a-is : a ≡ shown 96 m (extensionVector m)) (k : ℕ) (k-is : k ≡ firstCritical (elementsOf a) 0) where
+  module _ (a : List ℕ) (a-is : a ≡ shown 96 m (extension_vector m)) (k : ℕ) (k-is : k ≡ first_critical (elements_of a) 0) where
     critical-few : length m ≤ 65535 → k < 65536
     critical-few h =
-        omega (arith, critical-most (elementsOf a) 0, length-elements (length a / 12) a 0, ap length a-is, shown-short m (extensionVector m))
+        omega (arith, critical-most (elements_of a) 0, length-elements (length a / 12) a 0, ap length a-is, shown-short m (extension_vector m))
 
     pub critical-cast : length m ≤ 65535 → k < 2 ^ 32
     critical-cast h = omega (arith, critical-few h)
@@ -221,22 +221,22 @@ module _ (m : List ℕ) where
     pub critical-sum : length m ≤ 65535 → (o : ℕ) → o < 2 ^ 32 → o + 12 * k < 2 ^ 64
     critical-sum h o g = omega (arith, critical-few h)
 
-    pub critical-some : 96 ≤ length m → (v : Vector) → v ≡ extensionVector m
-        → ◌≡◌ {A = Spot} (record { what = 27; number = k; at = v.offset.0 + 12 * k; size = 4 }) (criticalSpot m)
-    unfolding criticalSpot
+    pub critical-some : 96 ≤ length m → (v : Vector) → v ≡ extension_vector m
+        → ◌≡◌ {A = Spot} (record { what = 27; number = k; at = v.offset.0 + 12 * k; size = 4 }) (critical_spot m)
+    unfolding critical_spot
     critical-some h v v-is = rw (v-is, k-is, a-is) (sym (simp (le-leb _ _ h)))
 
-  pub checksum-none : length m < 80 → (x : Spot) → x ≡ spot 0 0 0 0 → x ≡ checksumSpot m
-  unfolding checksumSpot
+  pub checksum-none : length m < 80 → (x : Spot) → x ≡ spot 0 0 0 0 → x ≡ checksum_spot m
+  unfolding checksum_spot
   checksum-none h x e = e ∙ sym (simp (lt-leb _ _ h))
 
   module _ (h : 80 ≤ length m) (n : ℕ) (n-is : n ≡ le 4 m 56) (x : Spot) where
-    pub checksum-scheme : n ≡ 20 → x ≡ spot 14 0 60 4 → x ≡ checksumSpot m
-    unfolding checksumSpot
+    pub checksum-scheme : n ≡ 20 → x ≡ spot 14 0 60 4 → x ≡ checksum_spot m
+    unfolding checksum_spot
     checksum-scheme e x-is = x-is ∙ sym (simp (le-leb _ _ h, eq-eqb (le 4 m 56) 20 (sym n-is ∙ e)))
 
-    pub checksum-header : (n ≡ 20 → ⊥) → x ≡ spot 13 0 56 4 → x ≡ checksumSpot m
-    unfolding checksumSpot
+    pub checksum-header : (n ≡ 20 → ⊥) → x ≡ spot 13 0 56 4 → x ≡ checksum_spot m
+    unfolding checksum_spot
     checksum-header e x-is = x-is ∙ sym (simp (le-leb _ _ h, ne_eqb (le 4 m 56) 20 (λ z. e (n-is ∙ z))))
 
 pub ruleset critical-spots = (critical-none, critical-cast, critical-product, critical-sum, critical-some)

@@ -16,38 +16,38 @@ use Rattle.message.specs.Show.{first_of}
 use Rattle.message.specs.Layout.{size}
 use Rattle.token.specs.declared.Answer.{Answer}
 use Rattle.token.specs.declared.Answer.TheVariants as answer
-use Rattle.token.specs.Token.{Reading, Refused, tokenOf, outcomeOf, told}
+use Rattle.token.specs.Token.{Reading, Refused, token_of, outcome_of, told}
 use Rattle.token.specs.Split.{join}
-use Rattle.token.specs.Walk.{messagesOf}
+use Rattle.token.specs.Walk.{messages_of}
 use Rattle.token.proofs.Splits.{refused-stops}
 use Rattle.token.proofs.Walks.{answer-accepts, answer-number, answer-refuses}
 use Rattle.entries.specs.declared.Entry.{Entry}
-use Rattle.entries.specs.Entries.{fieldEntry}
-use Rattle.entries.specs.Lookup.{noEntry}
+use Rattle.entries.specs.Entries.{field_entry}
+use Rattle.entries.specs.Lookup.{no_entry}
 use Rattle.faults.specs.declared.Spot.{Spot}
-use Rattle.faults.specs.Faults.{spot_of, restEntry, faultEntry, faultAt, faultIn, faultOf}
+use Rattle.faults.specs.Faults.{spot_of, rest_entry, fault_entry, fault_at, fault_in, fault_of}
 
 -- ---- the words of `fault_entry`
 module _ (p i : ℕ) (s : List ℕ) (x : Spot) (e : Entry) where
-  pub outside-size : length s < x.size → e ≡ noEntry → e ≡ faultEntry p i s x
-  unfolding faultEntry
+  pub outside-size : length s < x.size → e ≡ no_entry → e ≡ fault_entry p i s x
+  unfolding fault_entry
   outside-size h f = let g : length s < x.at + x.size = omega arith in f ∙ sym (simp (lt-leb _ _ g))
 
   module _ (h : x.size ≤ length s) where
-    pub outside-at : length s - x.size < x.at → e ≡ noEntry → e ≡ faultEntry p i s x
-    unfolding faultEntry
+    pub outside-at : length s - x.size < x.at → e ≡ no_entry → e ≡ fault_entry p i s x
+    unfolding fault_entry
     outside-at k f = let g : length s < x.at + x.size = omega arith in f ∙ sym (simp (lt-leb _ _ g))
 
     module _ (k : x.at ≤ length s - x.size) where
       fits : x.at + x.size ≤ length s
       fits = omega arith
 
-      pub small : x.size < 2 → e ≡ noEntry → e ≡ faultEntry p i s x
-      unfolding faultEntry
+      pub small : x.size < 2 → e ≡ no_entry → e ≡ fault_entry p i s x
+      unfolding fault_entry
       small g f = f ∙ sym (simp (le-leb _ _ fits, lt-leb _ _ g))
 
-      pub within : 2 ≤ x.size → e ≡ fieldEntry p i s x.what x.number x.at x.size → e ≡ faultEntry p i s x
-      unfolding faultEntry
+      pub within : 2 ≤ x.size → e ≡ field_entry p i s x.what x.number x.at x.size → e ≡ fault_entry p i s x
+      unfolding fault_entry
       within g f = f ∙ sym (simp (le-leb _ _ fits, le-leb _ _ g))
 
 pub ruleset entries_at = (outside-size, outside-at, small, within)
@@ -56,12 +56,12 @@ pub ruleset entries_at = (outside-size, outside-at, small, within)
 pub front_length : (s : List ℕ) (p : ℕ) → p ≤ length s → p ≡ length (take p s)
 front_length s p h = sym (length-take-le p s h)
 
-module _ (s : List ℕ) (r : Answer) (r-is : told r ≡ outcomeOf (tokenOf s)) where
-  pub before-all : (n : ℕ) → r ≡ answer.Messages n → n ≡ length (messagesOf (tokenOf s))
+module _ (s : List ℕ) (r : Answer) (r-is : told r ≡ outcome_of (token_of s)) where
+  pub before-all : (n : ℕ) → r ≡ answer.Messages n → n ≡ length (messages_of (token_of s))
   before-all n here = sym (answer-number s r r-is n here)
 
-  pub before-none : (n : ℕ) (place : TokenPlace) → r ≡ answer.Refused n place → 0 ≡ length (messagesOf (tokenOf s))
-  before-none n place here = sym (ap (λ (x : Reading). length (messagesOf x)) (answer-refuses s r r-is n place here))
+  pub before-none : (n : ℕ) (place : TokenPlace) → r ≡ answer.Refused n place → 0 ≡ length (messages_of (token_of s))
+  before-none n place here = sym (ap (λ (x : Reading). length (messages_of x)) (answer-refuses s r r-is n place here))
 
   -- ---- the words of `fault`
   pub fault-place : (n : ℕ) (place : TokenPlace) → r ≡ answer.Refused n place → place.0 ≤ length s
@@ -74,17 +74,17 @@ module _ (s : List ℕ) (r : Answer) (r-is : told r ≡ outcomeOf (tokenOf s)) w
   ]
 
   module _ (h : length s ≤ 65535) (e : Entry) where
-    pub fault-none : (n : ℕ) → r ≡ answer.Messages n → e ≡ noEntry → e ≡ faultOf s
-    unfolding faultOf
-    fault-none n here f = f ∙ sym (ap (λ (x : Reading). faultIn x s) (answer-accepts s r r-is n here)) ∙ sym (simp (le-leb _ _ h))
+    pub fault-none : (n : ℕ) → r ≡ answer.Messages n → e ≡ no_entry → e ≡ fault_of s
+    unfolding fault_of
+    fault-none n here f = f ∙ sym (ap (λ (x : Reading). fault_in x s) (answer-accepts s r r-is n here)) ∙ sym (simp (le-leb _ _ h))
 
     pub fault-some : (n : ℕ) (place : TokenPlace) → r ≡ answer.Refused n place
-        → e ≡ faultAt place.0 (length (messagesOf (tokenOf (take place.0 s)))) (drop place.0 s) n → e ≡ faultOf s
-    unfolding faultOf
-    fault-some n place here f = f ∙ sym (ap (λ (x : Reading). faultIn x s) (answer-refuses s r r-is n place here)) ∙ sym (simp (le-leb _ _ h))
+        → e ≡ fault_at place.0 (length (messages_of (token_of (take place.0 s)))) (drop place.0 s) n → e ≡ fault_of s
+    unfolding fault_of
+    fault-some n place here f = f ∙ sym (ap (λ (x : Reading). fault_in x s) (answer-refuses s r r-is n place here)) ∙ sym (simp (le-leb _ _ h))
 
-pub fault-long : (s : List ℕ) → 65535 < length s → (e : Entry) → e ≡ restEntry 65535 0 1 → e ≡ faultOf s
-unfolding faultOf
+pub fault-long : (s : List ℕ) → 65535 < length s → (e : Entry) → e ≡ rest_entry 65535 0 1 → e ≡ fault_of s
+unfolding fault_of
 fault-long s h e f = f ∙ sym (simp (lt-leb _ _ h))
 
 pub ruleset before = (front_length, before-all, before-none)
@@ -109,15 +109,15 @@ module _ (s : List ℕ) (p : ℕ) (h : p ≤ length s) (short : length s ≤ 655
   pub rest-first : (m : List ℕ) → m ≡ first_of (take (length s - p) (drop p s)) → length m ≤ 65535
   rest-first m e = omega (arith, ap length e, first_short (take (length s - p) (drop p s)), rest-length)
 
-  module _ (i n : ℕ) (i-is : i ≡ length (messagesOf (tokenOf (take p s)))) (e : Entry) where
-    pub left-rest : n ≡ 2 → e ≡ restEntry p i (length (take (length s - p) (drop p s)))
-        → e ≡ faultAt p (length (messagesOf (tokenOf (take p s)))) (drop p s) n
-    unfolding faultAt
+  module _ (i n : ℕ) (i-is : i ≡ length (messages_of (token_of (take p s)))) (e : Entry) where
+    pub left-rest : n ≡ 2 → e ≡ rest_entry p i (length (take (length s - p) (drop p s)))
+        → e ≡ fault_at p (length (messages_of (token_of (take p s)))) (drop p s) n
+    unfolding fault_at
     left-rest z f = (rw (i-is, tail_all s p) at f) ∙ sym (simp (eq-eqb n 2 z))
 
     pub left-field : (n ≡ 2 → ⊥) → (m : List ℕ) → m ≡ first_of (take (length s - p) (drop p s)) → (x : Spot) → x ≡ spot_of n m
-        → e ≡ faultEntry p i (take (length s - p) (drop p s)) x → e ≡ faultAt p (length (messagesOf (tokenOf (take p s)))) (drop p s) n
-    unfolding faultAt
+        → e ≡ fault_entry p i (take (length s - p) (drop p s)) x → e ≡ fault_at p (length (messages_of (token_of (take p s)))) (drop p s) n
+    unfolding fault_at
     left-field z m m-is x x-is f = (rw (i-is, x-is, m-is, tail_all s p) at f) ∙ sym (simp (ne_eqb n 2 z))
 
 pub ruleset lefts = (rest-length, rest-first, left-rest, left-field)

@@ -14,18 +14,18 @@ use Rattle.octets.proofs.Bools.{which, no_true}
 use Rattle.octets.specs.Octets.{le, signed32, negative}
 use Rattle.vector.specs.declared.Vector.{Vector}
 use Rattle.vector.specs.Vector.{extent, part}
-use Rattle.message.specs.Layout.{Shape, nego, exchange, verify, alert, shape_of, headerOf, Head, head_of, Element, elementsOf, extensionVector, alertVector, contentOf, vectors_of, size, front}
-use Rattle.message.specs.Check.{FirstFails, commonRows, allPass, allKeepRule, noneCritical, contentRows, bodyRows, frontRows}
+use Rattle.message.specs.Layout.{Shape, nego, exchange, verify, alert, shape_of, header_of, Head, head_of, Element, elements_of, extension_vector, alert_vector, content_of, vectors_of, size, front}
+use Rattle.message.specs.Check.{FirstFails, common_rows, all_pass, all_keep_rule, none_critical, content_rows, body_rows, front_rows}
 use Rattle.message.specs.Show.{first_of}
 use Rattle.message.proofs.Tables.{giving}
 use Rattle.message.proofs.Headers.{common-sized}
 use Rattle.message.proofs.Local.{head-front}
 use Rattle.parts.proofs.Shows.{length-elements}
-use Rattle.token.specs.Token.{orderRows, nextRows}
+use Rattle.token.specs.Token.{order_rows, next_rows}
 use Rattle.token.specs.Split.{join}
 use Rattle.token.proofs.Splits.{refused-stops}
 use Rattle.faults.specs.declared.Spot.{Spot}
-use Rattle.faults.specs.Faults.{spot, firstBroken, vectorSpot, brokenSpot, firstCritical, criticalSpot, spot_of}
+use Rattle.faults.specs.Faults.{spot, first_broken, vector_spot, broken_spot, first_critical, critical_spot, spot_of}
 use Rattle.faults.specs.Claims.{Within, FaultWithin}
 use Rattle.faults.proofs.Spots.{at-number}
 use Rattle.faults.proofs.First.{broken-few, broken-is, second-keeps, critical-is, checksum-header-is, checksum-scheme-is}
@@ -36,9 +36,9 @@ element-ends : (m : List ℕ) (v : Vector) (j : ℕ) → j < length (part m v) /
 element-ends m v j h = omega (arith, length-take (extent v) (drop v.offset.0 m), length-drop v.offset.0 m)
 
 -- ---- where a vector's offset and size stand
-vector-within : (shape : Shape) (m : List ℕ) (k : ℕ) → headerOf shape ≤ length m → k < length (vectors_of (contentOf shape m))
-    → Within (vectorSpot shape m k) (length m)
-unfolding vectors_of contentOf
+vector-within : (shape : Shape) (m : List ℕ) (k : ℕ) → header_of shape ≤ length m → k < length (vectors_of (content_of shape m))
+    → Within (vector_spot shape m k) (length m)
+unfolding vectors_of content_of
 vector-within nego m k h g = elim (which (eqb k 0)) [
   | inl e ↦ rw e (record { some = omega arith; inside = omega arith })
   | inr e ↦ rw e (elim (which (eqb k 1)) [
@@ -46,9 +46,9 @@ vector-within nego m k h g = elim (which (eqb k 0)) [
     | inr f ↦ rw f (
         let a : (k ≡ 0) → ⊥ = eqb-false _ _ e in
         let b : (k ≡ 1) → ⊥ = eqb-false _ _ f in
-        let few : k - 2 < length (part m (extensionVector m)) / 12 =
-        omega (arith, values_length (length (part m (extensionVector m)) / 12) (part m (extensionVector m)) 0) in
-        record { some = omega arith; inside = omega (arith, element-ends m (extensionVector m) (k - 2) few) }
+        let few : k - 2 < length (part m (extension_vector m)) / 12 =
+        omega (arith, values_length (length (part m (extension_vector m)) / 12) (part m (extension_vector m)) 0) in
+        record { some = omega arith; inside = omega (arith, element-ends m (extension_vector m) (k - 2) few) }
         )
   ])
 ]
@@ -58,17 +58,17 @@ vector-within alert m k h g = elim (which (eqb k 0)) [
   | inl e ↦ rw e (record { some = omega arith; inside = omega arith })
   | inr e ↦ rw e (
       let a : (k ≡ 0) → ⊥ = eqb-false _ _ e in
-      let few : k - 1 < length (part m (alertVector m)) / 12 =
-      omega (arith, values_length (length (part m (alertVector m)) / 12) (part m (alertVector m)) 0) in
-      record { some = omega arith; inside = omega (arith, element-ends m (alertVector m) (k - 1) few) }
+      let few : k - 1 < length (part m (alert_vector m)) / 12 =
+      omega (arith, values_length (length (part m (alert_vector m)) / 12) (part m (alert_vector m)) 0) in
+      record { some = omega arith; inside = omega (arith, element-ends m (alert_vector m) (k - 1) few) }
       )
 ]
 
-critical-few : (es : List Element) (k : ℕ) → noneCritical es ≡ false → firstCritical es k < k + length es
-unfolding noneCritical firstCritical
+critical-few : (es : List Element) (k : ℕ) → none_critical es ≡ false → first_critical es k < k + length es
+unfolding none_critical first_critical
 critical-few [] k e = no_true (sym e)
 critical-few (x ∷ es) k e = elim (which (not (negative (signed32 x.type)))) [
-  | inl t ↦ rw t (let a = critical-few es (k + 1) (sym (ap (λ (b : Bool). b && noneCritical es) t) ∙ e) in omega arith)
+  | inl t ↦ rw t (let a = critical-few es (k + 1) (sym (ap (λ (b : Bool). b && none_critical es) t) ∙ e) in omega arith)
   | inr t ↦ rw t (omega arith)
 ]
 
@@ -80,33 +80,33 @@ wider x y n k e h w = subst (λ (z : Spot). Within z k) e (record { some = w.som
 before-80 : (m : List ℕ) (n : ℕ) (x : Spot) → x ≡ spot_of n m → 2 ≤ x.size → x.at + x.size ≤ 80 → 80 ≤ length m → Within (spot_of n m) (length m)
 before-80 m n x e a b h = wider x (spot_of n m) 80 (length m) e h (record { some = a; inside = b })
 
-broken-within : (m : List ℕ) (shape : Shape) → shape_of (head_of m).kind ≡ shape → headerOf shape ≤ length m → (n : ℕ) → 11 ≡ n
-    → allKeepRule (headerOf shape) (length m) (vectors_of (contentOf shape m)) ≡ false → Within (spot_of n m) (length m)
+broken-within : (m : List ℕ) (shape : Shape) → shape_of (head_of m).kind ≡ shape → header_of shape ≤ length m → (n : ℕ) → 11 ≡ n
+    → all_keep_rule (header_of shape) (length m) (vectors_of (content_of shape m)) ≡ false → Within (spot_of n m) (length m)
 unfolding spot_of
 broken-within m shape is room n e f =
-    wider (vectorSpot shape m (firstBroken (headerOf shape) (length m) (vectors_of (contentOf shape m)) 0)) (spot_of n m) (length m) (length m)
-    (broken-is m shape is room f ∙ at-number n m (brokenSpot m) 11 (sym e) refl)
+    wider (vector_spot shape m (first_broken (header_of shape) (length m) (vectors_of (content_of shape m)) 0)) (spot_of n m) (length m) (length m)
+    (broken-is m shape is room f ∙ at-number n m (broken_spot m) 11 (sym e) refl)
     (omega arith)
-    (vector-within shape m (firstBroken (headerOf shape) (length m) (vectors_of (contentOf shape m)) 0) room
-    (let a = broken-few (headerOf shape) (length m) (vectors_of (contentOf shape m)) 0 f in omega arith))
+    (vector-within shape m (first_broken (header_of shape) (length m) (vectors_of (content_of shape m)) 0) room
+    (let a = broken-few (header_of shape) (length m) (vectors_of (content_of shape m)) 0 f in omega arith))
 
-content-within : (m : List ℕ) (shape : Shape) → shape_of (head_of m).kind ≡ shape → headerOf shape ≤ length m → (n : ℕ)
-    → FirstFails n (contentRows (headerOf shape) (length m) (contentOf shape m)) → Within (spot_of n m) (length m)
-unfolding contentRows contentOf spot_of
+content-within : (m : List ℕ) (shape : Shape) → shape_of (head_of m).kind ≡ shape → header_of shape ≤ length m → (n : ℕ)
+    → FirstFails n (content_rows (header_of shape) (length m) (content_of shape m)) → Within (spot_of n m) (length m)
+unfolding content_rows content_of spot_of
 content-within m nego is room n f = elim f [
   | inl a ↦ before-80 m n (spot 8 0 72 8) (at-number n m (spot 8 0 72 8) 10 (sym a.1) refl) (omega arith) (omega arith) (omega arith)
   | inr a ↦ elim a.1 [
     | inl b ↦ broken-within m nego is room n b.1 b.0
     | inr b ↦ elim b.1 [
       | inl c ↦
-          let es = elementsOf (part m (extensionVector m)) in
-          let few : firstCritical es 0 < length (part m (extensionVector m)) / 12 =
+          let es = elements_of (part m (extension_vector m)) in
+          let few : first_critical es 0 < length (part m (extension_vector m)) / 12 =
           (let z = critical-few es 0 c.0 in
-          omega (arith, length-elements (length (part m (extensionVector m)) / 12) (part m (extensionVector m)) 0)) in
-          wider (spot 27 (firstCritical es 0) ((extensionVector m).offset.0 + 12 * firstCritical es 0) 4) (spot_of n m) (length m) (length m)
-          (critical-is m room (second-keeps m b.0) ∙ at-number n m (criticalSpot m) 12 (sym c.1) refl)
+          omega (arith, length-elements (length (part m (extension_vector m)) / 12) (part m (extension_vector m)) 0)) in
+          wider (spot 27 (first_critical es 0) ((extension_vector m).offset.0 + 12 * first_critical es 0) 4) (spot_of n m) (length m) (length m)
+          (critical-is m room (second-keeps m b.0) ∙ at-number n m (critical_spot m) 12 (sym c.1) refl)
           (omega arith)
-          (record { some = omega arith; inside = omega (arith, element-ends m (extensionVector m) (firstCritical es 0) few) })
+          (record { some = omega arith; inside = omega (arith, element-ends m (extension_vector m) (first_critical es 0) few) })
       | inr c ↦ elim c.1 [ inl d ↦ no_true (sym d.0) | inr d ↦ absurd d.1 ]
     ]
   ]
@@ -151,9 +151,9 @@ content-within m alert is room n f = elim f [
 ]
 
 -- ---- the message at the front of s
-body-within : (s : List ℕ) (n : ℕ) → allPass (commonRows (length s) (head_of s)) ≡ true → FirstFails n (frontRows s)
+body-within : (s : List ℕ) (n : ℕ) → all_pass (common_rows (length s) (head_of s)) ≡ true → FirstFails n (front_rows s)
     → Within (spot_of n (first_of s)) (length s)
-unfolding frontRows bodyRows first_of
+unfolding front_rows body_rows first_of
 body-within s n ok f =
     let z = common-sized (length s) (head_of s) ok in
     let long : length (front s) ≡ size s = length-take-le (size s) s z.within in
@@ -162,7 +162,7 @@ body-within s n ok f =
     let first : first_of s ≡ front s = simp (le-leb _ _ z.forty, le-leb _ _ z.within) in
     let found : Within (spot_of n (front s)) (length (front s)) =
     content-within (front s) (shape_of (head_of s).kind) is (omega (arith, z.header, z.holds)) n
-    (subst (λ (k : ℕ). FirstFails n (contentRows (headerOf (shape_of (head_of s).kind)) k (contentOf (shape_of (head_of s).kind) (front s))))
+    (subst (λ (k : ℕ). FirstFails n (content_rows (header_of (shape_of (head_of s).kind)) k (content_of (shape_of (head_of s).kind) (front s))))
     (sym long) f) in
     wider (spot_of n (front s)) (spot_of n (first_of s)) (length (front s)) (length s) (ap (spot_of n) (sym first)) (omega (arith, z.within)) found
 
@@ -171,8 +171,8 @@ early : (s : List ℕ) (n : ℕ) (x : Spot) → leb 40 (length s) ≡ true → x
     → Within (spot_of n (first_of s)) (length s)
 early s n x t e a b = wider x (spot_of n (first_of s)) 40 (length s) e (leb-true _ _ t) (record { some = a; inside = b })
 
-front-within : (s : List ℕ) (q : ℕ) (v : List ℕ) (n : ℕ) → (n ≡ 2 → ⊥) → FirstFails n (nextRows s q v) → Within (spot_of n (first_of s)) (length s)
-unfolding nextRows commonRows orderRows spot_of
+front-within : (s : List ℕ) (q : ℕ) (v : List ℕ) (n : ℕ) → (n ≡ 2 → ⊥) → FirstFails n (next_rows s q v) → Within (spot_of n (first_of s)) (length s)
+unfolding next_rows common_rows order_rows spot_of
 front-within s q v n other f = elim f [
   | inl a ↦ absurd (other (sym a.1))
   | inr a ↦ elim a.1 [
@@ -189,7 +189,7 @@ front-within s q v n other f = elim f [
               | inl h ↦ early s n (spot 3 0 12 4) a.0 (at-number n (first_of s) (spot 3 0 12 4) 7 (sym h.1) refl) (omega arith) (omega arith)
               | inr h ↦ elim h.1 [
                 | inl i ↦ early s n (spot 6 0 24 16) a.0 (at-number n (first_of s) (spot 6 0 24 16) 8 (sym i.1) refl) (omega arith) (omega arith)
-                | inr i ↦ body-within s n (giving (commonRows (length s) (head_of s)) (a.0, (b.0, (c.0, (d.0, (e.0, (g.0, tt))))))) i.1
+                | inr i ↦ body-within s n (giving (common_rows (length s) (head_of s)) (a.0, (b.0, (c.0, (d.0, (e.0, (g.0, tt))))))) i.1
               ]
             ]
           ]

@@ -1,11 +1,11 @@
 // The octets at fault of a refused token: the field whose test fails first.
 ghost use Rattle.std.specs.Prelude.{◌≡◌, ◌+◌, ◌≤◌, ◌<◌, length, take, drop};
-ghost use Rattle.message.specs.Layout.{nego, alert, elementsOf, shape_of, headerOf};
-ghost use Rattle.token.specs.Token.{tokenOf};
-ghost use Rattle.token.specs.Walk.{messagesOf};
-ghost use Rattle.coverage.specs.Coverage.{headerIn};
-ghost use Rattle.entries.specs.Lookup.{noEntry};
-ghost use Rattle.faults.specs.Faults.{spot, brokenIn, vectorSpot, brokenSpot, firstCritical, criticalSpot, checksumSpot, spot_of, restEntry, faultEntry, faultAt, faultOf};
+ghost use Rattle.message.specs.Layout.{nego, alert, elements_of, shape_of, header_of};
+ghost use Rattle.token.specs.Token.{token_of};
+ghost use Rattle.token.specs.Walk.{messages_of};
+ghost use Rattle.coverage.specs.Coverage.{header_in};
+ghost use Rattle.entries.specs.Lookup.{no_entry};
+ghost use Rattle.faults.specs.Faults.{spot, broken_in, vector_spot, broken_spot, first_critical, critical_spot, checksum_spot, spot_of, rest_entry, fault_entry, fault_at, fault_of};
 
 use coverage::vectors::{vector_count, vector_of};
 use entries::lookup::field_entry;
@@ -45,8 +45,8 @@ fn single(what: u32, at: usize, size: u32) -> Spot
 
 // The number of the first vector that breaks its rule; that of all of them where none does.
 fn broken_vector(m: &[u8]) -> usize
-    requires { headerIn m.now ≤ length m.now }
-    ensures { result ≡ brokenIn m.now }
+    requires { header_in m.now ≤ length m.now }
+    ensures { result ≡ broken_in m.now }
 {
     let header = Kind(le_u32(m, field::TYPE)).header();
     let count = vector_count(m);
@@ -63,7 +63,7 @@ fn broken_vector(m: &[u8]) -> usize
 // Where the offset and size of vector k of a NEGO stand.
 fn nego_spot(m: &[u8], k: usize) -> Spot
     requires { (96 ≤ length m.now) × (k < 65536) }
-    ensures { result ≡ vectorSpot nego m.now k }
+    ensures { result ≡ vector_spot nego m.now k }
 {
     if k == 0 {
         return single(name::SCHEME_VECTOR, field::SCHEMES, 6);
@@ -83,7 +83,7 @@ fn nego_spot(m: &[u8], k: usize) -> Spot
 // Of an ALERT.
 fn alert_spot(m: &[u8], k: usize) -> Spot
     requires { (72 ≤ length m.now) × (k < 65536) }
-    ensures { result ≡ vectorSpot alert m.now k }
+    ensures { result ≡ vector_spot alert m.now k }
 {
     if k == 0 {
         return single(name::ALERT_VECTOR, field::ALERTS, 6);
@@ -99,8 +99,8 @@ fn alert_spot(m: &[u8], k: usize) -> Spot
 
 // Of a message of a kind.
 fn vector_spot(kind: Kind, m: &[u8], k: usize) -> Spot
-    requires { (headerOf (shape_of kind.0) ≤ length m.now) × (k < 65536) }
-    ensures { result ≡ vectorSpot (shape_of kind.0) m.now k }
+    requires { (header_of (shape_of kind.0) ≤ length m.now) × (k < 65536) }
+    ensures { result ≡ vector_spot (shape_of kind.0) m.now k }
 {
     if kind.0 <= Kind::ACCEPTOR_NEGO {
         return nego_spot(m, k);
@@ -117,7 +117,7 @@ fn vector_spot(kind: Kind, m: &[u8], k: usize) -> Spot
 // Where the offset and size of the first vector stand that breaks its rule.
 fn broken_spot(m: &[u8]) -> Spot
     requires { length m.now ≤ 65535 }
-    ensures { result ≡ brokenSpot m.now }
+    ensures { result ≡ broken_spot m.now }
 {
     let count = vector_count(m);
     if count == 0 {
@@ -132,7 +132,7 @@ fn broken_spot(m: &[u8]) -> Spot
 
 // The number of the first critical element of an array; that of all of them where none is.
 fn critical_element(array: &[u8]) -> usize
-    ensures { result ≡ firstCritical (elementsOf array.now) 0 }
+    ensures { result ≡ first_critical (elements_of array.now) 0 }
 {
     let count = array.len() / field::ELEMENT;
     let mut k: usize = 0;
@@ -148,7 +148,7 @@ fn critical_element(array: &[u8]) -> usize
 // Where the type of the first critical extension stands.
 fn critical_spot(m: &[u8]) -> Spot
     requires { length m.now ≤ 65535 }
-    ensures { result ≡ criticalSpot m.now }
+    ensures { result ≡ critical_spot m.now }
 {
     if m.len() < Kind::NEGO_HEADER_LEN {
         return single(0, 0, 0);
@@ -165,7 +165,7 @@ fn critical_spot(m: &[u8]) -> Spot
 
 // Of a VERIFY's checksum header length and scheme, the first that is another than it has to be.
 fn checksum_spot(m: &[u8]) -> Spot
-    ensures { result ≡ checksumSpot m.now }
+    ensures { result ≡ checksum_spot m.now }
 {
     if m.len() < Kind::VERIFY_HEADER_LEN {
         return single(0, 0, 0);
@@ -198,7 +198,7 @@ fn spot_of(number: u32, m: &[u8]) -> Spot
 
 // Octets and no field.
 fn rest_entry(place: u32, message: u32, length: u32) -> Entry
-    ensures { result ≡ restEntry place message length }
+    ensures { result ≡ rest_entry place message length }
 {
     Entry {
         what: REST,
@@ -212,7 +212,7 @@ fn rest_entry(place: u32, message: u32, length: u32) -> Entry
 
 // No fault.
 fn no_entry() -> Entry
-    ensures { result ≡ noEntry }
+    ensures { result ≡ no_entry }
 {
     Entry {
         what: 0,
@@ -227,7 +227,7 @@ fn no_entry() -> Entry
 // The entry of a field of what is left of a token; nothing where the field lies outside.
 fn fault_entry(place: TokenPlace, message: u32, rest: &[u8], x: Spot) -> Entry
     requires { place.0 + length rest.now ≤ 65535 }
-    ensures { result ≡ faultEntry place.0 message rest.now x }
+    ensures { result ≡ fault_entry place.0 message rest.now x }
 {
     let size = x.size as usize;
     if rest.len() < size {
@@ -246,7 +246,7 @@ fn fault_entry(place: TokenPlace, message: u32, rest: &[u8], x: Spot) -> Entry
 // How many messages stand before a place.
 fn count_before(token: &[u8], place: usize) -> u32
     requires { place ≤ length token.now }
-    ensures { result ≡ length (messagesOf (tokenOf (take place token.now))) }
+    ensures { result ≡ length (messages_of (token_of (take place token.now))) }
 {
     let reading = read_token(&token[..place]);
     match reading {
@@ -258,7 +258,7 @@ fn count_before(token: &[u8], place: usize) -> u32
 // The fault of a token that is refused with a number at a place.
 fn fault_at(token: &[u8], number: u32, place: TokenPlace) -> Entry
     requires { (place.0 ≤ length token.now) × (length token.now ≤ 65535) }
-    ensures { result ≡ faultAt place.0 (length (messagesOf (tokenOf (take place.0 token.now))))
+    ensures { result ≡ fault_at place.0 (length (messages_of (token_of (take place.0 token.now))))
         (drop place.0 token.now) number }
 {
     let from = place.0;
@@ -272,7 +272,7 @@ fn fault_at(token: &[u8], number: u32, place: TokenPlace) -> Entry
 
 // The octets at fault of a refused token; of one that is too long the first octet too many, and of an accepted one nothing.
 pub fn fault(token: &[u8]) -> Entry
-    ensures { result ≡ faultOf token.now }
+    ensures { result ≡ fault_of token.now }
 {
     if 65535 < token.len() {
         return rest_entry(65535, 0, 1);

@@ -1,6 +1,6 @@
 // Octets, ids and random values in hexadecimal.
 ghost use Rattle.std.specs.Prelude.{◌≡◌, ◌+◌, ◌<◌, length, get_or};
-ghost use Rattle.fields.specs.Fields.{pair_of, pairsOf, octetsOf, randomOf, Decodes, octetsAt, dashed, id_of, idAs};
+ghost use Rattle.fields.specs.Fields.{pair_of, pairs_of, octets_of, random_of, Decodes, octets_at, dashed, id_of, id_as};
 
 use super::number::digit;
 use super::{is_word, octet};
@@ -44,7 +44,7 @@ fn pair_at(s: &[u8], at: usize) -> u16
 
 // Two digits for each octet, in order.
 fn decode(s: &[u8], d: &mut [u8]) -> Decoded
-    ensures { Decodes s.now d.old (pairsOf s.now) result d.new }
+    ensures { Decodes s.now d.old (pairs_of s.now) result d.new }
 {
     let count = s.len() / 2;
     if d.len() < count {
@@ -67,7 +67,7 @@ fn decode(s: &[u8], d: &mut [u8]) -> Decoded
 
 // OCTETS, at the front of d. What d holds there is left open where they are bad; behind them it stays as it was.
 pub fn octets(s: &[u8], d: &mut [u8]) -> Decoded
-    ensures { Decodes s.now d.old (octetsOf s.now) result d.new }
+    ensures { Decodes s.now d.old (octets_of s.now) result d.new }
 {
     if s.len() == 0 {
         return Decoded::Bad;
@@ -97,7 +97,7 @@ fn has_dashes(s: &[u8]) -> bool
 // The octets whose digits stand at 16 places.
 fn octets_at(s: &[u8], places: &[u8]) -> IdText
     requires { length places.now ≡ 16 }
-    ensures { idAs result ≡ octetsAt s.now places.now }
+    ensures { id_as result ≡ octets_at s.now places.now }
 {
     let mut octets = [0u8; 16];
     let mut i = 0;
@@ -114,7 +114,7 @@ fn octets_at(s: &[u8], places: &[u8]) -> IdText
 
 // The id whose usual text is s.
 pub fn id(s: &[u8]) -> IdText
-    ensures { idAs result ≡ id_of s.now }
+    ensures { id_as result ≡ id_of s.now }
 {
     if s.len() != 36 {
         return IdText {
@@ -134,7 +134,7 @@ pub fn id(s: &[u8]) -> IdText
 
 // RANDOM, at the front of d, likewise.
 pub fn random(s: &[u8], d: &mut [u8]) -> Decoded
-    ensures { Decodes s.now d.old (randomOf s.now) result d.new }
+    ensures { Decodes s.now d.old (random_of s.now) result d.new }
 {
     if s.len() != 64 {
         return Decoded::Bad;

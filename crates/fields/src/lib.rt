@@ -1,6 +1,6 @@
 // What a field of a text says: words, and in their own files numbers, octets and ids.
 ghost use Rattle.std.specs.Prelude.{◌≡◌, min, get_or};
-ghost use Rattle.octets.specs.Octets.{sameOctets};
+ghost use Rattle.octets.specs.Octets.{same_octets};
 ghost use Rattle.fields.specs.Fields.{part as Fields·part};
 
 pub mod hex;
@@ -35,7 +35,7 @@ pub fn octet(s: &[u8], at: usize) -> u8
 
 // Whether s is a word.
 pub fn is_word(s: &[u8], word: &[u8]) -> bool
-    ensures { result ≡ sameOctets s.now word.now }
+    ensures { result ≡ same_octets s.now word.now }
 {
     if s.len() != word.len() {
         return false;

@@ -1,6 +1,6 @@
 // Digits and numbers.
 ghost use Rattle.std.specs.Prelude.{◌≡◌};
-ghost use Rattle.fields.specs.Fields.{digitOf, numeral as Fields·numeral, number_of, hexadecimalOf, roomOf};
+ghost use Rattle.fields.specs.Fields.{digit_of, numeral as Fields·numeral, number_of, hexadecimal_of, room_of};
 
 // What a field that should be a number says.
 #[derive(Drop)]
@@ -11,7 +11,7 @@ pub enum Number {
 
 // The value of a digit of either case, 16 where it is none.
 pub(crate) fn digit(c: u8) -> u8
-    ensures { result ≡ digitOf c }
+    ensures { result ≡ digit_of c }
 {
     if c < 48 {
         return 16;
@@ -57,7 +57,7 @@ fn numeral(s: &[u8], base: u8, most: u32) -> Number
 
 // A number of so many hexadecimal digits.
 pub fn hexadecimal(s: &[u8], digits: usize, most: u32) -> Number
-    ensures { number_of result ≡ hexadecimalOf digits most s.now }
+    ensures { number_of result ≡ hexadecimal_of digits most s.now }
 {
     if s.len() != digits {
         return Number::Bad;
@@ -67,7 +67,7 @@ pub fn hexadecimal(s: &[u8], digits: usize, most: u32) -> Number
 
 // ROOM: one to five decimal digits, at most 65,536.
 pub fn room(s: &[u8]) -> Number
-    ensures { number_of result ≡ roomOf s.now }
+    ensures { number_of result ≡ room_of s.now }
 {
     if s.len() < 1 {
         return Number::Bad;

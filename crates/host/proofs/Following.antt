@@ -14,14 +14,14 @@ use Rattle.token.specs.Token.{Reading}
 use Rattle.token.specs.Walk.{Accepts}
 use Rattle.put.specs.Put.{joined, put}
 use Rattle.text.proofs.Pieces.{take_put}
-use Rattle.windows.specs.Windows.{fitting, range, windowOf, text_of, Request, following, reached, EachShows}
+use Rattle.windows.specs.Windows.{fitting, range, window_of, text_of, Request, following, reached, EachShows}
 use Rattle.windows.proofs.Windows.{fitting-room}
 use Rattle.windows.proofs.Covers.{gets-on, windows-joined, reached-all}
 use Rattle.listing.specs.Listing.{lines_of}
-use Rattle.replies.specs.Replies.{Reply, and_then, readingReply, writtenIn}
-use Rattle.host.specs.Host.{windowText, windowAnswer}
-use Rattle.host.specs.Following.{textIn, lineEnds, shownFrom, reachedFrom, EachFits, HostWindows, HostReaches}
-use Rattle.host.proofs.Windows.{shownBy, text-beyond, text-none, text-full, text-some}
+use Rattle.replies.specs.Replies.{Reply, and_then, reading_reply, written_in}
+use Rattle.host.specs.Host.{window_text, window_answer}
+use Rattle.host.specs.Following.{text_in, line_ends, shown_from, reached_from, EachFits, HostWindows, HostReaches}
+use Rattle.host.proofs.Windows.{shown_by, text-beyond, text-none, text-full, text-some}
 use Rattle.host.proofs.Ends.{OneEach, lines-ends, ends-joined}
 
 -- ---- part of lines with one line end each
@@ -55,38 +55,38 @@ fitting-none room (t ∷ ts) h = absurd (omega arith)
 
 module _ (s : List ℕ) (first end : ℕ) (d : List ℕ) where
   shown : List (List ℕ)
-  shown = shownBy (lines_of s) first end d
+  shown = shown_by (lines_of s) first end d
 
   front : take (length (joined shown)) (put d 0 (joined shown)) ≡ joined shown
-  unfolding shown shownBy
+  unfolding shown shown_by
   front =
       let fs = fitting (length d) (range first end (lines_of s)) in
       let e : length (joined fs) ≡ 0 + length (joined fs) = omega arith in
       ap (λ (k : ℕ). take k (put d 0 (joined fs))) e ∙ take_put d 0 (joined fs) (omega (arith, fitting-room (length d) (range first end (lines_of s))))
 
   none-shown : length (range first end (lines_of s)) ≡ 0 → joined shown ≡ []
-  unfolding shown shownBy
+  unfolding shown shown_by
   none-shown h = none-joined (fitting (length d) (range first end (lines_of s))) (fitting-none (length d) (range first end (lines_of s)) h)
 
-  window-text : text_of (windowOf (lines_of s) first end d) ≡ joined shown
-  unfolding windowOf shown shownBy
+  window-text : text_of (window_of (lines_of s) first end d) ≡ joined shown
+  unfolding window_of shown shown_by
   window-text = front
 
-  window-lines : (windowOf (lines_of s) first end d).lines ≡ length shown
-  unfolding windowOf shown shownBy
+  window-lines : (window_of (lines_of s) first end d).lines ≡ length shown
+  unfolding window_of shown shown_by
   window-lines = refl
 
-  text-ends : lineEnds (joined shown) ≡ length shown
-  unfolding shown shownBy
+  text-ends : line_ends (joined shown) ≡ length shown
+  unfolding shown shown_by
   text-ends =
       ends-joined shown
       (each-fitting (length d) (range first end (lines_of s))
       (each_take (end - first) (drop first (lines_of s)) (each-drop first (lines_of s) (lines-ends s))))
 
   of-text : Reply (List ℕ) → List ℕ
-  of-text r = textIn (writtenIn d r)
+  of-text r = text_in (written_in d r)
 
-  reply-text : of-text (windowText (lines_of s) first end (length d)) ≡ joined shown
+  reply-text : of-text (window_text (lines_of s) first end (length d)) ≡ joined shown
   unfolding shown of-text
   reply-text = elim (which (leb (length (lines_of s)) first)) [
     | inl e ↦
@@ -96,7 +96,7 @@ module _ (s : List ℕ) (first end : ℕ) (d : List ℕ) where
         ap of-text (text-beyond (lines_of s) first end d h) ∙ sym (none-shown none)
     | inr e ↦ inside (leb-false _ _ e)
   ] where
-    inside : first < length (lines_of s) → of-text (windowText (lines_of s) first end (length d)) ≡ joined shown
+    inside : first < length (lines_of s) → of-text (window_text (lines_of s) first end (length d)) ≡ joined shown
     inside h = elim (which (leb end first)) [
       | inl e ↦
           let g : end ≤ first = leb-true _ _ e in
@@ -104,7 +104,7 @@ module _ (s : List ℕ) (first end : ℕ) (d : List ℕ) where
           ap of-text (text-none (lines_of s) first end d h g) ∙ sym (none-shown none)
       | inr e ↦ asked h (leb-false _ _ e)
     ] where
-      asked : first < length (lines_of s) → first < end → of-text (windowText (lines_of s) first end (length d)) ≡ joined shown
+      asked : first < length (lines_of s) → first < end → of-text (window_text (lines_of s) first end (length d)) ≡ joined shown
       asked i g = elim (which (leb (length shown) 0)) [
         | inl e ↦ let none : length shown ≡ 0 =
             (let z : length shown ≤ 0 = leb-true _ _ e in omega arith) in
@@ -113,41 +113,41 @@ module _ (s : List ℕ) (first end : ℕ) (d : List ℕ) where
       ]
 
   module _ (a : Accepts s) where
-    host-text : textIn (windowAnswer s first end d) ≡ text_of (windowOf (lines_of s) first end d)
+    host-text : text_in (window_answer s first end d) ≡ text_of (window_of (lines_of s) first end d)
     unfolding of-text
     host-text =
-        ap (λ (r : Reading). textIn (writtenIn d (and_then (readingReply r) (λ ms. windowText (lines_of s) first end (length d))))) a
+        ap (λ (r : Reading). text_in (written_in d (and_then (reading_reply r) (λ ms. window_text (lines_of s) first end (length d))))) a
         ∙ reply-text ∙ sym window-text
 
-    host-lines : first + lineEnds (textIn (windowAnswer s first end d)) ≡ first + (windowOf (lines_of s) first end d).lines
-    host-lines = ap (λ (t : List ℕ). first + lineEnds t) (host-text ∙ window-text) ∙ ap (λ (n : ℕ). first + n) (text-ends ∙ sym window-lines)
+    host-lines : first + line_ends (text_in (window_answer s first end d)) ≡ first + (window_of (lines_of s) first end d).lines
+    host-lines = ap (λ (t : List ℕ). first + line_ends t) (host-text ∙ window-text) ∙ ap (λ (n : ℕ). first + n) (text-ends ∙ sym window-lines)
 
 -- ---- one after the other
-shown-following : (s : List ℕ) → Accepts s → (first : ℕ) (qs : List Request) → shownFrom s first qs ≡ following (lines_of s) first qs
-unfolding shownFrom following
+shown-following : (s : List ℕ) → Accepts s → (first : ℕ) (qs : List Request) → shown_from s first qs ≡ following (lines_of s) first qs
+unfolding shown_from following
 shown-following s a first [] = refl
 shown-following s a first (q ∷ qs) =
-    ap (λ (t : List ℕ). t ++ shownFrom s (first + lineEnds (textIn (windowAnswer s first q.end q.buffer))) qs)
+    ap (λ (t : List ℕ). t ++ shown_from s (first + line_ends (text_in (window_answer s first q.end q.buffer))) qs)
     (host-text s first q.end q.buffer a)
-    ∙ ap (λ (n : ℕ). text_of (windowOf (lines_of s) first q.end q.buffer) ++ shownFrom s n qs) (host-lines s first q.end q.buffer a)
-    ∙ ap (λ (l : List ℕ). text_of (windowOf (lines_of s) first q.end q.buffer) ++ l)
-    (shown-following s a (first + (windowOf (lines_of s) first q.end q.buffer).lines) qs)
+    ∙ ap (λ (n : ℕ). text_of (window_of (lines_of s) first q.end q.buffer) ++ shown_from s n qs) (host-lines s first q.end q.buffer a)
+    ∙ ap (λ (l : List ℕ). text_of (window_of (lines_of s) first q.end q.buffer) ++ l)
+    (shown-following s a (first + (window_of (lines_of s) first q.end q.buffer).lines) qs)
 
 fits-shows : (s : List ℕ) → Accepts s → (first : ℕ) (qs : List Request) → EachFits s first qs → EachShows (lines_of s) first qs
 unfolding EachFits EachShows
 fits-shows s a first [] h = tt
 fits-shows s a first (q ∷ qs) h = (
   λ inside. let g = h.0 inside in gets-on (lines_of s) first q.end q.buffer g.0 inside g.1,
-  fits-shows s a (first + (windowOf (lines_of s) first q.end q.buffer).lines) qs
+  fits-shows s a (first + (window_of (lines_of s) first q.end q.buffer).lines) qs
       (subst (λ (n : ℕ). EachFits s n qs) (host-lines s first q.end q.buffer a) h.1),
 )
 
-reached-following : (s : List ℕ) → Accepts s → (first : ℕ) (qs : List Request) → reachedFrom s first qs ≡ reached (lines_of s) first qs
-unfolding reachedFrom reached
+reached-following : (s : List ℕ) → Accepts s → (first : ℕ) (qs : List Request) → reached_from s first qs ≡ reached (lines_of s) first qs
+unfolding reached_from reached
 reached-following s a first [] = refl
 reached-following s a first (q ∷ qs) =
-    ap (λ (n : ℕ). reachedFrom s n qs) (host-lines s first q.end q.buffer a)
-    ∙ reached-following s a (first + (windowOf (lines_of s) first q.end q.buffer).lines) qs
+    ap (λ (n : ℕ). reached_from s n qs) (host-lines s first q.end q.buffer a)
+    ∙ reached-following s a (first + (window_of (lines_of s) first q.end q.buffer).lines) qs
 
 pub host-windows : HostWindows
 host-windows s qs a far =

@@ -14,16 +14,16 @@ use mir.Syntax.{w64}
 use mir.Val.{SFits, to_z, of_z}
 use borrow.Author.Tests.{leb-true, leb-false, le-leb, lt-leb, lt-ltb, le-ltb}
 use Rattle.octets.proofs.Bools.{which}
-use Rattle.token.specs.Token.{Reading, tokenOf}
-use Rattle.token.specs.Walk.{messagesOf, Accepts}
+use Rattle.token.specs.Token.{Reading, token_of}
+use Rattle.token.specs.Walk.{messages_of, Accepts}
 use Rattle.put.specs.Put.{joined, put}
 use Rattle.put.proofs.Laws.{put-none}
 use Rattle.windows.specs.declared.Shown.{Shown}
-use Rattle.windows.specs.Windows.{fitting, range, Window, asWindow, windowOf}
+use Rattle.windows.specs.Windows.{fitting, range, Window, as_window, window_of}
 use Rattle.windows.proofs.Covers.{gets-on, window-octets}
-use Rattle.listing.specs.Listing.{allLines, lines_of}
-use Rattle.replies.specs.Replies.{Reply, given, refused, and_then, readingReply, fits, lent, writtenIn}
-use Rattle.host.specs.Host.{windowText, windowAnswer}
+use Rattle.listing.specs.Listing.{all_lines, lines_of}
+use Rattle.replies.specs.Replies.{Reply, given, refused, and_then, reading_reply, fits, lent, written_in}
+use Rattle.host.specs.Host.{window_text, window_answer}
 use Rattle.replies.proofs.Answers.{same}
 use Rattle.replies.proofs.Messages.{item-given, item_refused}
 use Rattle.host.proofs.Counting.{lines-number}
@@ -44,27 +44,27 @@ fitting-few room [] h = h
 fitting-few room (l ∷ ls) h = omega arith
 
 module _ (ls : List (List ℕ)) (first end : ℕ) (d : List ℕ) where
-  unfoldable pub shownBy : List (List ℕ)
-  shownBy = fitting (length d) (range first end ls)
+  unfoldable pub shown_by : List (List ℕ)
+  shown_by = fitting (length d) (range first end ls)
 
-  pub text-beyond : length ls ≤ first → windowText ls first end (length d) ≡ refused 19
+  pub text-beyond : length ls ≤ first → window_text ls first end (length d) ≡ refused 19
   text-beyond h =
       ap (λ (x : Reply (List ℕ)). and_then x
       (λ l. cond (ltb first end) (and_then (fits (length d) l) (λ v. given (joined (fitting (length d) (range first end ls))))) (given [])))
       (item_refused ls first h)
 
   module _ (inside : first < length ls) where
-    here : windowText ls first end (length d) ≡ cond (ltb first end)
+    here : window_text ls first end (length d) ≡ cond (ltb first end)
         (and_then (fits (length d) (get_or ls first [])) (λ v. given (joined (fitting (length d) (range first end ls))))) (given [])
     here = ap (λ (x : Reply (List ℕ)). and_then x
         (λ l. cond (ltb first end) (and_then (fits (length d) l) (λ v. given (joined (fitting (length d) (range first end ls))))) (given [])))
         (item-given ls first [] inside)
 
-    pub text-none : end ≤ first → windowText ls first end (length d) ≡ given []
+    pub text-none : end ≤ first → window_text ls first end (length d) ≡ given []
     text-none h = here ∙ simp (le-ltb _ _ h)
 
-    pub text-full : first < end → length shownBy ≡ 0 → windowText ls first end (length d) ≡ refused 16
-    unfolding shownBy windowOf
+    pub text-full : first < end → length shown_by ≡ 0 → window_text ls first end (length d) ≡ refused 16
+    unfolding shown_by window_of
     text-full h none = here ∙ simp (lt-ltb _ _ h, lt-leb _ _ small) where
       small : length d < length (get_or ls first [])
       small = elim (which (leb (length (get_or ls first [])) (length d))) [
@@ -72,8 +72,8 @@ module _ (ls : List (List ℕ)) (first end : ℕ) (d : List ℕ) where
         | inr e ↦ leb-false _ _ e
       ]
 
-    pub text-some : 0 < length shownBy → windowText ls first end (length d) ≡ given (joined shownBy)
-    unfolding shownBy
+    pub text-some : 0 < length shown_by → window_text ls first end (length d) ≡ given (joined shown_by)
+    unfolding shown_by
     text-some some =
         let asked : first < end = omega (arith, fitting-few (length d) (range first end ls) some, length-take (end - first) (drop first ls)) in
         let e : first + 0 ≡ first = omega arith in
@@ -83,62 +83,62 @@ module _ (ls : List (List ℕ)) (first end : ℕ) (d : List ℕ) where
         here ∙ simp (lt-ltb _ _ asked, le-leb _ _ room)
 
 -- ---- the answers of `show_window`; n is the number of the messages' lines
-module _ (s : List ℕ) (a : Accepts s) (n : ℕ) (n-is : n ≡ length (allLines (messagesOf (tokenOf s)))) (first end : ℕ) (d : List ℕ) where
-  answer-is : writtenIn d (windowText (lines_of s) first end (length d)) ≡ windowAnswer s first end d
-  answer-is = sym (ap (λ (r : Reading). writtenIn d (and_then (readingReply r) (λ ms. windowText (lines_of s) first end (length d)))) a)
+module _ (s : List ℕ) (a : Accepts s) (n : ℕ) (n-is : n ≡ length (all_lines (messages_of (token_of s)))) (first end : ℕ) (d : List ℕ) where
+  answer-is : written_in d (window_text (lines_of s) first end (length d)) ≡ window_answer s first end d
+  answer-is = sym (ap (λ (r : Reading). written_in d (and_then (reading_reply r) (λ ms. window_text (lines_of s) first end (length d)))) a)
 
-  pub window-beyond : n < first → (z : ℤ) → SFits w64 z → z ≡ neg_ℤ (pos 19) → lent (to_z w64 (of_z w64 z)) d ≡ windowAnswer s first end d
+  pub window-beyond : n < first → (z : ℤ) → SFits w64 z → z ≡ neg_ℤ (pos 19) → lent (to_z w64 (of_z w64 z)) d ≡ window_answer s first end d
   window-beyond h z f e =
       ap (λ (x : ℤ). lent x d) (same z f (neg_ℤ (pos 19)) e)
-      ∙ sym (ap (writtenIn d) (text-beyond (lines_of s) first end d (omega (arith, lines-number s a))))
+      ∙ sym (ap (written_in d) (text-beyond (lines_of s) first end d (omega (arith, lines-number s a))))
       ∙ answer-is
 
-  module _ (inside : first ≤ n) (w : Shown) (d' : List ℕ) (w-is : asWindow w d' ≡ windowOf (lines_of s) first end d) (z : ℤ) (f : SFits w64 z) where
+  module _ (inside : first ≤ n) (w : Shown) (d' : List ℕ) (w-is : as_window w d' ≡ window_of (lines_of s) first end d) (z : ℤ) (f : SFits w64 z) where
     held : first < length (lines_of s)
     held = omega (arith, lines-number s a)
 
-    lines_are : w.lines ≡ length (shownBy (lines_of s) first end d)
-    unfolding windowOf shownBy
+    lines_are : w.lines ≡ length (shown_by (lines_of s) first end d)
+    unfolding window_of shown_by
     lines_are = ap (λ (x : Window). x.lines) w-is
 
-    octets-are : w.octets ≡ length (joined (shownBy (lines_of s) first end d))
-    unfolding windowOf shownBy
+    octets-are : w.octets ≡ length (joined (shown_by (lines_of s) first end d))
+    unfolding window_of shown_by
     octets-are = ap (λ (x : Window). x.octets) w-is
 
-    buffer-is : d' ≡ put d 0 (joined (shownBy (lines_of s) first end d))
-    unfolding windowOf shownBy
+    buffer-is : d' ≡ put d 0 (joined (shown_by (lines_of s) first end d))
+    unfolding window_of shown_by
     buffer-is = ap (λ (x : Window). x.buffer) w-is
 
-    pub window-some : (w.lines ≡ 0 → ⊥) → z ≡ pos w.octets → lent (to_z w64 (of_z w64 z)) d' ≡ windowAnswer s first end d
+    pub window-some : (w.lines ≡ 0 → ⊥) → z ≡ pos w.octets → lent (to_z w64 (of_z w64 z)) d' ≡ window_answer s first end d
     window-some h e =
         ap (λ (x : ℤ). lent x d') (same z f (pos w.octets) e)
         ∙ ap (λ (x : ℕ). lent (pos x) d') octets-are
-        ∙ ap (lent (pos (length (joined (shownBy (lines_of s) first end d))))) buffer-is
-        ∙ sym (ap (writtenIn d) (text-some (lines_of s) first end d held (omega (arith, lines_are))))
+        ∙ ap (lent (pos (length (joined (shown_by (lines_of s) first end d))))) buffer-is
+        ∙ sym (ap (written_in d) (text-some (lines_of s) first end d held (omega (arith, lines_are))))
         ∙ answer-is
 
     module _ (none : w.lines ≡ 0) where
       unchanged : d' ≡ d
-      unchanged = go (shownBy (lines_of s) first end d) (sym lines_are ∙ none) buffer-is where
+      unchanged = go (shown_by (lines_of s) first end d) (sym lines_are ∙ none) buffer-is where
         go : (ls : List (List ℕ)) → length ls ≡ 0 → d' ≡ put d 0 (joined ls) → d' ≡ d
         go [] h e = e ∙ put-none d 0
         go (l ∷ ls) h e = absurd (omega arith)
 
-      pub window-full : first < end → z ≡ neg_ℤ (pos 16) → lent (to_z w64 (of_z w64 z)) d' ≡ windowAnswer s first end d
+      pub window-full : first < end → z ≡ neg_ℤ (pos 16) → lent (to_z w64 (of_z w64 z)) d' ≡ window_answer s first end d
       window-full h e =
           ap (λ (x : ℤ). lent x d') (same z f (neg_ℤ (pos 16)) e)
           ∙ ap (lent (neg_ℤ (pos 16))) unchanged
-          ∙ sym (ap (writtenIn d) (text-full (lines_of s) first end d held h (sym lines_are ∙ none)))
+          ∙ sym (ap (written_in d) (text-full (lines_of s) first end d held h (sym lines_are ∙ none)))
           ∙ answer-is
 
-      pub window-none : end ≤ first → z ≡ pos 0 → lent (to_z w64 (of_z w64 z)) d' ≡ windowAnswer s first end d
+      pub window-none : end ≤ first → z ≡ pos 0 → lent (to_z w64 (of_z w64 z)) d' ≡ window_answer s first end d
       window-none h e =
           ap (λ (x : ℤ). lent x d') (same z f (pos 0) e)
           ∙ ap (lent (pos 0)) (unchanged ∙ sym (put-none d 0))
-          ∙ sym (ap (writtenIn d) (text-none (lines_of s) first end d held h))
+          ∙ sym (ap (written_in d) (text-none (lines_of s) first end d held h))
           ∙ answer-is
 
-pub window-small : (s : List ℕ) (first end : ℕ) (d d' : List ℕ) (w : Shown) → asWindow w d' ≡ windowOf (lines_of s) first end d → length d * 1 < 2 ^ 63
+pub window-small : (s : List ℕ) (first end : ℕ) (d d' : List ℕ) (w : Shown) → as_window w d' ≡ window_of (lines_of s) first end d → length d * 1 < 2 ^ 63
     → w.octets < 2 ^ 63
 window-small s first end d d' w is h = omega (arith, window-octets (lines_of s) first end d d' w is)
 

@@ -1,12 +1,12 @@
 // The library for C hosts, over numbers and byte slices: wrappers over the structural reading and the listing's windows. A refusal is its number negated.
 // negoex.h, beside this file's folder, has the prototypes.
 ghost use Rattle.std.specs.Prelude.{◌≡◌, length};
-ghost use Rattle.token.specs.Token.{tokenOf};
-ghost use Rattle.token.specs.Walk.{messagesOf, Accepts};
-ghost use Rattle.listing.specs.Listing.{allLines};
-ghost use Rattle.replies.specs.Replies.{lent, messagesAnswer, placeAnswer, fieldAnswer, conversationAnswer, vectorsAnswer, vectorPlaceAnswer, vectorLengthAnswer, tableAnswer};
-ghost use Rattle.viewing.specs.Viewing.{entryCountAnswer, entriesAnswer, faultAnswer, coverageAnswer, envelopePlaceAnswer, envelopeLengthAnswer};
-ghost use Rattle.host.specs.Host.{linesAnswer, windowAnswer};
+ghost use Rattle.token.specs.Token.{token_of};
+ghost use Rattle.token.specs.Walk.{messages_of, Accepts};
+ghost use Rattle.listing.specs.Listing.{all_lines};
+ghost use Rattle.replies.specs.Replies.{lent, messages_answer, place_answer, field_answer, conversation_answer, vectors_answer, vector_place_answer, vector_length_answer, table_answer};
+ghost use Rattle.viewing.specs.Viewing.{entry_count_answer, entries_answer, fault_answer, coverage_answer, envelope_place_answer, envelope_length_answer};
+ghost use Rattle.host.specs.Host.{lines_answer, window_answer};
 
 use lines::count;
 use listing::window;
@@ -17,7 +17,7 @@ use token::{Answer, read_token};
 // The number of messages.
 #[unsafe(no_mangle)]
 pub extern "C" fn negoex_messages(token: &[u8]) -> i64
-    ensures { result ≡ messagesAnswer token.now }
+    ensures { result ≡ messages_answer token.now }
 {
     replies::count_messages(token)
 }
@@ -25,7 +25,7 @@ pub extern "C" fn negoex_messages(token: &[u8]) -> i64
 // The place of the message at fault; 0 where the token is accepted.
 #[unsafe(no_mangle)]
 pub extern "C" fn negoex_place(token: &[u8]) -> i64
-    ensures { result ≡ placeAnswer token.now }
+    ensures { result ≡ place_answer token.now }
 {
     replies::fault_place(token)
 }
@@ -33,7 +33,7 @@ pub extern "C" fn negoex_place(token: &[u8]) -> i64
 // A field of a message's header.
 #[unsafe(no_mangle)]
 pub extern "C" fn negoex_field(token: &[u8], message: usize, field: usize) -> i64
-    ensures { result ≡ fieldAnswer token.now message field }
+    ensures { result ≡ field_answer token.now message field }
 {
     replies::message_field(token, message, field)
 }
@@ -41,7 +41,7 @@ pub extern "C" fn negoex_field(token: &[u8], message: usize, field: usize) -> i6
 // A message's conversation, at the buffer's front.
 #[unsafe(no_mangle)]
 pub extern "C" fn negoex_conversation(token: &[u8], message: usize, buffer: &mut [u8]) -> i64
-    ensures { lent result buffer.new ≡ conversationAnswer token.now message buffer.old }
+    ensures { lent result buffer.new ≡ conversation_answer token.now message buffer.old }
 {
     replies::put_conversation(token, message, buffer)
 }
@@ -49,7 +49,7 @@ pub extern "C" fn negoex_conversation(token: &[u8], message: usize, buffer: &mut
 // The number of a message's vectors.
 #[unsafe(no_mangle)]
 pub extern "C" fn negoex_vectors(token: &[u8], message: usize) -> i64
-    ensures { result ≡ vectorsAnswer token.now message }
+    ensures { result ≡ vectors_answer token.now message }
 {
     replies::count_vectors(token, message)
 }
@@ -57,7 +57,7 @@ pub extern "C" fn negoex_vectors(token: &[u8], message: usize) -> i64
 // The token place of a message's vector; an empty one's is its message's.
 #[unsafe(no_mangle)]
 pub extern "C" fn negoex_vector_place(token: &[u8], message: usize, vector: usize) -> i64
-    ensures { result ≡ vectorPlaceAnswer token.now message vector }
+    ensures { result ≡ vector_place_answer token.now message vector }
 {
     replies::place_of_vector(token, message, vector)
 }
@@ -65,7 +65,7 @@ pub extern "C" fn negoex_vector_place(token: &[u8], message: usize, vector: usiz
 // The length of a message's vector in octets.
 #[unsafe(no_mangle)]
 pub extern "C" fn negoex_vector_length(token: &[u8], message: usize, vector: usize) -> i64
-    ensures { result ≡ vectorLengthAnswer token.now message vector }
+    ensures { result ≡ vector_length_answer token.now message vector }
 {
     replies::length_of_vector(token, message, vector)
 }
@@ -73,7 +73,7 @@ pub extern "C" fn negoex_vector_length(token: &[u8], message: usize, vector: usi
 // The fields of all messages, with places and lengths of their vectors, at the buffer's front.
 #[unsafe(no_mangle)]
 pub extern "C" fn negoex_table(token: &[u8], buffer: &mut [u8]) -> i64
-    ensures { lent result buffer.new ≡ tableAnswer token.now buffer.old }
+    ensures { lent result buffer.new ≡ table_answer token.now buffer.old }
 {
     replies::write_table(token, buffer)
 }
@@ -81,7 +81,7 @@ pub extern "C" fn negoex_table(token: &[u8], buffer: &mut [u8]) -> i64
 // The number of entries of a token.
 #[unsafe(no_mangle)]
 pub extern "C" fn negoex_entry_count(token: &[u8]) -> i64
-    ensures { result ≡ entryCountAnswer token.now }
+    ensures { result ≡ entry_count_answer token.now }
 {
     viewing::entry_count(token)
 }
@@ -89,7 +89,7 @@ pub extern "C" fn negoex_entry_count(token: &[u8]) -> i64
 // As many whole entries from number `first` on as fit, at the buffer's front.
 #[unsafe(no_mangle)]
 pub extern "C" fn negoex_entries(token: &[u8], first: usize, buffer: &mut [u8]) -> i64
-    ensures { lent result buffer.new ≡ entriesAnswer token.now first buffer.old }
+    ensures { lent result buffer.new ≡ entries_answer token.now first buffer.old }
 {
     viewing::write_entries(token, first, buffer)
 }
@@ -97,7 +97,7 @@ pub extern "C" fn negoex_entries(token: &[u8], first: usize, buffer: &mut [u8]) 
 // The octets at fault of a refused token, as one entry at the buffer's front; nothing where it is accepted.
 #[unsafe(no_mangle)]
 pub extern "C" fn negoex_fault(token: &[u8], buffer: &mut [u8]) -> i64
-    ensures { lent result buffer.new ≡ faultAnswer token.now buffer.old }
+    ensures { lent result buffer.new ≡ fault_answer token.now buffer.old }
 {
     viewing::write_fault(token, buffer)
 }
@@ -105,7 +105,7 @@ pub extern "C" fn negoex_fault(token: &[u8], buffer: &mut [u8]) -> i64
 // An octet for each of the token's, at the buffer's front: 1 where it is covered, 0 where nothing covers it.
 #[unsafe(no_mangle)]
 pub extern "C" fn negoex_coverage(token: &[u8], buffer: &mut [u8]) -> i64
-    ensures { lent result buffer.new ≡ coverageAnswer token.now buffer.old }
+    ensures { lent result buffer.new ≡ coverage_answer token.now buffer.old }
 {
     viewing::write_coverage(token, buffer)
 }
@@ -113,7 +113,7 @@ pub extern "C" fn negoex_coverage(token: &[u8], buffer: &mut [u8]) -> i64
 // The place of the token in an envelope.
 #[unsafe(no_mangle)]
 pub extern "C" fn negoex_envelope_place(envelope: &[u8]) -> i64
-    ensures { result ≡ envelopePlaceAnswer envelope.now }
+    ensures { result ≡ envelope_place_answer envelope.now }
 {
     viewing::envelope_place(envelope)
 }
@@ -121,7 +121,7 @@ pub extern "C" fn negoex_envelope_place(envelope: &[u8]) -> i64
 // The length of the token in an envelope.
 #[unsafe(no_mangle)]
 pub extern "C" fn negoex_envelope_length(envelope: &[u8]) -> i64
-    ensures { result ≡ envelopeLengthAnswer envelope.now }
+    ensures { result ≡ envelope_length_answer envelope.now }
 {
     viewing::envelope_length(envelope)
 }
@@ -129,7 +129,7 @@ pub extern "C" fn negoex_envelope_length(envelope: &[u8]) -> i64
 // The number of lines of an accepted token's messages.
 fn message_lines(token: &[u8]) -> usize
     requires { Accepts token.now }
-    ensures { result ≡ length (allLines (messagesOf (tokenOf token.now))) }
+    ensures { result ≡ length (all_lines (messages_of (token_of token.now))) }
 {
     let mut rest = token;
     let mut lines: usize = 0;
@@ -145,7 +145,7 @@ fn message_lines(token: &[u8]) -> usize
 // A window of the listing of an accepted token.
 fn show_window(token: &[u8], from: usize, end: usize, buffer: &mut [u8]) -> i64
     requires { Accepts token.now }
-    ensures { lent result buffer.new ≡ windowAnswer token.now from end buffer.old }
+    ensures { lent result buffer.new ≡ window_answer token.now from end buffer.old }
 {
     // The last line stands behind those of the messages.
     if message_lines(token) < from {
@@ -164,7 +164,7 @@ fn show_window(token: &[u8], from: usize, end: usize, buffer: &mut [u8]) -> i64
 // The number of lines of the listing.
 #[unsafe(no_mangle)]
 pub extern "C" fn negoex_lines(token: &[u8]) -> i64
-    ensures { result ≡ linesAnswer token.now }
+    ensures { result ≡ lines_answer token.now }
 {
     let reading = read_token(token);
     match reading {
@@ -176,7 +176,7 @@ pub extern "C" fn negoex_lines(token: &[u8]) -> i64
 // A window of the listing: as many whole lines from `first` up to, not including, `end` as fit, at the buffer's front.
 #[unsafe(no_mangle)]
 pub extern "C" fn negoex_window(token: &[u8], first: usize, end: usize, buffer: &mut [u8]) -> i64
-    ensures { lent result buffer.new ≡ windowAnswer token.now first end buffer.old }
+    ensures { lent result buffer.new ≡ window_answer token.now first end buffer.old }
 {
     let reading = read_token(token);
     match reading {

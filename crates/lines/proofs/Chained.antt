@@ -11,12 +11,12 @@ use mir.Val.{SFits, to_z, of_z}
 use mir.Facts.{to_z-of_z}
 use Rattle.octets.specs.Octets.{le, signed32}
 use Rattle.vector.specs.declared.Vector.{Vector}
-use Rattle.message.specs.Layout.{head_of, octetVector, elementAt, exchangeVector, checksumVector}
-use Rattle.message.specs.Show.{signedIn, checksumType, errorCode}
-use Rattle.text.specs.Text.{quoted, decimal, decimal64, signed, idText, Text, written}
+use Rattle.message.specs.Layout.{head_of, octet_vector, element_at, exchange_vector, checksum_vector}
+use Rattle.message.specs.Show.{signed_in, checksum_type, error_code}
+use Rattle.text.specs.Text.{quoted, decimal, decimal64, signed, id_text, Text, written}
 use Rattle.text.proofs.Pieces.{then}
-use Rattle.lines.specs.Lines.{lengths, messageLine, schemeLine, span, extensionLine, exchangeLine, checksumLine, errorLine, alertLine}
-use Rattle.lines.specs.Lines.{endLine, refusedLine}
+use Rattle.lines.specs.Lines.{lengths, message_line, scheme_line, span, extension_line, exchange_line, checksum_line, error_line, alert_line}
+use Rattle.lines.specs.Lines.{end_line, refused_line}
 
 -- a number or a vector that a call read
 read : {A : Type 0} (f : A → List (List ℕ)) (x y : A) (t u : Text) → x ≡ y → u ≡ written (f x) t → u ≡ written (f y) t
@@ -27,8 +27,8 @@ signed-text : (z y : ℤ) (t u : Text) → SFits w32 z → z ≡ y → u ≡ wri
 signed-text z y t u f e h = read signed _ y t u (to_z-of_z {w = w32} f ∙ e) h
 
 -- where there is room for the header, a field is the signed number in its octets
-field_is : (n : ℕ) (m : List ℕ) (at : ℕ) (z : ℤ) → n ≤ length m → z ≡ signedIn n m at → z ≡ signed32 (le 4 m at)
-unfolding signedIn
+field_is : (n : ℕ) (m : List ℕ) (at : ℕ) (z : ℤ) → n ≤ length m → z ≡ signed_in n m at → z ≡ signed32 (le 4 m at)
+unfolding signed_in
 field_is n m at z h e = e ∙ simp (le-leb _ _ h)
 
 abbrev field : List ℕ → ℕ → List (List ℕ)
@@ -50,8 +50,8 @@ module _ (t u : Text) where
       → b ≡ written (quoted " seq=" ∷ decimal q ∷ []) a
       → c ≡ written (quoted " type=" ∷ decimal k ∷ []) b
       → u ≡ written (lengths (head_of m)) c
-      → u ≡ written (messageLine place (head_of m)) t
-  unfolding messageLine head_of
+      → u ≡ written (message_line place (head_of m)) t
+  unfolding message_line head_of
   message-text a b c place m q k q-is k-is f₁ f₂ f₃ f₄ =
       then t c u _ _
       (then t b c _ _
@@ -59,8 +59,8 @@ module _ (t u : Text) where
       (read (field (quoted " type=")) k _ b c k-is f₃)) f₄
 
   pub scheme-text : (a b c : Text) (k : ℕ) (i : List ℕ) → a ≡ written (quoted "scheme " ∷ decimal64 k ∷ []) t → b ≡ written (quoted " " ∷ []) a
-      → c ≡ written (idText i) b → u ≡ written (quoted "\n" ∷ []) c → u ≡ written (schemeLine k i) t
-  unfolding schemeLine
+      → c ≡ written (id_text i) b → u ≡ written (quoted "\n" ∷ []) c → u ≡ written (scheme_line k i) t
+  unfolding scheme_line
   scheme-text a b c k i f₁ f₂ f₃ f₄ = then t b u _ _ (then t a b _ _ f₁ f₂) (then b c u _ _ f₃ f₄)
 
   pub span-text : (a b : Text) (v : Vector) → a ≡ written (quoted " at=" ∷ decimal v.offset.0 ∷ []) t
@@ -69,51 +69,51 @@ module _ (t u : Text) where
   span-text a b v f₁ f₂ f₃ = then t b u _ _ (then t a b _ _ f₁ f₂) f₃
 
   pub extension-text : (a b c : Text) (k at : ℕ) (array : List ℕ) (z : ℤ) (f : SFits w32 z) (v : Vector) → z ≡ signed32 (le 4 array at)
-      → v ≡ octetVector array (at + 4)
+      → v ≡ octet_vector array (at + 4)
       → a ≡ written (quoted "extension " ∷ decimal64 k ∷ []) t
       → b ≡ written (quoted " type=" ∷ []) a
       → c ≡ written (signed (to_z w32 (of_z w32 z))) b
       → u ≡ written (span v) c
-      → u ≡ written (extensionLine k (elementAt array at)) t
-  unfolding extensionLine
+      → u ≡ written (extension_line k (element_at array at)) t
+  unfolding extension_line
   extension-text a b c k at array z f v z-is v-is f₁ f₂ f₃ f₄ =
       then t b u _ _ (then t a b _ _ f₁ f₂)
       (then b c u _ _ (signed-text z _ b c f z-is f₃) (read span v _ c u v-is f₄))
 
-  pub alert-text : (a b : Text) (k at : ℕ) (array : List ℕ) (x : ℕ) (v : Vector) → x ≡ le 4 array at → v ≡ octetVector array (at + 4)
+  pub alert-text : (a b : Text) (k at : ℕ) (array : List ℕ) (x : ℕ) (v : Vector) → x ≡ le 4 array at → v ≡ octet_vector array (at + 4)
       → a ≡ written (quoted "alert " ∷ decimal64 k ∷ []) t
       → b ≡ written (quoted " type=" ∷ decimal x ∷ []) a
       → u ≡ written (span v) b
-      → u ≡ written (alertLine k (elementAt array at)) t
-  unfolding alertLine
+      → u ≡ written (alert_line k (element_at array at)) t
+  unfolding alert_line
   alert-text a b k at array x v x-is v-is f₁ f₂ f₃ =
       then t b u _ _ (then t a b _ _ f₁ (read (field (quoted " type=")) x _ a b x-is f₂)) (read span v _ b u v-is f₃)
 
   module _ (a : Text) (m : List ℕ) where
-    pub exchange-text : (v : Vector) → v ≡ exchangeVector m → a ≡ written (quoted "exchange" ∷ []) t → u ≡ written (span v) a
-        → u ≡ written (exchangeLine (exchangeVector m)) t
-    unfolding exchangeLine
+    pub exchange-text : (v : Vector) → v ≡ exchange_vector m → a ≡ written (quoted "exchange" ∷ []) t → u ≡ written (span v) a
+        → u ≡ written (exchange_line (exchange_vector m)) t
+    unfolding exchange_line
     exchange-text v v-is f₁ f₂ = then t a u _ _ f₁ (read span v _ a u v-is f₂)
 
     module _ (b : Text) (z : ℤ) (f : SFits w32 z) where
-      pub checksum-text : 80 ≤ length m → (v : Vector) → z ≡ checksumType m → v ≡ checksumVector m → a ≡ written (quoted "checksum type=" ∷ []) t
-          → b ≡ written (signed (to_z w32 (of_z w32 z))) a → u ≡ written (span v) b → u ≡ written (checksumLine (le 4 m 64) (checksumVector m)) t
-      unfolding checksumLine
+      pub checksum-text : 80 ≤ length m → (v : Vector) → z ≡ checksum_type m → v ≡ checksum_vector m → a ≡ written (quoted "checksum type=" ∷ []) t
+          → b ≡ written (signed (to_z w32 (of_z w32 z))) a → u ≡ written (span v) b → u ≡ written (checksum_line (le 4 m 64) (checksum_vector m)) t
+      unfolding checksum_line
       checksum-text h v z-is v-is f₁ f₂ f₃ =
           then t a u _ _ f₁ (then a b u _ _ (signed-text z _ a b f (field_is 80 m 64 z h z-is) f₂) (read span v _ b u v-is f₃))
 
-      pub error-text : 72 ≤ length m → z ≡ errorCode m → a ≡ written (quoted "error code=" ∷ []) t → b ≡ written (signed (to_z w32 (of_z w32 z))) a
-          → u ≡ written (quoted "\n" ∷ []) b → u ≡ written (errorLine (le 4 m 56)) t
-      unfolding errorLine
+      pub error-text : 72 ≤ length m → z ≡ error_code m → a ≡ written (quoted "error code=" ∷ []) t → b ≡ written (signed (to_z w32 (of_z w32 z))) a
+          → u ≡ written (quoted "\n" ∷ []) b → u ≡ written (error_line (le 4 m 56)) t
+      unfolding error_line
       error-text h z-is f₁ f₂ f₃ = then t a u _ _ f₁ (then a b u _ _ (signed-text z _ a b f (field_is 72 m 56 z h z-is) f₂) f₃)
 
   module _ (a b : Text) (n k : ℕ) where
     pub end-text : a ≡ written (quoted "end messages=" ∷ decimal n ∷ []) t → b ≡ written (quoted " octets=" ∷ decimal64 k ∷ []) a
-        → u ≡ written (quoted "\n" ∷ []) b → u ≡ written (endLine n k) t
-    unfolding endLine
+        → u ≡ written (quoted "\n" ∷ []) b → u ≡ written (end_line n k) t
+    unfolding end_line
     end-text f₁ f₂ f₃ = then t b u _ _ (then t a b _ _ f₁ f₂) f₃
 
     pub refused-text : a ≡ written (quoted "refused " ∷ decimal n ∷ []) t → b ≡ written (quoted " at=" ∷ decimal64 k ∷ []) a
-        → u ≡ written (quoted "\n" ∷ []) b → u ≡ written (refusedLine n k) t
-    unfolding refusedLine
+        → u ≡ written (quoted "\n" ∷ []) b → u ≡ written (refused_line n k) t
+    unfolding refused_line
     refused-text f₁ f₂ f₃ = then t b u _ _ (then t a b _ _ f₁ f₂) f₃

@@ -2,8 +2,8 @@
 ghost use Rattle.std.specs.Prelude.{◌≡◌, [], get_or};
 ghost use Rattle.message.specs.Layout.{nego, exchange, verify, alert};
 ghost use Rattle.text.specs.Text.{text, written};
-ghost use Rattle.lines.specs.Lines.{messageLines};
-ghost use Rattle.lines.specs.Fit.{Fit, shapeIn, linesIn};
+ghost use Rattle.lines.specs.Lines.{message_lines};
+ghost use Rattle.lines.specs.Fit.{Fit, shape_in, lines_in};
 
 use super::line;
 use message::{Kind, field};
@@ -14,7 +14,7 @@ use vector::TokenPlace;
 // A NEGO's schemes, then its extensions.
 fn nego_line(d: &mut [u8], m: &[u8], index: usize) -> usize
     requires { Fit nego m.now }
-    ensures { text d.new result ≡ written (get_or (linesIn nego m.now) index []) (text d.old 0) }
+    ensures { text d.new result ≡ written (get_or (lines_in nego m.now) index []) (text d.old 0) }
 {
     let ids = schemes(m);
     let count = ids.len() / field::ID;
@@ -33,7 +33,7 @@ fn nego_line(d: &mut [u8], m: &[u8], index: usize) -> usize
 // The scheme of a message with one scheme, then its exchange.
 fn exchange_line(d: &mut [u8], m: &[u8], index: usize) -> usize
     requires { Fit exchange m.now }
-    ensures { text d.new result ≡ written (get_or (linesIn exchange m.now) index []) (text d.old 0) }
+    ensures { text d.new result ≡ written (get_or (lines_in exchange m.now) index []) (text d.old 0) }
 {
     if index == 0 {
         return line::scheme(d, 0, scheme(m));
@@ -47,7 +47,7 @@ fn exchange_line(d: &mut [u8], m: &[u8], index: usize) -> usize
 // The scheme of a VERIFY, then its checksum.
 fn verify_line(d: &mut [u8], m: &[u8], index: usize) -> usize
     requires { Fit verify m.now }
-    ensures { text d.new result ≡ written (get_or (linesIn verify m.now) index []) (text d.old 0) }
+    ensures { text d.new result ≡ written (get_or (lines_in verify m.now) index []) (text d.old 0) }
 {
     if index == 0 {
         return line::scheme(d, 0, scheme(m));
@@ -61,7 +61,7 @@ fn verify_line(d: &mut [u8], m: &[u8], index: usize) -> usize
 // The scheme of an ALERT, its error code, then its alerts.
 fn alert_line(d: &mut [u8], m: &[u8], index: usize) -> usize
     requires { Fit alert m.now }
-    ensures { text d.new result ≡ written (get_or (linesIn alert m.now) index []) (text d.old 0) }
+    ensures { text d.new result ≡ written (get_or (lines_in alert m.now) index []) (text d.old 0) }
 {
     if index == 0 {
         return line::scheme(d, 0, scheme(m));
@@ -79,8 +79,8 @@ fn alert_line(d: &mut [u8], m: &[u8], index: usize) -> usize
 
 // The line of the message m with an index; nothing where it has none with that index.
 pub(crate) fn line_at(d: &mut [u8], place: TokenPlace, m: &[u8], index: usize) -> usize
-    requires { Fit (shapeIn m.now) m.now }
-    ensures { text d.new result ≡ written (get_or (messageLines place.0 m.now) index []) (text d.old 0) }
+    requires { Fit (shape_in m.now) m.now }
+    ensures { text d.new result ≡ written (get_or (message_lines place.0 m.now) index []) (text d.old 0) }
 {
     if index == 0 {
         return line::message(d, place, m);

@@ -1,10 +1,10 @@
 // One function for each form of line: its text, from the front of a lent slice on.
 ghost use Rattle.std.specs.Prelude.{◌≡◌, ◌+◌, ◌≤◌, length};
 ghost use Rattle.octets.specs.Octets.{le};
-ghost use Rattle.message.specs.Layout.{head_of, elementAt, exchangeVector, checksumVector};
+ghost use Rattle.message.specs.Layout.{head_of, element_at, exchange_vector, checksum_vector};
 ghost use Rattle.text.specs.Text.{text, written};
-ghost use Rattle.lines.specs.Lines.{lengths as Lines·lengths, messageLine, schemeLine, span as Lines·span, extensionLine, exchangeLine, checksumLine, errorLine, alertLine};
-ghost use Rattle.lines.specs.Lines.{endLine, refusedLine};
+ghost use Rattle.lines.specs.Lines.{lengths as Lines·lengths, message_line, scheme_line, span as Lines·span, extension_line, exchange_line, checksum_line, error_line, alert_line};
+ghost use Rattle.lines.specs.Lines.{end_line, refused_line};
 
 use message::field::{
     ELEMENT_VALUE, HEADER_LENGTH, MESSAGE_LENGTH, SEQUENCE, TYPE, checksum_vector, exchange_vector,
@@ -28,7 +28,7 @@ fn lengths(d: &mut [u8], at: usize, m: &[u8]) -> usize
 // A message's own line.
 pub(crate) fn message(d: &mut [u8], place: TokenPlace, m: &[u8]) -> usize
     requires { 40 ≤ length m.now }
-    ensures { text d.new result ≡ written (messageLine place.0 (head_of m.now)) (text d.old 0) }
+    ensures { text d.new result ≡ written (message_line place.0 (head_of m.now)) (text d.old 0) }
 {
     let place_end = wide_field(d, 0, b"message at=", place.0);
     let sequence_end = field(d, place_end, b" seq=", le_u32(m, SEQUENCE));
@@ -38,7 +38,7 @@ pub(crate) fn message(d: &mut [u8], place: TokenPlace, m: &[u8]) -> usize
 
 // The scheme i, at place k of its list.
 pub(crate) fn scheme(d: &mut [u8], k: usize, i: &[u8]) -> usize
-    ensures { text d.new result ≡ written (schemeLine k i.now) (text d.old 0) }
+    ensures { text d.new result ≡ written (scheme_line k i.now) (text d.old 0) }
 {
     let index_end = wide_field(d, 0, b"scheme ", k);
     let id_start = append(d, index_end, b" ");
@@ -58,7 +58,7 @@ fn span(d: &mut [u8], at: usize, v: Vector) -> usize
 // The extension that stands at `at` of its array.
 pub(crate) fn extension(d: &mut [u8], k: usize, array: &[u8], at: usize) -> usize
     requires { at + 12 ≤ length array.now }
-    ensures { text d.new result ≡ written (extensionLine k (elementAt array.now at)) (text d.old 0) }
+    ensures { text d.new result ≡ written (extension_line k (element_at array.now at)) (text d.old 0) }
 {
     let index_end = wide_field(d, 0, b"extension ", k);
     let type_start = append(d, index_end, b" type=");
@@ -69,7 +69,7 @@ pub(crate) fn extension(d: &mut [u8], k: usize, array: &[u8], at: usize) -> usiz
 // The exchange of a message.
 pub(crate) fn exchange(d: &mut [u8], m: &[u8]) -> usize
     requires { 64 ≤ length m.now }
-    ensures { text d.new result ≡ written (exchangeLine (exchangeVector m.now)) (text d.old 0) }
+    ensures { text d.new result ≡ written (exchange_line (exchange_vector m.now)) (text d.old 0) }
 {
     let word_end = append(d, 0, b"exchange");
     span(d, word_end, exchange_vector(m))
@@ -78,7 +78,7 @@ pub(crate) fn exchange(d: &mut [u8], m: &[u8]) -> usize
 // A VERIFY's checksum.
 pub(crate) fn checksum(d: &mut [u8], m: &[u8]) -> usize
     requires { 80 ≤ length m.now }
-    ensures { text d.new result ≡ written (checksumLine (le 4 m.now 64) (checksumVector m.now))
+    ensures { text d.new result ≡ written (checksum_line (le 4 m.now 64) (checksum_vector m.now))
         (text d.old 0) }
 {
     let type_start = append(d, 0, b"checksum type=");
@@ -89,7 +89,7 @@ pub(crate) fn checksum(d: &mut [u8], m: &[u8]) -> usize
 // An ALERT's error code.
 pub(crate) fn error(d: &mut [u8], m: &[u8]) -> usize
     requires { 72 ≤ length m.now }
-    ensures { text d.new result ≡ written (errorLine (le 4 m.now 56)) (text d.old 0) }
+    ensures { text d.new result ≡ written (error_line (le 4 m.now 56)) (text d.old 0) }
 {
     let code_start = append(d, 0, b"error code=");
     let code_end = signed(d, code_start, error_code(m));
@@ -99,7 +99,7 @@ pub(crate) fn error(d: &mut [u8], m: &[u8]) -> usize
 // The alert that stands at `at` of its array. Its type is unsigned.
 pub(crate) fn alert(d: &mut [u8], k: usize, array: &[u8], at: usize) -> usize
     requires { at + 12 ≤ length array.now }
-    ensures { text d.new result ≡ written (alertLine k (elementAt array.now at)) (text d.old 0) }
+    ensures { text d.new result ≡ written (alert_line k (element_at array.now at)) (text d.old 0) }
 {
     let index_end = wide_field(d, 0, b"alert ", k);
     let type_end = field(d, index_end, b" type=", le_u32(array, at));
@@ -108,7 +108,7 @@ pub(crate) fn alert(d: &mut [u8], k: usize, array: &[u8], at: usize) -> usize
 
 // The last line of an accepted token.
 pub(crate) fn end(d: &mut [u8], n: u32, octets: usize) -> usize
-    ensures { text d.new result ≡ written (endLine n octets) (text d.old 0) }
+    ensures { text d.new result ≡ written (end_line n octets) (text d.old 0) }
 {
     let count_end = field(d, 0, b"end messages=", n);
     let octets_end = wide_field(d, count_end, b" octets=", octets);
@@ -117,7 +117,7 @@ pub(crate) fn end(d: &mut [u8], n: u32, octets: usize) -> usize
 
 // The only line of a refused token.
 pub(crate) fn refused(d: &mut [u8], n: u32, place: TokenPlace) -> usize
-    ensures { text d.new result ≡ written (refusedLine n place.0) (text d.old 0) }
+    ensures { text d.new result ≡ written (refused_line n place.0) (text d.old 0) }
 {
     let number_end = field(d, 0, b"refused ", n);
     let place_end = wide_field(d, number_end, b" at=", place.0);

@@ -5,16 +5,16 @@ use mathlib.Core.Path.{refl}
 use mathlib.Core.List.{List, [], ◌∷◌, Memᴰ}
 use native.Mathlib.Omega.{arith}
 use lib.ListN.{length}
-use Rattle.windows.specs.Windows.{Request, windowOf, EachShows}
+use Rattle.windows.specs.Windows.{Request, window_of, EachShows}
 use Rattle.windows.proofs.Covers.{gets-on, windows-all}
-use Rattle.windows.proofs.Stepping.{getD-texts}
-use Rattle.listing.specs.Listing.{tokenLines, lines_of, ShortLines, ListingWindows}
+use Rattle.windows.proofs.Stepping.{get_or-texts}
+use Rattle.listing.specs.Listing.{token_lines, lines_of, ShortLines, ListingWindows}
 use Rattle.lines.proofs.Shorts.{short-at}
 use Rattle.listing.proofs.Shorts.{shorts-token}
 
 pub short-lines : ShortLines
 unfolding lines_of
-short-lines s k = rw (getD-texts (tokenLines s) k) (short-at (tokenLines s) k (shorts-token s))
+short-lines s k = rw (get_or-texts (token_lines s) k) (short-at (token_lines s) k (shorts-token s))
 
 each-shows : (s : List ℕ) (qs : List Request) (first : ℕ)
     → ((q : Request) → Memᴰ q qs → (128 ≤ length q.buffer) × (length (lines_of s) ≤ q.end)) → EachShows (lines_of s) first qs
@@ -23,7 +23,7 @@ each-shows s [] first h = tt
 each-shows s (q ∷ qs) first h =
     let a = h q (Memᴰ.head refl) in (
       λ inside. gets-on (lines_of s) first q.end q.buffer (omega (arith, a)) inside (omega (arith, a, short-lines s first)),
-      each-shows s qs (first + (windowOf (lines_of s) first q.end q.buffer).lines) (λ p i. h p (Memᴰ.tail i)),
+      each-shows s qs (first + (window_of (lines_of s) first q.end q.buffer).lines) (λ p i. h p (Memᴰ.tail i)),
     )
 
 pub listing-windows : ListingWindows

@@ -7,47 +7,47 @@ use lib.ListN.{length}
 use Rattle.vector.specs.declared.TokenPlace.{TokenPlace}
 use Rattle.token.specs.declared.Answer.{Answer}
 use Rattle.token.specs.declared.Answer.TheVariants as answer
-use Rattle.token.specs.Token.{Reading, tokenOf, outcomeOf, told}
-use Rattle.token.specs.Walk.{messagesOf}
+use Rattle.token.specs.Token.{Reading, token_of, outcome_of, told}
+use Rattle.token.specs.Walk.{messages_of}
 use Rattle.token.proofs.Walks.{answer-accepts, answer-number, answer-refuses}
 use Rattle.put.specs.Put.{joined}
-use Rattle.lines.specs.Lines.{endLine, refusedLine}
+use Rattle.lines.specs.Lines.{end_line, refused_line}
 use Rattle.windows.specs.declared.Progress.{Progress}
 use Rattle.windows.specs.declared.Shown.{Shown}
-use Rattle.windows.specs.Windows.{texts, asWindow, windowOf}
-use Rattle.windows.specs.Steps.{State, within, start_of, step, steps, shownSoFar}
+use Rattle.windows.specs.Windows.{texts, as_window, window_of}
+use Rattle.windows.specs.Steps.{State, within, start_of, step, steps, shown_so_far}
 use Rattle.windows.proofs.Stepping.{steps-append, texts-append}
 use Rattle.windows.proofs.Windows.{window-is, start-going}
-use Rattle.listing.specs.Listing.{allLines, readingLines, lines_of}
+use Rattle.listing.specs.Listing.{all_lines, reading_lines, lines_of}
 
-module _ (s : List ℕ) (r : Answer) (r-is : told r ≡ outcomeOf (tokenOf s)) where
+module _ (s : List ℕ) (r : Answer) (r-is : told r ≡ outcome_of (token_of s)) where
   module _ (n : ℕ) (here : r ≡ answer.Messages n) where
-    lines_are : lines_of s ≡ texts (allLines (messagesOf (tokenOf s))) ++ (joined (endLine n (length s)) ∷ [])
-    unfolding lines_of readingLines texts
+    lines_are : lines_of s ≡ texts (all_lines (messages_of (token_of s))) ++ (joined (end_line n (length s)) ∷ [])
+    unfolding lines_of reading_lines texts
     lines_are =
-        ap (λ (x : Reading). texts (readingLines x (length s))) (answer-accepts s r r-is n here)
-        ∙ texts-append (allLines (messagesOf (tokenOf s))) (endLine (length (messagesOf (tokenOf s))) (length s) ∷ [])
-        ∙ ap (λ (k : ℕ). texts (allLines (messagesOf (tokenOf s))) ++ (joined (endLine k (length s)) ∷ [])) (answer-number s r r-is n here)
+        ap (λ (x : Reading). texts (reading_lines x (length s))) (answer-accepts s r r-is n here)
+        ∙ texts-append (all_lines (messages_of (token_of s))) (end_line (length (messages_of (token_of s))) (length s) ∷ [])
+        ∙ ap (λ (k : ℕ). texts (all_lines (messages_of (token_of s))) ++ (joined (end_line k (length s)) ∷ [])) (answer-number s r r-is n here)
 
     module _ (from end : ℕ) (d : List ℕ) (p : Progress) (p-is : p ≡ start_of from end) where
-      pub window-messages : (q t : Progress) (e d' : List ℕ) → within q e ≡ steps (texts (allLines (messagesOf (tokenOf s)))) (within p d)
-          → within t d' ≡ step (within q e) (joined (endLine n (length s))) → (x : Shown) → x ≡ shownSoFar t
-          → asWindow x d' ≡ windowOf (lines_of s) from end d
+      pub window-messages : (q t : Progress) (e d' : List ℕ) → within q e ≡ steps (texts (all_lines (messages_of (token_of s)))) (within p d)
+          → within t d' ≡ step (within q e) (joined (end_line n (length s))) → (x : Shown) → x ≡ shown_so_far t
+          → as_window x d' ≡ window_of (lines_of s) from end d
       unfolding steps
       window-messages q t e d' a b x c =
           window-is (lines_of s) from end d p t d' p-is
-          (b ∙ ap (λ (u : State). step u (joined (endLine n (length s)))) a
+          (b ∙ ap (λ (u : State). step u (joined (end_line n (length s)))) a
           ∙ sym (ap (λ (ts : List (List ℕ)). steps ts (within p d)) lines_are
-          ∙ steps-append (texts (allLines (messagesOf (tokenOf s)))) (joined (endLine n (length s)) ∷ []) (within p d)))
+          ∙ steps-append (texts (all_lines (messages_of (token_of s)))) (joined (end_line n (length s)) ∷ []) (within p d)))
           x c
 
   pub window-refused : (n : ℕ) (place : TokenPlace) → r ≡ answer.Refused n place → (from end : ℕ) (d : List ℕ) (p : Progress) → p ≡ start_of from end
-      → (t : Progress) (d' : List ℕ) → within t d' ≡ step (within p d) (joined (refusedLine n place.0)) → (x : Shown) → x ≡ shownSoFar t
-      → asWindow x d' ≡ windowOf (lines_of s) from end d
+      → (t : Progress) (d' : List ℕ) → within t d' ≡ step (within p d) (joined (refused_line n place.0)) → (x : Shown) → x ≡ shown_so_far t
+      → as_window x d' ≡ window_of (lines_of s) from end d
   unfolding steps
   window-refused n place here from end d p p-is t d' b x c =
       window-is (lines_of s) from end d p t d' p-is (b ∙ sym (ap (λ (ts : List (List ℕ)). steps ts (within p d)) line-is)) x c where
-        line-is : lines_of s ≡ joined (refusedLine n place.0) ∷ []
-        line-is = unfold lines_of readingLines texts in ap (λ (y : Reading). texts (readingLines y (length s))) (answer-refuses s r r-is n place here)
+        line-is : lines_of s ≡ joined (refused_line n place.0) ∷ []
+        line-is = unfold lines_of reading_lines texts in ap (λ (y : Reading). texts (reading_lines y (length s))) (answer-refuses s r r-is n place here)
 
 pub ruleset windows = (answer-accepts, window-messages, window-refused, start-going)

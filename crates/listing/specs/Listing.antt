@@ -1,32 +1,32 @@
 -- The listing of a token. Document 01, "The listing".
 --
 -- Glossary
---   allLines ms    the lines of messages
---   readingLines   the lines of a reading; tokenLines s: those of the token s; lines_of s: their texts
+--   all_lines ms    the lines of messages
+--   reading_lines   the lines of a reading; token_lines s: those of the token s; lines_of s: their texts
 --   ShortLines     every line of a token has fewer than 128 octets
 --   ListingWindows windows of a listing, in buffers of at least 128 octets, one after the other, hold all of it
 --   FewLines       a listing has at most one line more than its token has octets
 use Rattle.std.specs.Prelude.{ℕ, ◌+◌, ◌<◌, ◌≤◌, ◌≡◌, length, get_or}
 use mathlib.Core.List.{List, [], ◌∷◌, ◌++◌, Memᴰ}
-use Rattle.token.specs.Token.{Placed, Reading, Accepted, Refused, tokenOf}
+use Rattle.token.specs.Token.{Placed, Reading, Accepted, Refused, token_of}
 use Rattle.put.specs.Put.{joined}
-use Rattle.lines.specs.Lines.{messageLines, endLine, refusedLine}
+use Rattle.lines.specs.Lines.{message_lines, end_line, refused_line}
 use Rattle.windows.specs.Windows.{texts, Request, following}
 
-unfoldable pub allLines : List Placed → List (List (List ℕ))
-allLines [] = []
-allLines (m ∷ ms) = messageLines m.place m.octets ++ allLines ms
+unfoldable pub all_lines : List Placed → List (List (List ℕ))
+all_lines [] = []
+all_lines (m ∷ ms) = message_lines m.place m.octets ++ all_lines ms
 
 -- "The listing is the structural reading."
-unfoldable pub readingLines : Reading → ℕ → List (List (List ℕ))
-readingLines (Accepted ms) octets = allLines ms ++ (endLine (length ms) octets ∷ [])
-readingLines (Refused n place) octets = refusedLine n place ∷ []
+unfoldable pub reading_lines : Reading → ℕ → List (List (List ℕ))
+reading_lines (Accepted ms) octets = all_lines ms ++ (end_line (length ms) octets ∷ [])
+reading_lines (Refused n place) octets = refused_line n place ∷ []
 
-abbrev pub tokenLines : List ℕ → List (List (List ℕ))
-tokenLines s = readingLines (tokenOf s) (length s)
+abbrev pub token_lines : List ℕ → List (List (List ℕ))
+token_lines s = reading_lines (token_of s) (length s)
 
 unfoldable pub lines_of : List ℕ → List (List ℕ)
-lines_of s = texts (tokenLines s)
+lines_of s = texts (token_lines s)
 
 abbrev pub ShortLines : Type 0
 ShortLines = (s : List ℕ) (k : ℕ) → length (get_or (lines_of s) k []) < 128

@@ -1,13 +1,13 @@
 // The lines of a token, and windows of them.
 ghost use Rattle.std.specs.Prelude.{◌≡◌, ◌-◌, [], length, drop, get_or};
-ghost use Rattle.token.specs.Token.{tokenOf};
-ghost use Rattle.token.specs.Walk.{messagesOf, Accepts};
+ghost use Rattle.token.specs.Token.{token_of};
+ghost use Rattle.token.specs.Walk.{messages_of, Accepts};
 ghost use Rattle.put.specs.Put.{joined};
-ghost use Rattle.lines.specs.Lines.{messageLines, endLine, refusedLine};
-ghost use Rattle.lines.specs.Fit.{Fit, shapeIn};
-ghost use Rattle.windows.specs.Windows.{texts, asWindow, windowOf};
+ghost use Rattle.lines.specs.Lines.{message_lines, end_line, refused_line};
+ghost use Rattle.lines.specs.Fit.{Fit, shape_in};
+ghost use Rattle.windows.specs.Windows.{texts, as_window, window_of};
 ghost use Rattle.windows.specs.Steps.{within, step, steps, Going};
-ghost use Rattle.listing.specs.Listing.{allLines, lines_of};
+ghost use Rattle.listing.specs.Listing.{all_lines, lines_of};
 
 use lines::{count, end_text, message_text, refused_text};
 use message::walk::first;
@@ -17,10 +17,10 @@ use windows::{Progress, Shown, finish, put_line, start};
 
 // The line of the message m with an index.
 fn show_line(p: Progress, d: &mut [u8], place: TokenPlace, m: &[u8], index: usize) -> Progress
-    requires fit { Fit (shapeIn m.now) m.now }
+    requires fit { Fit (shape_in m.now) m.now }
     requires going { Going p (length d.old) }
     ensures { within result d.new ≡ step (within p d.old)
-        (joined (get_or (messageLines place.0 m.now) index [])) }
+        (joined (get_or (message_lines place.0 m.now) index [])) }
 {
     let mut text = [0u8; 128];
     let end = message_text(&mut text, place, m, index);
@@ -30,7 +30,7 @@ fn show_line(p: Progress, d: &mut [u8], place: TokenPlace, m: &[u8], index: usiz
 // The last line of an accepted token.
 pub fn show_end(p: Progress, d: &mut [u8], n: u32, octets: usize) -> Progress
     requires { Going p (length d.old) }
-    ensures { within result d.new ≡ step (within p d.old) (joined (endLine n octets)) }
+    ensures { within result d.new ≡ step (within p d.old) (joined (end_line n octets)) }
 {
     let mut text = [0u8; 128];
     let end = end_text(&mut text, n, octets);
@@ -40,7 +40,7 @@ pub fn show_end(p: Progress, d: &mut [u8], n: u32, octets: usize) -> Progress
 // The only line of a refused token.
 pub fn show_refusal(p: Progress, d: &mut [u8], n: u32, place: TokenPlace) -> Progress
     requires { Going p (length d.old) }
-    ensures { within result d.new ≡ step (within p d.old) (joined (refusedLine n place.0)) }
+    ensures { within result d.new ≡ step (within p d.old) (joined (refused_line n place.0)) }
 {
     let mut text = [0u8; 128];
     let end = refused_text(&mut text, n, place);
@@ -49,9 +49,9 @@ pub fn show_refusal(p: Progress, d: &mut [u8], n: u32, place: TokenPlace) -> Pro
 
 // The lines of the message m from an index on.
 fn show_lines(p: Progress, d: &mut [u8], place: TokenPlace, m: &[u8], first: usize) -> Progress
-    requires fit { Fit (shapeIn m.now) m.now }
+    requires fit { Fit (shape_in m.now) m.now }
     requires going { Going p (length d.old) }
-    ensures { within result d.new ≡ steps (drop first (texts (messageLines place.0 m.now))) (within p d.old) }
+    ensures { within result d.new ≡ steps (drop first (texts (message_lines place.0 m.now))) (within p d.old) }
 {
     let count = count(m);
     let mut progress = p;
@@ -68,9 +68,9 @@ fn show_lines(p: Progress, d: &mut [u8], place: TokenPlace, m: &[u8], first: usi
 
 // All lines of the message m at a place. A message that lies before the window costs one count.
 pub fn show_message(p: Progress, d: &mut [u8], place: TokenPlace, m: &[u8]) -> Progress
-    requires fit { Fit (shapeIn m.now) m.now }
+    requires fit { Fit (shape_in m.now) m.now }
     requires going { Going p (length d.old) }
-    ensures { within result d.new ≡ steps (texts (messageLines place.0 m.now)) (within p d.old) }
+    ensures { within result d.new ≡ steps (texts (message_lines place.0 m.now)) (within p d.old) }
 {
     if p.left == 0 {
         return p;
@@ -97,7 +97,7 @@ pub fn show_message(p: Progress, d: &mut [u8], place: TokenPlace, m: &[u8]) -> P
 fn show_messages(p: Progress, d: &mut [u8], token: &[u8]) -> Progress
     requires accepts { Accepts token.now }
     requires going { Going p (length d.old) }
-    ensures { within result d.new ≡ steps (texts (allLines (messagesOf (tokenOf token.now)))) (within p d.old) }
+    ensures { within result d.new ≡ steps (texts (all_lines (messages_of (token_of token.now)))) (within p d.old) }
 {
     let mut progress = p;
     let mut rest = token;
@@ -115,7 +115,7 @@ fn show_messages(p: Progress, d: &mut [u8], token: &[u8]) -> Progress
 
 // A window of the listing: as many whole lines from `from` up to, not including, `end` as fit stand at the buffer's front.
 pub fn window(token: &[u8], from: usize, end: usize, d: &mut [u8]) -> Shown
-    ensures { asWindow result d.new ≡ windowOf (lines_of token.now) from end d.old }
+    ensures { as_window result d.new ≡ window_of (lines_of token.now) from end d.old }
 {
     let progress = start(from, end);
     let reading = read_token(token);

@@ -13,22 +13,22 @@ use Rattle.message.specs.declared.Header.{Header}
 use Rattle.message.specs.declared.Read.{Read}
 use Rattle.message.specs.declared.Read.TheVariants as answer
 use Rattle.message.specs.Layout.{head_of, size, front}
-use Rattle.message.specs.Check.{firstFailing, commonRows, said, fields_of, headerVerdict}
+use Rattle.message.specs.Check.{first_failing, common_rows, said, fields_of, header_verdict}
 use Rattle.message.proofs.Tables.{verdict-read, verdict-refused}
 use Rattle.token.specs.Token.{Chain, refused as cut_at, message}
-use Rattle.conversation.specs.Logs.{messagesIn}
-use Rattle.sides.specs.Merging.{fits, cutFrom, cut_of}
+use Rattle.conversation.specs.Logs.{messages_in}
+use Rattle.sides.specs.Merging.{fits, cut_from, cut_of}
 use Rattle.sides.proofs.Cutting.{fits-sized, turn-fits, turn-stops}
 use Rattle.merging.specs.declared.Cut.{Cut}
-use Rattle.merging.specs.Merged.{number_of, number_in, place_in, cutBy, fileCut}
+use Rattle.merging.specs.Merged.{number_of, number_in, place_in, cut_by, file_cut}
 
 -- 1. what a header's reading says
 
-module _ (rest : List ℕ) (m : Read) (m-is : said m ≡ headerVerdict rest) where
+module _ (rest : List ℕ) (m : Read) (m-is : said m ≡ header_verdict rest) where
   module _ (h : Header) (m-reads : m ≡ answer.Message h) where
     reads : (fits rest ≡ true) × (fields_of (head_of rest) ≡ h)
-    unfolding headerVerdict
-    reads = verdict-read (commonRows (length rest) (head_of rest)) (fields_of (head_of rest)) h (sym m-is ∙ ap said m-reads)
+    unfolding header_verdict
+    reads = verdict-read (common_rows (length rest) (head_of rest)) (fields_of (head_of rest)) h (sym m-is ∙ ap said m-reads)
 
     pub header-fits : fits rest ≡ true
     header-fits = reads.0
@@ -51,9 +51,9 @@ module _ (rest : List ℕ) (m : Read) (m-is : said m ≡ headerVerdict rest) whe
     pub header-less : length (take (length rest - h.length) (drop h.length rest)) < length rest
     header-less = omega (arith, header-left, header-long)
 
-  pub header_refused : (n : ℕ) → m ≡ answer.Refused n → (fits rest ≡ false) × (firstFailing (commonRows (length rest) (head_of rest)) ≡ n)
-  unfolding headerVerdict
-  header_refused n e = verdict-refused (commonRows (length rest) (head_of rest)) (fields_of (head_of rest)) n (sym m-is ∙ ap said e)
+  pub header_refused : (n : ℕ) → m ≡ answer.Refused n → (fits rest ≡ false) × (first_failing (common_rows (length rest) (head_of rest)) ≡ n)
+  unfolding header_verdict
+  header_refused n e = verdict-refused (common_rows (length rest) (head_of rest)) (fields_of (head_of rest)) n (sym m-is ∙ ap said e)
 
 -- 2. the loop: what is left of the file, its place, and how many messages stand before
 
@@ -64,7 +64,7 @@ pub record CutOn (file rest : List ℕ) (place messages : ℕ) : Type 0 where
   pub short : length file ≤ 65535
   pub few : messages + length rest ≤ length file
   pub at : place + length rest ≡ length file
-  pub come : cutBy (cut_of file) ≡ more messages (cutBy (cutFrom rest 0 place))
+  pub come : cut_by (cut_of file) ≡ more messages (cut_by (cut_from rest 0 place))
 
 pub cut-begins : (file : List ℕ) → length file ≤ 65535 → CutOn file file 0 0
 cut-begins file h =
@@ -72,7 +72,7 @@ cut-begins file h =
       short = h;
       few = omega arith;
       at = omega arith;
-      come = (let z : length (messagesIn (cut_of file)) ≡ 0 + length (messagesIn (cut_of file)) = omega arith in
+      come = (let z : length (messages_in (cut_of file)) ≡ 0 + length (messages_in (cut_of file)) = omega arith in
           ap (λ (k : ℕ). record { number = number_in (cut_of file); place = record { 0 = place_in (cut_of file) }; messages = k }) z);
     }
 
@@ -80,16 +80,16 @@ module _ (file rest : List ℕ) (place messages : ℕ) (on : CutOn file rest pla
   pub cut-counts : messages + 1 < 4294967296
   cut-counts = omega (arith, on.short, on.few)
 
-  pub cut-ends : length rest ≤ 0 → record { number = 0; place = record { 0 = 0 }; messages = messages } ≡ cutBy (cut_of file)
+  pub cut-ends : length rest ≤ 0 → record { number = 0; place = record { 0 = 0 }; messages = messages } ≡ cut_by (cut_of file)
   cut-ends e = go rest e ∙ sym on.come where
     go : (l : List ℕ) → length l ≤ 0
-        → record { number = 0; place = record { 0 = 0 }; messages = messages } ≡ more messages (cutBy (cutFrom l 0 place))
+        → record { number = 0; place = record { 0 = 0 }; messages = messages } ≡ more messages (cut_by (cut_from l 0 place))
     go [] w =
-        unfold cutFrom messagesIn in
+        unfold cut_from messages_in in
         (let z : messages ≡ messages + 0 = omega arith in ap (λ (k : ℕ). record { number = 0; place = record { 0 = 0 }; messages = k }) z)
     go (x ∷ l) w = absurd (omega arith)
 
-  module _ (some : 0 < length rest) (m : Read) (m-is : said m ≡ headerVerdict rest) where
+  module _ (some : 0 < length rest) (m : Read) (m-is : said m ≡ header_verdict rest) where
     module _ (h : Header) (m-reads : m ≡ answer.Message h) where
       pub cut-place : place + h.length < 18446744073709551616
       cut-place = omega (arith, on.at, on.short, header-long rest m m-is h m-reads)
@@ -104,45 +104,45 @@ module _ (file rest : List ℕ) (place messages : ℕ) (on : CutOn file rest pla
             at = omega (arith, on.at);
             come =
                 on.come
-                ∙ ap (λ (ch : Chain). more messages (cutBy ch)) (turn-fits place rest (header-fits rest m m-is h m-reads))
-                ∙ counted (front rest) (cutFrom (drop (size rest) rest) 0 (place + size rest))
-                ∙ ap (λ (k : ℕ). more (messages + 1) (cutBy (cutFrom (drop k rest) 0 (place + k)))) (header-size rest m m-is h m-reads)
-                ∙ ap (λ (l : List ℕ). more (messages + 1) (cutBy (cutFrom l 0 (place + h.length)))) (sym (tail_all rest h.length))
-                ∙ ap (λ (k : ℕ). more (messages + 1) (cutBy (cutFrom (take (length rest - h.length) (drop h.length rest)) 0 k))) (sym next-is);
+                ∙ ap (λ (ch : Chain). more messages (cut_by ch)) (turn-fits place rest (header-fits rest m m-is h m-reads))
+                ∙ counted (front rest) (cut_from (drop (size rest) rest) 0 (place + size rest))
+                ∙ ap (λ (k : ℕ). more (messages + 1) (cut_by (cut_from (drop k rest) 0 (place + k)))) (header-size rest m m-is h m-reads)
+                ∙ ap (λ (l : List ℕ). more (messages + 1) (cut_by (cut_from l 0 (place + h.length)))) (sym (tail_all rest h.length))
+                ∙ ap (λ (k : ℕ). more (messages + 1) (cut_by (cut_from (take (length rest - h.length) (drop h.length rest)) 0 k))) (sym next-is);
           } where
             counted : (o : List ℕ) (ch : Chain)
-                → more messages (cutBy (message (record { place = place; octets = o }) ch)) ≡ more (messages + 1) (cutBy ch)
+                → more messages (cut_by (message (record { place = place; octets = o }) ch)) ≡ more (messages + 1) (cut_by ch)
             counted o ch =
-                unfold messagesIn in
-                (let z : messages + suc (length (messagesIn ch)) ≡ messages + 1 + length (messagesIn ch) = omega arith in
+                unfold messages_in in
+                (let z : messages + suc (length (messages_in ch)) ≡ messages + 1 + length (messages_in ch) = omega arith in
                 ap (λ (i : ℕ). record { number = number_in ch; place = record { 0 = place_in ch }; messages = i }) z)
 
 -- a refusal, at its place
 module _ (file rest : List ℕ) (place : TokenPlace) (messages : ℕ) (on : CutOn file rest place.0 messages) (some : 0 < length rest) (m : Read)
-    (m-is : said m ≡ headerVerdict rest) where
+    (m-is : said m ≡ header_verdict rest) where
   pub cut-stops : (n : ℕ) → m ≡ answer.Refused n → (k : ℕ) → k ≡ number_of (said m)
-      → record { number = k; place = place; messages = messages } ≡ cutBy (cut_of file)
+      → record { number = k; place = place; messages = messages } ≡ cut_by (cut_of file)
   cut-stops n e k k-is =
       let f = header_refused rest m m-is n e in
-      let is : k ≡ firstFailing (commonRows (length rest) (head_of rest)) = k-is ∙ ap (λ (z : Read). number_of (said z)) e ∙ sym f.1 in
-      sym (on.come ∙ ap (λ (ch : Chain). more messages (cutBy ch)) (turn-stops place.0 rest some f.0)
-      ∙ stopped (firstFailing (commonRows (length rest) (head_of rest)))
+      let is : k ≡ first_failing (common_rows (length rest) (head_of rest)) = k-is ∙ ap (λ (z : Read). number_of (said z)) e ∙ sym f.1 in
+      sym (on.come ∙ ap (λ (ch : Chain). more messages (cut_by ch)) (turn-stops place.0 rest some f.0)
+      ∙ stopped (first_failing (common_rows (length rest) (head_of rest)))
       ∙ ap (λ (j : ℕ). record { number = j; place = place; messages = messages }) (sym is)) where
-        stopped : (j : ℕ) → more messages (cutBy (cut_at j place.0)) ≡ record { number = j; place = place; messages = messages }
+        stopped : (j : ℕ) → more messages (cut_by (cut_at j place.0)) ≡ record { number = j; place = place; messages = messages }
         stopped j =
-            unfold messagesIn in
+            unfold messages_in in
             (let z : messages + 0 ≡ messages = omega arith in ap (λ (i : ℕ). record { number = j; place = place; messages = i }) z)
 
 pub ruleset cuts = (header-within, header-less, cut-begins, cut-counts, cut-ends, cut-stops, cut-place, cut_on)
 
 -- 3. the file
 
-pub file-long : (file : List ℕ) → 65535 < length file → record { number = 1; place = record { 0 = 0 }; messages = 0 } ≡ fileCut file
-unfolding fileCut
+pub file-long : (file : List ℕ) → 65535 < length file → record { number = 1; place = record { 0 = 0 }; messages = 0 } ≡ file_cut file
+unfolding file_cut
 file-long file h = rw (lt-leb _ _ h)
 
-pub file-short : (file : List ℕ) → length file ≤ 65535 → (r : Cut) → r ≡ cutBy (cut_of file) → r ≡ fileCut file
-unfolding fileCut
+pub file-short : (file : List ℕ) → length file ≤ 65535 → (r : Cut) → r ≡ cut_by (cut_of file) → r ≡ file_cut file
+unfolding file_cut
 file-short file h r e = rw (le-leb _ _ h) e
 
 pub ruleset files = (file-long, file-short)

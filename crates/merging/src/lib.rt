@@ -1,8 +1,8 @@
 // Two files of a conversation, one a direction: cut into messages, and merged into turns by their numbers.
 ghost use Rattle.std.specs.Prelude.{◌≡◌, ◌+◌, ◌≤◌, length, eqb};
 ghost use Rattle.message.specs.Check.{said};
-ghost use Rattle.sides.specs.Merging.{cut_of, messagesOf, turnsOf, together};
-ghost use Rattle.merging.specs.Merged.{number_of, cutBy, fileCut, ranIn, nextIn};
+ghost use Rattle.sides.specs.Merging.{cut_of, messages_of, turns_of, together};
+ghost use Rattle.merging.specs.Merged.{number_of, cut_by, file_cut, ran_in, next_in};
 
 use message::{Read, read_header};
 use vector::{MessageOffset, TokenPlace, in_token};
@@ -45,7 +45,7 @@ fn number_of(m: Read) -> u32
 // 2 to 6, message by message.
 fn cut_messages(file: &[u8]) -> Cut
     requires { length file.now ≤ 65535 }
-    ensures { result ≡ cutBy (cut_of file.now) }
+    ensures { result ≡ cut_by (cut_of file.now) }
 {
     let mut rest = file;
     let mut place = TokenPlace(0);
@@ -74,7 +74,7 @@ fn cut_messages(file: &[u8]) -> Cut
 
 // 1 to 6 of a file.
 pub fn cut_file(file: &[u8]) -> Cut
-    ensures { result ≡ fileCut file.now }
+    ensures { result ≡ file_cut file.now }
 {
     if 65535 < file.len() {
         return Cut {
@@ -89,7 +89,7 @@ pub fn cut_file(file: &[u8]) -> Cut
 // The longest run at the front of what is left of a file, numbered from `first` on.
 fn run_at(rest: &[u8], first: u32) -> Run
     requires { length rest.now ≤ 65535 }
-    ensures { result ≡ ranIn first rest.now }
+    ensures { result ≡ ran_in first rest.now }
 {
     let mut left = rest;
     let mut octets: usize = 0;
@@ -113,7 +113,7 @@ fn run_at(rest: &[u8], first: u32) -> Run
 // The next turn of what is left of the initiator's file and the acceptor's, numbered from `first` on.
 pub fn next_turn(i: &[u8], a: &[u8], first: u32) -> Next
     requires { (length i.now ≤ 65535) × (length a.now ≤ 65535) }
-    ensures { result ≡ nextIn first i.now a.now }
+    ensures { result ≡ next_in first i.now a.now }
 {
     let irun = run_at(i, first);
     if 0 < irun.messages {
@@ -136,7 +136,7 @@ pub fn next_turn(i: &[u8], a: &[u8], first: u32) -> Next
 // 24: whether the turns of two files have all of their messages, `all` in number.
 pub fn in_row(i: &[u8], a: &[u8], all: u32) -> bool
     requires { (length i.now ≤ 65535) × (length a.now ≤ 65535) }
-    ensures { result ≡ eqb (together (turnsOf (messagesOf i.now) (messagesOf a.now))) all }
+    ensures { result ≡ eqb (together (turns_of (messages_of i.now) (messages_of a.now))) all }
 {
     let mut i_left = i;
     let mut a_left = a;

@@ -5,8 +5,8 @@ use mathlib.Core.Path.{◌≡◌, sym, ap, ◌∙◌}
 use mathlib.Core.List.{List}
 use native.Mathlib.Omega.{arith}
 use borrow.Author.Tests.{le-leb, lt-leb, eq-eqb, ne_eqb}
-use Rattle.message.specs.Layout.{Shape, nego, exchange, verify, alert, shape_of, headerOf}
-use Rattle.message.specs.Check.{refusalOf}
+use Rattle.message.specs.Layout.{Shape, nego, exchange, verify, alert, shape_of, header_of}
+use Rattle.message.specs.Check.{refusal_of}
 
 module _ (kind : ℕ) where
   pub shape-nego : kind ≤ 1 → shape_of kind ≡ nego
@@ -36,20 +36,20 @@ pub last-kind : (n : ℕ) → n ≤ 7 → (n ≡ 0 → ⊥) → (n ≡ 1 → ⊥
 last-kind n h a b c d e f g = above-six n (above-three n a b c d) h e f g
 
 -- every header has at least 64 octets
-pub header-least : (shape : Shape) → 64 ≤ headerOf shape
+pub header-least : (shape : Shape) → 64 ≤ header_of shape
 header-least nego = omega arith
 header-least exchange = omega arith
 header-least verify = omega arith
 header-least alert = omega arith
 
 -- what is known of a layout is known of each type number that has it
-pub header-shape : (s t : Shape) → s ≡ t → headerOf t ≡ headerOf s
-header-shape s t e = ap headerOf (sym e)
+pub header-shape : (s t : Shape) → s ≡ t → header_of t ≡ header_of s
+header-shape s t e = ap header_of (sym e)
 
-pub refusal-shape : (s t : Shape) (m : List ℕ) (x : ℕ) → s ≡ t → x ≡ refusalOf t m → x ≡ refusalOf s m
-refusal-shape s t m x e h = h ∙ ap (λ (y : Shape). refusalOf y m) (sym e)
+pub refusal-shape : (s t : Shape) (m : List ℕ) (x : ℕ) → s ≡ t → x ≡ refusal_of t m → x ≡ refusal_of s m
+refusal-shape s t m x e h = h ∙ ap (λ (y : Shape). refusal_of y m) (sym e)
 
-module _ (kind n : ℕ) (h : headerOf (shape_of kind) ≤ n) where
+module _ (kind n : ℕ) (h : header_of (shape_of kind) ≤ n) where
   pub room-nego : kind ≤ 1 → 96 ≤ n
   room-nego p = rw (shape-nego kind p) at h
 

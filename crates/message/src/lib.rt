@@ -1,7 +1,7 @@
 // One message: its kind, its header, and its checks by itself.
 ghost use Rattle.std.specs.Prelude.{◌≡◌, ◌≤◌, length};
-ghost use Rattle.message.specs.Layout.{shape_of, headerOf};
-ghost use Rattle.message.specs.Check.{said, refusalOf, headerVerdict, messageVerdict, bodyVerdict, Passed};
+ghost use Rattle.message.specs.Layout.{shape_of, header_of};
+ghost use Rattle.message.specs.Check.{said, refusal_of, header_verdict, message_verdict, body_verdict, Passed};
 
 use octets::{le_u32, le_u64};
 
@@ -118,7 +118,7 @@ impl Kind {
 
     // The kind's header length.
     pub fn header(self) -> u32
-        ensures { result ≡ headerOf (shape_of self.0) }
+        ensures { result ≡ header_of (shape_of self.0) }
     {
         if self.0 <= Kind::ACCEPTOR_NEGO {
             return Kind::NEGO_HEADER;
@@ -154,7 +154,7 @@ const SIGNATURE: u64 = 0x5354_5845_4F47_454E;
 
 // Checks 2 to 6 of the message at the front of `rest`.
 pub fn read_header(rest: &[u8]) -> Read
-    ensures { said result ≡ headerVerdict rest.now }
+    ensures { said result ≡ header_verdict rest.now }
 {
     if rest.len() < field::COMMON_HEADER {
         return Read::Refused(2);
@@ -188,8 +188,8 @@ pub fn read_header(rest: &[u8]) -> Read
 
 // The number of the first of checks 10 to 13 that refuses the message m, or 0.
 pub fn refusal(kind: Kind, m: &[u8]) -> u32
-    requires { headerOf (shape_of kind.0) ≤ length m.now }
-    ensures { result ≡ refusalOf (shape_of kind.0) m.now }
+    requires { header_of (shape_of kind.0) ≤ length m.now }
+    ensures { result ≡ refusal_of (shape_of kind.0) m.now }
 {
     if kind.0 <= Kind::ACCEPTOR_NEGO {
         return nego::refusal(m);
@@ -206,7 +206,7 @@ pub fn refusal(kind: Kind, m: &[u8]) -> u32
 // Checks 10 to 13 of the message at the front of `rest`, whose header is h.
 pub fn read_body(rest: &[u8], h: Header) -> Read
     requires { Passed rest.now h }
-    ensures { said result ≡ bodyVerdict rest.now h }
+    ensures { said result ≡ body_verdict rest.now h }
 {
     let length = h.length as usize;
     let number = refusal(h.kind, &rest[..length]);
@@ -218,7 +218,7 @@ pub fn read_body(rest: &[u8], h: Header) -> Read
 
 // Checks 2 to 6 and 10 to 13 of the message at the front of `rest`: all that can be asked of a message by itself.
 pub fn read_message(rest: &[u8]) -> Read
-    ensures { said result ≡ messageVerdict rest.now }
+    ensures { said result ≡ message_verdict rest.now }
 {
     let r = read_header(rest);
     let Read::Message(h) = r else {

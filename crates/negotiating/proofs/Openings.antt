@@ -14,17 +14,17 @@ use Rattle.octets.proofs.Bools.{and_l, and_r}
 use Rattle.message.specs.Show.{ids_of}
 use Rattle.message.proofs.Ids.{length_ids}
 use Rattle.put.specs.Put.{put, Written}
-use Rattle.schemes.specs.Lists.{distinct, oneTo16, listOk}
-use Rattle.schemes.specs.Sets.{padTo}
+use Rattle.schemes.specs.Lists.{distinct, one_to16, list_ok}
+use Rattle.schemes.specs.Sets.{pad_to}
 use Rattle.schemes.proofs.Offers.{paste-pad}
 use Rattle.conversation.specs.declared.Record.{Record}
 use Rattle.conversation.specs.declared.Answer.{Answer}
 use Rattle.conversation.specs.State.{fresh}
-use Rattle.conversation.specs.Outcomes.{zeroId, answered}
+use Rattle.conversation.specs.Outcomes.{zero_id, answered}
 use Rattle.conversation.specs.Writing.{opening}
 
 -- a list put into zeros has zeros after it
-pub put-zeros : (n : ℕ) (own : List ℕ) → length own ≤ n → put (replicate n 0) 0 own ≡ padTo n own
+pub put-zeros : (n : ℕ) (own : List ℕ) → length own ≤ n → put (replicate n 0) 0 own ≡ pad_to n own
 unfolding put
 put-zeros n own h =
     ap (λ (v : List ℕ). v ++ drop (0 + length own) (replicate n 0)) (sym (take-length own))
@@ -51,30 +51,30 @@ pub freshly : (acceptor : Bool) (own conversation list : List ℕ) (k : ℕ) →
       used = 0;
     })
     (fresh acceptor own conversation)
-freshly acceptor own conversation list k h w = let e : list ≡ padTo 256 own = w.holds ∙ put-zeros 256 own h in rw e
+freshly acceptor own conversation list k h w = let e : list ≡ pad_to 256 own = w.holds ∙ put-zeros 256 own h in rw e
 
 -- an own list fits the record's array
-pub own-fits : (own : List ℕ) → listOk own ≡ true → length own ≤ 256
-unfolding listOk
+pub own-fits : (own : List ℕ) → list_ok own ≡ true → length own ≤ 256
+unfolding list_ok
 own-fits own h =
     let n : ℕ = length (ids_of own) in
-    let e : eqb (length own % 16) 0 ≡ true = and_l (eqb (length own % 16) 0) (oneTo16 (ids_of own)) h in
+    let e : eqb (length own % 16) 0 ≡ true = and_l (eqb (length own % 16) 0) (one_to16 (ids_of own)) h in
     let f : leb 1 n && leb n 16 ≡ true =
-    and_l (leb 1 n && leb n 16) (distinct (ids_of own)) (and_r (eqb (length own % 16) 0) (oneTo16 (ids_of own)) h) in
+    and_l (leb 1 n && leb n 16) (distinct (ids_of own)) (and_r (eqb (length own % 16) 0) (one_to16 (ids_of own)) h) in
     let g : leb n 16 ≡ true = and_r (leb 1 n) (leb n 16) f in
     omega (arith, eqb-true (length own % 16) 0 e, leb-true n 16 g, length_ids (length own / 16) own)
 
-module _ (acceptor : Bool) (own conversation : List ℕ) (b : Bool) (b-is : b ≡ listOk own) (next : Record) (a : Answer) where
-  pub opens : b ≡ true → (id : List ℕ) → id ≡ cond acceptor zeroId conversation → next ≡ fresh acceptor own id → a ≡ answered 0 0 next
+module _ (acceptor : Bool) (own conversation : List ℕ) (b : Bool) (b-is : b ≡ list_ok own) (next : Record) (a : Answer) where
+  pub opens : b ≡ true → (id : List ℕ) → id ≡ cond acceptor zero_id conversation → next ≡ fresh acceptor own id → a ≡ answered 0 0 next
       → a ≡ opening acceptor own conversation
   unfolding opening
   opens t id id-is n-is a-is = a-is ∙ rw (← b-is, t, n-is, id-is)
 
-  pub opens_not : b ≡ false → next ≡ fresh acceptor [] zeroId → a ≡ answered 19 0 next → a ≡ opening acceptor own conversation
+  pub opens_not : b ≡ false → next ≡ fresh acceptor [] zero_id → a ≡ answered 19 0 next → a ≡ opening acceptor own conversation
   unfolding opening
   opens_not t n-is a-is = a-is ∙ rw (← b-is, t, n-is)
 
-pub list-fits : (own : List ℕ) (b : Bool) → b ≡ listOk own → b ≡ true → length own ≤ 256
+pub list-fits : (own : List ℕ) (b : Bool) → b ≡ list_ok own → b ≡ true → length own ≤ 256
 list-fits own b e t = own-fits own (sym e ∙ t)
 
 pub ruleset openings = (freshly, opens, opens_not, list-fits)

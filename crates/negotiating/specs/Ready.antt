@@ -2,21 +2,21 @@
 --
 -- Glossary
 --   ChoiceReady       a choice may be made: some scheme is left, and the kept places are the list's
---   namedChoice r m a the answer a of the writer, with the choice of the record r; a refusal with this record
+--   named_choice r m a the answer a of the writer, with the choice of the record r; a refusal with this record
 use Rattle.std.specs.Prelude.{ℕ, ◌≡◌, true, cond, eqb}
-use Rattle.schemes.specs.Sets.{keptBelow, named}
+use Rattle.schemes.specs.Sets.{kept_below, named}
 use Rattle.conversation.specs.declared.Record.{Record}
 use Rattle.conversation.specs.declared.Answer.{Answer}
 use Rattle.conversation.specs.State.{own_of}
 use Rattle.conversation.specs.Outcomes.{answered}
-use Rattle.conversation.specs.Writing.{someLeft, chosenBy}
-use Rattle.conversation.specs.Choosing.{openTo}
+use Rattle.conversation.specs.Writing.{some_left, chosen_by}
+use Rattle.conversation.specs.Choosing.{open_to}
 use Rattle.calls.specs.Calls.{Inside}
 
 pub record ChoiceReady (r : Record) (m : ℕ) : Type 0 where
   pub inside : Inside r
-  pub kept : keptBelow r.count r.kept r.common ≡ true
-  pub some : someLeft (named (own_of r) (openTo r m)) ≡ true
+  pub kept : kept_below r.count r.kept r.common ≡ true
+  pub some : some_left (named (own_of r) (open_to r m)) ≡ true
 
-abbrev pub namedChoice : Record → ℕ → Answer → Answer
-namedChoice r m a = cond (eqb a.refusal 0) (chosenBy (answered 0 0 a.next) (named (own_of r) (openTo r m))) (answered a.refusal 0 r)
+abbrev pub named_choice : Record → ℕ → Answer → Answer
+named_choice r m a = cond (eqb a.refusal 0) (chosen_by (answered 0 0 a.next) (named (own_of r) (open_to r m))) (answered a.refusal 0 r)

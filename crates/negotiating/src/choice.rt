@@ -1,8 +1,8 @@
 // The initiator's choice, which is made with its first later message: what the three calls that choose share.
 ghost use Rattle.std.specs.Prelude.{◌≡◌, ◌&&◌, eqb};
-ghost use Rattle.conversation.specs.Choosing.{choiceRows, chose};
-ghost use Rattle.calls.specs.Calls.{callRefusal};
-ghost use Rattle.negotiating.specs.Ready.{ChoiceReady, namedChoice};
+ghost use Rattle.conversation.specs.Choosing.{choice_rows, chose};
+ghost use Rattle.calls.specs.Calls.{call_refusal};
+ghost use Rattle.negotiating.specs.Ready.{ChoiceReady, named_choice};
 
 use calls::{answer, naming};
 use conversation::limits::outside;
@@ -25,7 +25,7 @@ fn counts_for(early: bool, place: usize, requested: usize) -> bool
 
 // 18, 19, 25, 17 and 18 for a choice with a message of a class, whose content keeps its limits or doesn't: the first that refuses, or 0.
 pub fn choice_refusal(r: Record, class: u8, marks: u16, fit: bool) -> u32
-    ensures { result ≡ callRefusal r (choiceRows r marks fit class) }
+    ensures { result ≡ call_refusal r (choice_rows r marks fit class) }
 {
     let number = outside(r);
     if number != 0 {
@@ -76,7 +76,7 @@ pub fn chosen_record(r: Record, marks: u16) -> Record
 // The answer after the message: it names the choice and how many were left. Where the message was refused, nothing is chosen.
 pub fn name_choice(r: Record, marks: u16, a: Answer) -> Answer
     requires { ChoiceReady r marks }
-    ensures { result ≡ namedChoice r marks a }
+    ensures { result ≡ named_choice r marks a }
 {
     let next = a.next;
     if a.refusal != 0 {

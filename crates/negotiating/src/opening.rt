@@ -1,7 +1,7 @@
 // Opening.
 ghost use Rattle.std.specs.Prelude.{◌≡◌, cond, ◌≤◌, length};
 ghost use Rattle.conversation.specs.State.{fresh};
-ghost use Rattle.conversation.specs.Outcomes.{zeroId};
+ghost use Rattle.conversation.specs.Outcomes.{zero_id};
 ghost use Rattle.conversation.specs.Writing.{opening};
 
 use calls::answer;
@@ -13,7 +13,7 @@ use vector::TokenPlace;
 
 // The conversation that a fresh record has: an acceptor has none yet.
 fn conversation_for(acceptor: bool, conversation: [u8; 16]) -> [u8; 16]
-    ensures { result ≡ cond acceptor zeroId conversation }
+    ensures { result ≡ cond acceptor zero_id conversation }
 {
     if acceptor {
         return [0u8; 16];

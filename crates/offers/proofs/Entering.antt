@@ -13,17 +13,17 @@ use lib.Seq.{drop-drop, set_out, get_or-set_same, get_or-set_other}
 use lib.Dec.{leb, ltb, eqb}
 use borrow.Author.Tests.{le-leb, lt-leb, leb-false, ltb-true, ltb-false, eqb-true, eqb-false}
 use Rattle.octets.proofs.Bools.{which}
-use Rattle.message.specs.Show.{idsAt}
+use Rattle.message.specs.Show.{ids_at}
 use Rattle.put.specs.Put.{put, Written}
 use Rattle.schemes.specs.Lists.{Id, mem}
 use Rattle.offers.specs.declared.Table.{Table}
 use Rattle.coverage.specs.Coverage.{one}
 use Rattle.coverage.proofs.Marks.{one-le}
-use Rattle.offers.specs.Offers.{allIn}
-use Rattle.offers.specs.Table.{namesIn, pickTable, entered_in, enteredAllIn, tickedFrom, offeredIn, Counting}
+use Rattle.offers.specs.Offers.{all_in}
+use Rattle.offers.specs.Table.{names_in, pick_table, entered_in, entered_all_in, ticked_from, offered_in, Counting}
 
 -- ---- `enter`
-module _ (t : Table) (id : Id) (b : Bool) (b-is : b ≡ mem id (idsAt t.count t.ids)) where
+module _ (t : Table) (id : Id) (b : Bool) (b-is : b ≡ mem id (ids_at t.count t.ids)) where
   pub enter-known : b ≡ true → t ≡ entered_in t id
   unfolding entered_in
   enter-known e = rw (sym b-is ∙ e)
@@ -46,23 +46,23 @@ or_no true b e = absurd (let z : ◌≡◌ {A = ℕ} 0 1 = cc in omega arith)
 
 pub entered-few : (t : Table) (s : Id) (r : Table) → t.count ≤ 64 → r ≡ entered_in t s → r.count ≤ 64
 unfolding entered_in
-entered-few t s r h e = rw e (go (mem s (namesIn t) || leb 64 t.count) refl) where
-  go : (b : Bool) → (mem s (namesIn t) || leb 64 t.count) ≡ b
-      → (pickTable b t
+entered-few t s r h e = rw e (go (mem s (names_in t) || leb 64 t.count) refl) where
+  go : (b : Bool) → (mem s (names_in t) || leb 64 t.count) ≡ b
+      → (pick_table b t
       (record { ids = put t.ids (16 * t.count) s; counts = set t.counts t.count 0; count = t.count + 1; others = t.others })).count
       ≤ 64
   go true f = h
-  go false f = let l = leb-false 64 t.count (or_no (mem s (namesIn t)) _ f) in omega arith
+  go false f = let l = leb-false 64 t.count (or_no (mem s (names_in t)) _ f) in omega arith
 
 module _ (a : List ℕ) (whole t : Table) (at : ℕ) where
-  pub entries-done : (n : ℕ) → whole ≡ enteredAllIn t (idsAt n (drop at a)) → n ≤ 0 → t ≡ whole
-  unfolding enteredAllIn idsAt
+  pub entries-done : (n : ℕ) → whole ≡ entered_all_in t (ids_at n (drop at a)) → n ≤ 0 → t ≡ whole
+  unfolding entered_all_in ids_at
   entries-done zero inv h = sym inv
   entries-done (suc n) inv h = absurd (omega arith)
 
-  pub entries-more : (n : ℕ) (r : Table) → whole ≡ enteredAllIn t (idsAt n (drop at a)) → 0 < n → r ≡ entered_in t (take (at + 16 - at) (drop at a))
-      → whole ≡ enteredAllIn r (idsAt (n - 1) (drop (at + 16) a))
-  unfolding enteredAllIn idsAt
+  pub entries-more : (n : ℕ) (r : Table) → whole ≡ entered_all_in t (ids_at n (drop at a)) → 0 < n → r ≡ entered_in t (take (at + 16 - at) (drop at a))
+      → whole ≡ entered_all_in r (ids_at (n - 1) (drop (at + 16) a))
+  unfolding entered_all_in ids_at
   entries-more zero r inv h e = absurd (omega arith)
   entries-more (suc n) r inv h e = inv ∙ simp (sub-one, e, add-sub_cancel_left, drop-drop)
 
@@ -85,14 +85,14 @@ pub below_set : (b k : ℕ) (l : List ℕ) (x : ℕ) → ((j : ℕ) → k ≤ j 
 below_set b k l x h j g = rw (get_or-set_other l k j x 0 (λ e. omega arith)) (h j (omega arith))
 
 module _ (ids : List ℕ) (ss : List Id) (whole counts : List ℕ) (k : ℕ) where
-  pub ticks-done : (n : ℕ) → whole ≡ tickedFrom ids ss n k counts → n ≤ 0 → counts ≡ whole
-  unfolding tickedFrom
+  pub ticks-done : (n : ℕ) → whole ≡ ticked_from ids ss n k counts → n ≤ 0 → counts ≡ whole
+  unfolding ticked_from
   ticks-done zero inv h = sym inv
   ticks-done (suc n) inv h = absurd (omega arith)
 
-  pub ticks-more : (n x : ℕ) → whole ≡ tickedFrom ids ss n k counts → 0 < n → x ≡ one (mem (take (k * 16 + 16 - k * 16) (drop (k * 16) ids)) ss)
-      → whole ≡ tickedFrom ids ss (n - 1) (k + 1) (set counts k (get_or counts k 0 + x))
-  unfolding tickedFrom
+  pub ticks-more : (n x : ℕ) → whole ≡ ticked_from ids ss n k counts → 0 < n → x ≡ one (mem (take (k * 16 + 16 - k * 16) (drop (k * 16) ids)) ss)
+      → whole ≡ ticked_from ids ss (n - 1) (k + 1) (set counts k (get_or counts k 0 + x))
+  unfolding ticked_from
   ticks-more zero x inv h e = absurd (omega arith)
   ticks-more (suc n) x inv h e = inv ∙ simp (sub-one, e, add-sub_cancel_left)
 
@@ -100,19 +100,19 @@ pub ruleset ticks = (ticks-done, ticks-more)
 
 -- ---- `one_beyond`
 module _ (l : List Id) (a : List ℕ) (whole : Bool) (at : ℕ) where
-  pub beyond-end : (n : ℕ) → whole ≡ allIn (idsAt n (drop at a)) l → n ≤ 0 → 0 ≡ one (not whole)
-  unfolding allIn idsAt one
+  pub beyond-end : (n : ℕ) → whole ≡ all_in (ids_at n (drop at a)) l → n ≤ 0 → 0 ≡ one (not whole)
+  unfolding all_in ids_at one
   beyond-end zero inv h = rw inv
   beyond-end (suc n) inv h = absurd (omega arith)
 
   module _ (b : Bool) (b-is : b ≡ mem (take (at + 16 - at) (drop at a)) l) where
-    pub beyond-hit : (n : ℕ) → whole ≡ allIn (idsAt n (drop at a)) l → 0 < n → b ≡ false → 1 ≡ one (not whole)
-    unfolding allIn idsAt one
+    pub beyond-hit : (n : ℕ) → whole ≡ all_in (ids_at n (drop at a)) l → 0 < n → b ≡ false → 1 ≡ one (not whole)
+    unfolding all_in ids_at one
     beyond-hit zero inv h e = absurd (omega arith)
     beyond-hit (suc n) inv h e = let f : mem (take 16 (drop at a)) l ≡ false = simp add-sub_cancel_left at (sym b-is ∙ e) in rw (inv, f)
 
-    pub beyond-more : (n : ℕ) → whole ≡ allIn (idsAt n (drop at a)) l → 0 < n → b ≡ true → whole ≡ allIn (idsAt (n - 1) (drop (at + 16) a)) l
-    unfolding allIn idsAt
+    pub beyond-more : (n : ℕ) → whole ≡ all_in (ids_at n (drop at a)) l → 0 < n → b ≡ true → whole ≡ all_in (ids_at (n - 1) (drop (at + 16) a)) l
+    unfolding all_in ids_at
     beyond-more zero inv h e = absurd (omega arith)
     beyond-more (suc n) inv h e =
         let f : mem (take 16 (drop at a)) l ≡ true = simp add-sub_cancel_left at (sym b-is ∙ e) in
@@ -132,22 +132,22 @@ set-small l k j b h = elim (which (ltb k (length l))) [
 
 counting-entered : (t : Table) (s : Id) → Counting t → Counting (entered_in t s)
 unfolding entered_in
-counting-entered t s c = go (mem s (namesIn t) || leb 64 t.count) refl where
-  go : (b : Bool) → (mem s (namesIn t) || leb 64 t.count) ≡ b
+counting-entered t s c = go (mem s (names_in t) || leb 64 t.count) refl where
+  go : (b : Bool) → (mem s (names_in t) || leb 64 t.count) ≡ b
       → Counting
-      (pickTable b t
+      (pick_table b t
       (record { ids = put t.ids (16 * t.count) s; counts = set t.counts t.count 0; count = t.count + 1; others = t.others }))
   go true f = c
   go false f =
-      let l = leb-false 64 t.count (or_no (mem s (namesIn t)) _ f) in
+      let l = leb-false 64 t.count (or_no (mem s (names_in t)) _ f) in
       record { few = omega arith; small = λ j. set-small t.counts t.count j 9223372036854775808 (c.small j); rest = c.rest }
 
-pub counting-all : (t : Table) (ss : List Id) → Counting t → Counting (enteredAllIn t ss)
-unfolding enteredAllIn
+pub counting-all : (t : Table) (ss : List Id) → Counting t → Counting (entered_all_in t ss)
+unfolding entered_all_in
 counting-all t [] c = c
 counting-all t (s ∷ ss) c = counting-all (entered_in t s) ss (counting-entered t s c)
 
-module _ (t e : Table) (ss : List Id) (k : Counting t) (e-is : e ≡ enteredAllIn t ss) where
+module _ (t e : Table) (ss : List Id) (k : Counting t) (e-is : e ≡ entered_all_in t ss) where
   here : Counting e
   here = rw e-is (counting-all t ss k)
 
@@ -163,10 +163,10 @@ module _ (t e : Table) (ss : List Id) (k : Counting t) (e-is : e ≡ enteredAllI
   pub offer-sum : (x : ℕ) (b : Bool) → x ≡ one b → e.others + x < 2 ^ 64
   offer-sum x b x-is = omega (arith, here.rest, one-le b x x-is)
 
-  pub offer-is : (counts : List ℕ) → counts ≡ tickedFrom e.ids ss e.count 0 e.counts → (x : ℕ)
-      → x ≡ one (not (allIn ss (idsAt e.count e.ids)))
-      → ◌≡◌ {A = Table} (record { ids = e.ids; counts = counts; count = e.count; others = e.others + x }) (offeredIn t ss)
-  unfolding offeredIn
+  pub offer-is : (counts : List ℕ) → counts ≡ ticked_from e.ids ss e.count 0 e.counts → (x : ℕ)
+      → x ≡ one (not (all_in ss (ids_at e.count e.ids)))
+      → ◌≡◌ {A = Table} (record { ids = e.ids; counts = counts; count = e.count; others = e.others + x }) (offered_in t ss)
+  unfolding offered_in
   offer-is counts counts-is x x-is = rw (counts-is, x-is, e-is)
 
 pub ruleset offers = (offer-few, offer-small, offer-room, offer-sum, offer-is)

@@ -17,8 +17,8 @@ use Rattle.schemes.specs.Lists.{Id, mem}
 use Rattle.coverage.specs.Coverage.{one}
 use Rattle.coverage.proofs.Marks.{one-le}
 use Rattle.offers.specs.declared.Table.{Table}
-use Rattle.offers.specs.Offers.{allIn}
-use Rattle.offers.specs.Table.{namesIn, pickTable, entered_in, enteredAllIn, tickedFrom, offeredIn}
+use Rattle.offers.specs.Offers.{all_in}
+use Rattle.offers.specs.Table.{names_in, pick_table, entered_in, entered_all_in, ticked_from, offered_in}
 use Rattle.offers.proofs.Entering.{or_no}
 use Rattle.offers.proofs.Views.{more, from-before}
 
@@ -40,30 +40,30 @@ record Most (t r : Table) : Type 0 where
 
 entered-most : (t : Table) (s : Id) → Most t (entered_in t s)
 unfolding entered_in
-entered-most t s = go (mem s (namesIn t) || leb 64 t.count) refl where
-  go : (b : Bool) → (mem s (namesIn t) || leb 64 t.count) ≡ b
+entered-most t s = go (mem s (names_in t) || leb 64 t.count) refl where
+  go : (b : Bool) → (mem s (names_in t) || leb 64 t.count) ≡ b
       → Most t
-      (pickTable b t
+      (pick_table b t
       (record { ids = put t.ids (16 * t.count) s; counts = set t.counts t.count 0; count = t.count + 1; others = t.others }))
   go true e = record { few = λ h. h; counts = λ j. omega arith; others = refl }
   go false e =
-      let l = leb-false 64 t.count (or_no (mem s (namesIn t)) _ e) in
+      let l = leb-false 64 t.count (or_no (mem s (names_in t)) _ e) in
       record {
         few = λ h. omega arith;
         counts = λ j. set-most t.counts t.count 0 j (get_or t.counts j 0) (omega arith) (omega arith);
         others = refl;
       }
 
-all_most : (t : Table) (ss : List Id) → Most t (enteredAllIn t ss)
-unfolding enteredAllIn
+all_most : (t : Table) (ss : List Id) → Most t (entered_all_in t ss)
+unfolding entered_all_in
 all_most t [] = record { few = λ h. h; counts = λ j. omega arith; others = refl }
 all_most t (s ∷ ss) =
     let a = entered-most t s in let b = all_most (entered_in t s) ss in
     record { few = λ h. b.few (a.few h); counts = λ j. omega (arith, a.counts j, b.counts j); others = b.others ∙ a.others }
 
 module _ (ids : List ℕ) (ss : List Id) where
-  ticked-most : (n k : ℕ) (c : List ℕ) (j : ℕ) → get_or (tickedFrom ids ss n k c) j 0 ≤ get_or c j 0 + 1
-  unfolding tickedFrom
+  ticked-most : (n k : ℕ) (c : List ℕ) (j : ℕ) → get_or (ticked_from ids ss n k c) j 0 ≤ get_or c j 0 + 1
+  unfolding ticked_from
   ticked-most zero k c j = omega arith
   ticked-most (suc n) k c j = elim (which (eqb j k)) [
     | inl e ↦ let f = eqb-true j k e in
@@ -75,15 +75,15 @@ module _ (ids : List ℕ) (ss : List Id) where
   ]
 
 module _ (t : Table) (ss : List Id) where
-  pub offered-few : t.count ≤ 64 → (offeredIn t ss).count ≤ 64
-  unfolding offeredIn
+  pub offered-few : t.count ≤ 64 → (offered_in t ss).count ≤ 64
+  unfolding offered_in
   offered-few h = (all_most t ss).few h
 
-  pub offered-counts : (j : ℕ) → get_or (offeredIn t ss).counts j 0 ≤ get_or t.counts j 0 + 1
-  unfolding offeredIn
+  pub offered-counts : (j : ℕ) → get_or (offered_in t ss).counts j 0 ≤ get_or t.counts j 0 + 1
+  unfolding offered_in
   offered-counts j =
-      omega (arith, (all_most t ss).counts j, ticked-most (enteredAllIn t ss).ids ss (enteredAllIn t ss).count 0 (enteredAllIn t ss).counts j)
+      omega (arith, (all_most t ss).counts j, ticked-most (entered_all_in t ss).ids ss (entered_all_in t ss).count 0 (entered_all_in t ss).counts j)
 
-  pub offered-others : (offeredIn t ss).others ≤ t.others + 1
-  unfolding offeredIn
-  offered-others = omega (arith, (all_most t ss).others, one-le (not (allIn ss (namesIn (enteredAllIn t ss)))) _ refl)
+  pub offered-others : (offered_in t ss).others ≤ t.others + 1
+  unfolding offered_in
+  offered-others = omega (arith, (all_most t ss).others, one-le (not (all_in ss (names_in (entered_all_in t ss)))) _ refl)

@@ -10,18 +10,18 @@ use lib.ListN.{length, length-append}
 use lib.Dec.{leb}
 use borrow.Author.Tests.{le-leb, leb-true, leb-false}
 use Rattle.octets.proofs.Bools.{which}
-use Rattle.octets.specs.Octets.{sameOctets}
+use Rattle.octets.specs.Octets.{same_octets}
 use Rattle.octets.proofs.Same.{same-eq, same_refl}
 use Rattle.schemes.specs.Lists.{Id, mem}
 use Rattle.schemes.proofs.Choice.{mem-head, mem-tail}
-use Rattle.offers.specs.Offers.{entered, enteredAll, mentioned, firstSchemes, listing, allIn, beyond, listings, offersOf, ticked, withOffer, withOffers, OfferCounted}
+use Rattle.offers.specs.Offers.{entered, entered_all, mentioned, first_schemes, listing, all_in, beyond, listings, offers_of, ticked, with_offer, with_offers, OfferCounted}
 use Rattle.coverage.specs.Coverage.{one}
 
 -- ---- membership
 pub mem-append : (s : Id) (l k : List Id) → mem s (l ++ k) ≡ (mem s l || mem s k)
 unfolding mem
 mem-append s [] k = refl
-mem-append s (x ∷ l) k = go (sameOctets s x) (mem-append s l k) where
+mem-append s (x ∷ l) k = go (same_octets s x) (mem-append s l k) where
   go : (b : Bool) → mem s (l ++ k) ≡ (mem s l || mem s k) → cond b true (mem s (l ++ k)) ≡ (cond b true (mem s l) || mem s k)
   go true e = refl
   go false e = e
@@ -41,8 +41,8 @@ entered-keeps l x s h = go (mem x l || leb 64 (length l)) where
   go true = h
   go false = mem-append s l (x ∷ []) ∙ or-true _ _ h
 
-all-keeps : (l xs : List Id) (s : Id) → mem s l ≡ true → mem s (enteredAll l xs) ≡ true
-unfolding enteredAll
+all-keeps : (l xs : List Id) (s : Id) → mem s l ≡ true → mem s (entered_all l xs) ≡ true
+unfolding entered_all
 all-keeps l [] s h = h
 all-keeps l (x ∷ xs) s h = all-keeps (entered l x) xs s (entered-keeps l x s h)
 
@@ -53,8 +53,8 @@ entered-full l x h = rw (le-leb 64 (length l) h) (go (mem x l)) where
   go true = refl
   go false = refl
 
-all-full : (l xs : List Id) → 64 ≤ length l → enteredAll l xs ≡ l
-unfolding enteredAll
+all-full : (l xs : List Id) → 64 ≤ length l → entered_all l xs ≡ l
+unfolding entered_all
 all-full l [] h = refl
 all-full l (x ∷ xs) h = rw (entered-full l x h) (all-full l xs h)
 
@@ -69,29 +69,29 @@ entered-self l x f = rw f (go (which (mem x l))) where
   go (inr e) = rw e (mem-append x l (x ∷ []) ∙ rw (e, last))
 
 -- ---- a scheme that is mentioned and not in the table met a full one
-full-or : (l xs : List Id) (s : Id) → mem s xs ≡ true → (mem s (enteredAll l xs) ≡ true) ⊎ (64 ≤ length (enteredAll l xs))
-unfolding enteredAll mem
+full-or : (l xs : List Id) (s : Id) → mem s xs ≡ true → (mem s (entered_all l xs) ≡ true) ⊎ (64 ≤ length (entered_all l xs))
+unfolding entered_all mem
 full-or l [] s h = absurd (let z : ◌≡◌ {A = ℕ} 0 1 = cc in omega arith)
-full-or l (x ∷ xs) s h = go (sameOctets s x) refl h (λ k. full-or (entered l x) xs s k) where
-  go : (b : Bool) → sameOctets s x ≡ b → cond b true (mem s xs) ≡ true
-      → (mem s xs ≡ true → (mem s (enteredAll (entered l x) xs) ≡ true) ⊎ (64 ≤ length (enteredAll (entered l x) xs)))
-      → (mem s (enteredAll (entered l x) xs) ≡ true) ⊎ (64 ≤ length (enteredAll (entered l x) xs))
+full-or l (x ∷ xs) s h = go (same_octets s x) refl h (λ k. full-or (entered l x) xs s k) where
+  go : (b : Bool) → same_octets s x ≡ b → cond b true (mem s xs) ≡ true
+      → (mem s xs ≡ true → (mem s (entered_all (entered l x) xs) ≡ true) ⊎ (64 ≤ length (entered_all (entered l x) xs)))
+      → (mem s (entered_all (entered l x) xs) ≡ true) ⊎ (64 ≤ length (entered_all (entered l x) xs))
   go false e k r = r k
   go true e k r = elim (which (leb 64 (length l))) [
     | inl f ↦ let m = leb-true 64 (length l) f in inr (rw (entered-full l x m, all-full l xs m) m)
     | inr f ↦ inl (all-keeps (entered l x) xs s (rw (same-eq s x e) (entered-self l x f)))
   ]
 
-all_append : (l xs ys : List Id) → enteredAll l (xs ++ ys) ≡ enteredAll (enteredAll l xs) ys
-unfolding enteredAll
+all_append : (l xs ys : List Id) → entered_all l (xs ++ ys) ≡ entered_all (entered_all l xs) ys
+unfolding entered_all
 all_append l [] ys = refl
 all_append l (x ∷ xs) ys = all_append (entered l x) xs ys
 
 -- so later messages do not change whether it is in the table
-pub stable : (l xs ys : List Id) (s : Id) → mem s xs ≡ true → mem s (enteredAll l (xs ++ ys)) ≡ mem s (enteredAll l xs)
+pub stable : (l xs ys : List Id) (s : Id) → mem s xs ≡ true → mem s (entered_all l (xs ++ ys)) ≡ mem s (entered_all l xs)
 stable l xs ys s h = elim (full-or l xs s h) [
-  | inl e ↦ rw (all_append l xs ys, e) (all-keeps (enteredAll l xs) ys s e)
-  | inr e ↦ rw (all_append l xs ys, all-full (enteredAll l xs) ys e)
+  | inl e ↦ rw (all_append l xs ys, e) (all-keeps (entered_all l xs) ys s e)
+  | inr e ↦ rw (all_append l xs ys, all-full (entered_all l xs) ys e)
 ]
 
 -- ---- a table with one message more
@@ -100,8 +100,8 @@ unfolding mentioned
 mentioned-snoc [] m = append-nil m
 mentioned-snoc (k ∷ ms) m = rw (mentioned-snoc ms m) (sym (append_assoc k (mentioned ms) m))
 
-pub first-snoc : (ms : List (List Id)) (m : List Id) → firstSchemes (ms ++ (m ∷ [])) ≡ enteredAll (firstSchemes ms) m
-unfolding firstSchemes
+pub first-snoc : (ms : List (List Id)) (m : List Id) → first_schemes (ms ++ (m ∷ [])) ≡ entered_all (first_schemes ms) m
+unfolding first_schemes
 first-snoc ms m = rw (mentioned-snoc ms m) (all_append [] (mentioned ms) m)
 
 listing-snoc : (s : Id) (ms : List (List Id)) (m : List Id) → listing s (ms ++ (m ∷ [])) ≡ listing s ms + one (mem s m)
@@ -154,8 +154,8 @@ module _ (P : Id → Type 0) (old : List Id) (enters : (s : Id) → mem s old �
           each = all_snoc P g.new x g.each (enters x m (omega arith));
         }
 
-  grown-all : (l xs : List Id) → Grown P old l → Grown P old (enteredAll l xs)
-  unfolding enteredAll
+  grown-all : (l xs : List Id) → Grown P old l → Grown P old (entered_all l xs)
+  unfolding entered_all
   grown-all l [] g = g
   grown-all l (x ∷ xs) g = grown-all (entered l x) xs (grown-entered l x g)
 
@@ -163,8 +163,8 @@ module _ (P : Id → Type 0) (old : List Id) (enters : (s : Id) → mem s old �
 abbrev Unlisted : List (List Id) → Id → Type 0
 Unlisted ms s = listing s ms ≡ 0
 
-entering : (ms : List (List Id)) (s : Id) → mem s (firstSchemes ms) ≡ false → length (firstSchemes ms) < 64 → Unlisted ms s
-unfolding firstSchemes
+entering : (ms : List (List Id)) (s : Id) → mem s (first_schemes ms) ≡ false → length (first_schemes ms) < 64 → Unlisted ms s
+unfolding first_schemes
 entering ms s out room = elim (which (mem s (mentioned ms))) [
   | inr e ↦ listing_none s ms e
   | inl e ↦ elim (full-or [] (mentioned ms) s e) [
@@ -173,10 +173,10 @@ entering ms s out room = elim (which (mem s (mentioned ms))) [
   ]
 ]
 
-gained : (ms : List (List Id)) (m : List Id) → Grown (Unlisted ms) (firstSchemes ms) (enteredAll (firstSchemes ms) m)
+gained : (ms : List (List Id)) (m : List Id) → Grown (Unlisted ms) (first_schemes ms) (entered_all (first_schemes ms) m)
 gained ms m =
-    grown-all (Unlisted ms) (firstSchemes ms) (entering ms) (firstSchemes ms) m
-    (record { new = []; is = sym (append-nil (firstSchemes ms)); each = tt })
+    grown-all (Unlisted ms) (first_schemes ms) (entering ms) (first_schemes ms) m
+    (record { new = []; is = sym (append-nil (first_schemes ms)); each = tt })
 
 -- ---- the counts
 ticked-new : (ms : List (List Id)) (m : List Id) (k : List Id) → All (Unlisted ms) k → ticked k [] m ≡ listings k (ms ++ (m ∷ []))
@@ -197,42 +197,42 @@ module _ (ms : List (List Id)) (m : List Id) where
   abbrev Mentioned : List Id → Type 0
   Mentioned k = (s : Id) → mem s k ≡ true → mem s (mentioned ms) ≡ true
 
-  allIn-stable : (k : List Id) → Mentioned k → allIn k (firstSchemes (ms ++ (m ∷ []))) ≡ allIn k (firstSchemes ms)
-  unfolding allIn firstSchemes
-  allIn-stable [] h = refl
-  allIn-stable (s ∷ k) h =
-      let e : mem s (enteredAll [] (mentioned (ms ++ (m ∷ [])))) ≡ mem s (enteredAll [] (mentioned ms)) =
+  all_in-stable : (k : List Id) → Mentioned k → all_in k (first_schemes (ms ++ (m ∷ []))) ≡ all_in k (first_schemes ms)
+  unfolding all_in first_schemes
+  all_in-stable [] h = refl
+  all_in-stable (s ∷ k) h =
+      let e : mem s (entered_all [] (mentioned (ms ++ (m ∷ [])))) ≡ mem s (entered_all [] (mentioned ms)) =
       rw (mentioned-snoc ms m) (stable [] (mentioned ms) m s (h s (mem-head s k))) in
-      let f = allIn-stable k (λ t g. h t (mem-tail t s k g)) in
+      let f = all_in-stable k (λ t g. h t (mem-tail t s k g)) in
       rw (e, f)
 
-  beyond-stable : (ks : List (List Id)) → Mentioned (mentioned ks) → beyond (firstSchemes (ms ++ (m ∷ []))) ks ≡ beyond (firstSchemes ms) ks
+  beyond-stable : (ks : List (List Id)) → Mentioned (mentioned ks) → beyond (first_schemes (ms ++ (m ∷ []))) ks ≡ beyond (first_schemes ms) ks
   unfolding beyond mentioned
   beyond-stable [] h = refl
   beyond-stable (k ∷ ks) h =
-      let e = allIn-stable k (λ s g. h s (mem-append s k (mentioned ks) ∙ or-true (mem s k) (mem s (mentioned ks)) g)) in
+      let e = all_in-stable k (λ s g. h s (mem-append s k (mentioned ks) ∙ or-true (mem s k) (mem s (mentioned ks)) g)) in
       let f = beyond-stable ks (λ s g. h s (mem-append s k (mentioned ks) ∙ or_right (mem s k) (mem s (mentioned ks)) g)) in
       rw (e, f)
 
-beyond-snoc : (l : List Id) (ms : List (List Id)) (m : List Id) → beyond l (ms ++ (m ∷ [])) ≡ beyond l ms + one (not (allIn m l))
+beyond-snoc : (l : List Id) (ms : List (List Id)) (m : List Id) → beyond l (ms ++ (m ∷ [])) ≡ beyond l ms + one (not (all_in m l))
 unfolding beyond
 beyond-snoc l [] m = omega arith
 beyond-snoc l (k ∷ ms) m = omega (arith, beyond-snoc l ms m)
 
 -- ---- one message more, and all messages
 pub offer-counted : OfferCounted
-unfolding withOffer offersOf
+unfolding with_offer offers_of
 offer-counted ms m =
     let g = gained ms m in
-    let a : enteredAll (firstSchemes ms) m ≡ firstSchemes (ms ++ (m ∷ [])) = sym (first-snoc ms m) in
-    let c : ticked (enteredAll (firstSchemes ms) m) (listings (firstSchemes ms) ms) m ≡ listings (enteredAll (firstSchemes ms) m) (ms ++ (m ∷ [])) =
-    rw g.is (ticked-is ms m (firstSchemes ms) g.new g.each) in
-    let o : beyond (firstSchemes (ms ++ (m ∷ []))) (ms ++ (m ∷ [])) ≡ beyond (firstSchemes ms) ms + one (not
-    (allIn m (enteredAll (firstSchemes ms) m))) =
-    beyond-snoc (firstSchemes (ms ++ (m ∷ []))) ms m ∙ rw (beyond-stable ms m ms (λ s h. h), first-snoc ms m) in
+    let a : entered_all (first_schemes ms) m ≡ first_schemes (ms ++ (m ∷ [])) = sym (first-snoc ms m) in
+    let c : ticked (entered_all (first_schemes ms) m) (listings (first_schemes ms) ms) m ≡ listings (entered_all (first_schemes ms) m) (ms ++ (m ∷ [])) =
+    rw g.is (ticked-is ms m (first_schemes ms) g.new g.each) in
+    let o : beyond (first_schemes (ms ++ (m ∷ []))) (ms ++ (m ∷ [])) ≡ beyond (first_schemes ms) ms + one (not
+    (all_in m (entered_all (first_schemes ms) m))) =
+    beyond-snoc (first_schemes (ms ++ (m ∷ []))) ms m ∙ rw (beyond-stable ms m ms (λ s h. h), first-snoc ms m) in
     rw (c, ← o, a)
 
-pub offers-counted : (ks ms : List (List Id)) → withOffers (offersOf ks) ms ≡ offersOf (ks ++ ms)
-unfolding withOffers
-offers-counted ks [] = ap offersOf (sym (append-nil ks))
-offers-counted ks (m ∷ ms) = rw (offer-counted ks m) (offers-counted (ks ++ (m ∷ [])) ms ∙ ap offersOf (append_assoc ks (m ∷ []) ms))
+pub offers-counted : (ks ms : List (List Id)) → with_offers (offers_of ks) ms ≡ offers_of (ks ++ ms)
+unfolding with_offers
+offers-counted ks [] = ap offers_of (sym (append-nil ks))
+offers-counted ks (m ∷ ms) = rw (offer-counted ks m) (offers-counted (ks ++ (m ∷ [])) ms ∙ ap offers_of (append_assoc ks (m ∷ []) ms))

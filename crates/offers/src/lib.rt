@@ -1,8 +1,8 @@
 // The schemes that NEGO messages list.
 ghost use Rattle.std.specs.Prelude.{◌≡◌, ℕ, ◌≤◌, ◌<◌, ◌*◌, not, length, get_or};
-ghost use Rattle.message.specs.Show.{idsAt, ids_of};
-ghost use Rattle.offers.specs.Table.{entered_in, enteredAllIn, tickedFrom, offeredIn, Counting};
-ghost use Rattle.offers.specs.Offers.{allIn};
+ghost use Rattle.message.specs.Show.{ids_at, ids_of};
+ghost use Rattle.offers.specs.Table.{entered_in, entered_all_in, ticked_from, offered_in, Counting};
+ghost use Rattle.offers.specs.Offers.{all_in};
 ghost use Rattle.coverage.specs.Coverage.{one};
 ghost use Rattle.schemes.specs.Lists.{mem};
 
@@ -46,7 +46,7 @@ fn enter(t: Table, id: &[u8]) -> Table
 // The table with each id of a list entered in order.
 fn enter_all(t: Table, list: &[u8]) -> Table
     requires { t.count ≤ 64 }
-    ensures { result ≡ enteredAllIn t (ids_of list.now) }
+    ensures { result ≡ entered_all_in t (ids_of list.now) }
 {
     let mut entered = t;
     let mut at: usize = 0;
@@ -74,7 +74,7 @@ fn one_listed(list: &[u8], id: &[u8]) -> u64
 // Each count, with one more where the list has its id: a repeat inside the list counts once.
 fn tick(ids: &[u8], n: usize, counts: [u64; 64], list: &[u8]) -> [u64; 64]
     requires { (n ≤ 64) × (n * 16 ≤ length ids.now) × ((j : ℕ) → get_or counts j 0 < 9223372036854775808) }
-    ensures { result ≡ tickedFrom ids.now (ids_of list.now) n 0 counts }
+    ensures { result ≡ ticked_from ids.now (ids_of list.now) n 0 counts }
 {
     let mut ticked = counts;
     let mut k: usize = 0;
@@ -92,7 +92,7 @@ fn tick(ids: &[u8], n: usize, counts: [u64; 64], list: &[u8]) -> [u64; 64]
 // One where a list has an id that is none of the n.
 fn one_beyond(ids: &[u8], n: usize, list: &[u8]) -> u64
     requires { n * 16 ≤ length ids.now }
-    ensures { result ≡ one (not (allIn (ids_of list.now) (idsAt n ids.now))) }
+    ensures { result ≡ one (not (all_in (ids_of list.now) (ids_at n ids.now))) }
 {
     let mut at: usize = 0;
     let mut left = list.len() / field::ID;
@@ -110,7 +110,7 @@ fn one_beyond(ids: &[u8], n: usize, list: &[u8]) -> u64
 // The table with a message more, whose schemes stand in a list.
 pub fn add_offer(t: Table, list: &[u8]) -> Table
     requires { Counting t }
-    ensures { result ≡ offeredIn t (ids_of list.now) }
+    ensures { result ≡ offered_in t (ids_of list.now) }
 {
     let entered = enter_all(t, list);
     let count = entered.count as usize;

@@ -2,8 +2,8 @@
 // for the header, or the vector breaks its rule, there is nothing to show, and a number is 0.
 ghost use Rattle.std.specs.Prelude.{◌≡◌, ◌+◌, ◌≤◌};
 ghost use Rattle.vector.specs.Vector.{shown};
-ghost use Rattle.message.specs.Layout.{schemeVector, extensionVector, exchangeVector, checksumVector, alertVector};
-ghost use Rattle.message.specs.Show.{id_at, nestedOf, signedIn, extensionType, checksumType, errorCode};
+ghost use Rattle.message.specs.Layout.{scheme_vector, extension_vector, exchange_vector, checksum_vector, alert_vector};
+ghost use Rattle.message.specs.Show.{id_at, nested_of, signed_in, extension_type, checksum_type, error_code};
 
 use message::field::{
     alert_vector, checksum_vector, exchange_vector, extension_vector, octet_vector, scheme_vector,
@@ -27,7 +27,7 @@ pub fn scheme(m: &[u8]) -> &[u8]
 
 // The scheme vector's octets, 16 a scheme.
 pub fn schemes(m: &[u8]) -> &[u8]
-    ensures { result.now ≡ shown 96 m.now (schemeVector m.now) }
+    ensures { result.now ≡ shown 96 m.now (scheme_vector m.now) }
 {
     if m.len() < Kind::NEGO_HEADER_LEN {
         return &m[..0];
@@ -37,7 +37,7 @@ pub fn schemes(m: &[u8]) -> &[u8]
 
 // The extension vector's octets, 12 an extension.
 pub fn extensions(m: &[u8]) -> &[u8]
-    ensures { result.now ≡ shown 96 m.now (extensionVector m.now) }
+    ensures { result.now ≡ shown 96 m.now (extension_vector m.now) }
 {
     if m.len() < Kind::NEGO_HEADER_LEN {
         return &m[..0];
@@ -47,7 +47,7 @@ pub fn extensions(m: &[u8]) -> &[u8]
 
 // The exchange's octets.
 pub fn exchange(m: &[u8]) -> &[u8]
-    ensures { result.now ≡ shown 64 m.now (exchangeVector m.now) }
+    ensures { result.now ≡ shown 64 m.now (exchange_vector m.now) }
 {
     if m.len() < Kind::EXCHANGE_HEADER_LEN {
         return &m[..0];
@@ -57,7 +57,7 @@ pub fn exchange(m: &[u8]) -> &[u8]
 
 // The checksum value's octets.
 pub fn checksum(m: &[u8]) -> &[u8]
-    ensures { result.now ≡ shown 80 m.now (checksumVector m.now) }
+    ensures { result.now ≡ shown 80 m.now (checksum_vector m.now) }
 {
     if m.len() < Kind::VERIFY_HEADER_LEN {
         return &m[..0];
@@ -67,7 +67,7 @@ pub fn checksum(m: &[u8]) -> &[u8]
 
 // The alert vector's octets, 12 an alert.
 pub fn alerts(m: &[u8]) -> &[u8]
-    ensures { result.now ≡ shown 72 m.now (alertVector m.now) }
+    ensures { result.now ≡ shown 72 m.now (alert_vector m.now) }
 {
     if m.len() < Kind::ALERT_HEADER_LEN {
         return &m[..0];
@@ -77,7 +77,7 @@ pub fn alerts(m: &[u8]) -> &[u8]
 
 // The value of element k of an array of m, as a part of m; nothing beyond the array.
 fn value(header: u32, m: &[u8], array: Vector, k: u32) -> &[u8]
-    ensures { result.now ≡ nestedOf header m.now array k }
+    ensures { result.now ≡ nested_of header m.now array k }
 {
     let elements = vector_octets(header, m, array);
     let at = field::ELEMENT * k as usize;
@@ -89,7 +89,7 @@ fn value(header: u32, m: &[u8], array: Vector, k: u32) -> &[u8]
 
 // The value of extension k.
 pub fn extension_value(m: &[u8], k: u32) -> &[u8]
-    ensures { result.now ≡ nestedOf 96 m.now (extensionVector m.now) k }
+    ensures { result.now ≡ nested_of 96 m.now (extension_vector m.now) k }
 {
     if m.len() < Kind::NEGO_HEADER_LEN {
         return &m[..0];
@@ -99,7 +99,7 @@ pub fn extension_value(m: &[u8], k: u32) -> &[u8]
 
 // The value of alert k.
 pub fn alert_value(m: &[u8], k: u32) -> &[u8]
-    ensures { result.now ≡ nestedOf 72 m.now (alertVector m.now) k }
+    ensures { result.now ≡ nested_of 72 m.now (alert_vector m.now) k }
 {
     if m.len() < Kind::ALERT_HEADER_LEN {
         return &m[..0];
@@ -110,7 +110,7 @@ pub fn alert_value(m: &[u8], k: u32) -> &[u8]
 // The signed number at an offset of m; 0 where m has fewer than `least` octets.
 fn signed_in(least: usize, m: &[u8], at: usize) -> i32
     requires { at + 4 ≤ least }
-    ensures { result ≡ signedIn least m.now at }
+    ensures { result ≡ signed_in least m.now at }
 {
     if m.len() < least {
         return 0;
@@ -120,7 +120,7 @@ fn signed_in(least: usize, m: &[u8], at: usize) -> i32
 
 // The type of extension k; 0 beyond the array.
 pub fn extension_type(m: &[u8], k: u32) -> i32
-    ensures { result ≡ extensionType m.now k }
+    ensures { result ≡ extension_type m.now k }
 {
     let elements = extensions(m);
     let at = field::ELEMENT * k as usize;
@@ -129,14 +129,14 @@ pub fn extension_type(m: &[u8], k: u32) -> i32
 
 // The type of a VERIFY's checksum.
 pub fn checksum_type(m: &[u8]) -> i32
-    ensures { result ≡ checksumType m.now }
+    ensures { result ≡ checksum_type m.now }
 {
     signed_in(Kind::VERIFY_HEADER_LEN, m, field::CHECKSUM_TYPE)
 }
 
 // An ALERT's error code.
 pub fn error_code(m: &[u8]) -> i32
-    ensures { result ≡ errorCode m.now }
+    ensures { result ≡ error_code m.now }
 {
     signed_in(Kind::ALERT_HEADER_LEN, m, field::ERROR_CODE)
 }

@@ -1,5 +1,5 @@
 // Playing a script: its lines in order, at two ends.
-ghost use Rattle.console.specs.Console.{holds};
+ghost use Rattle.console.specs.Console.{Holds};
 
 use super::end::{End, Ends, both_closed, end_of, held, moved, used, with_end};
 use bytes::scan::find;
@@ -126,7 +126,7 @@ fn play_front(buf: &[u8], n: usize) {
 
 // Plays the script in the file with a name, by way of a buffer that the caller lends, and writes what its calls answer to standard output.
 pub fn play_file(name: &[u8], buf: &mut [u8]) -> Loaded
-    ensures { holds result buf.new }
+    ensures { Holds result buf.new }
 {
     let loaded = load(name, buf);
     match loaded {

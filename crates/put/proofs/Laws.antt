@@ -8,7 +8,7 @@ use native.Mathlib.Numerals.{add-one}
 use native.Mathlib.Omega.{arith}
 use lib.ListN.{length, drop, take, get_or, set, length-append, length-drop, take-append-drop}
 use lib.Seq.{drop-drop, drop_at, take_at, length-take-le, paste, paste-suc, take-length}
-use Rattle.put.specs.Put.{put, octetsOf, joined, Written}
+use Rattle.put.specs.Put.{put, octets_of, joined, Written}
 
 pub put-none : (d : List ℕ) (at : ℕ) → put d at [] ≡ d
 unfolding put
@@ -77,7 +77,7 @@ pub copy_step : (d : List ℕ) (at : ℕ) (v : List ℕ) (i : ℕ) → at + leng
     → set (paste d at v i) (at + i) (get_or v i 0) ≡ paste d at v (i + 1)
 copy_step d at v i h k = rw add-one (paste-suc d at v i 0 (omega arith) k)
 
-pub as_number : {d d' : List ℕ} {at x y next : ℕ} (k : ℕ) → x ≡ y → Written d at k (octetsOf k x) d' next → Written d at k (octetsOf k y) d' next
+pub as_number : {d d' : List ℕ} {at x y next : ℕ} (k : ℕ) → x ≡ y → Written d at k (octets_of k x) d' next → Written d at k (octets_of k y) d' next
 as_number {x} {y} k e w = rw (← e) w
 
 -- of the room for k octets, what is left behind n of them that one writer put

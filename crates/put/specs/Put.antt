@@ -2,7 +2,7 @@
 --
 -- Glossary
 --   put d at v               d with the octets v from `at` on, and every other octet as it was
---   octetsOf k x             the number x in k octets, least significant octet first
+--   octets_of k x             the number x in k octets, least significant octet first
 --   unsigned32 z             the 32-bit number that stands for the signed number z, in two's complement
 --   joined fs                the octets of the fields fs, one behind the other
 --   Written d at n v d' next the n octets v were put into d at `at`: d' is the list afterwards, `next` the place behind them
@@ -12,9 +12,9 @@ unfoldable pub put : List ℕ → ℕ → List ℕ → List ℕ
 put d at v = take at d ++ v ++ drop (at + length v) d
 
 -- "All numbers are little endian."
-abbrev pub octetsOf : ℕ → ℕ → List ℕ
-octetsOf zero x = []
-octetsOf (suc k) x = x % 256 ∷ octetsOf k (x / 256)
+abbrev pub octets_of : ℕ → ℕ → List ℕ
+octets_of zero x = []
+octets_of (suc k) x = x % 256 ∷ octets_of k (x / 256)
 
 -- "Extension type, checksum type and error code are signed 32-bit numbers": zero or more the number itself, below zero the number and 2 ^ 32.
 -- (negsuc n is the number minus 1 minus n.)

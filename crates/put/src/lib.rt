@@ -1,6 +1,6 @@
 // Octets and numbers written into a lent slice. Each writer answers the place behind what it wrote.
 ghost use Rattle.std.specs.Prelude.{◌≡◌, ◌+◌, ◌≤◌, length};
-ghost use Rattle.put.specs.Put.{Written, octetsOf, unsigned32};
+ghost use Rattle.put.specs.Put.{Written, octets_of, unsigned32};
 
 // Octets, as they are.
 pub fn put_octets(d: &mut [u8], at: usize, v: &[u8]) -> usize
@@ -19,7 +19,7 @@ pub fn put_octets(d: &mut [u8], at: usize, v: &[u8]) -> usize
 // A number in two octets.
 pub fn put_u16(d: &mut [u8], at: usize, x: u16) -> usize
     requires { at + 2 ≤ length d.old }
-    ensures { Written d.old at 2 (octetsOf 2 x) d.new result }
+    ensures { Written d.old at 2 (octets_of 2 x) d.new result }
 {
     let v = [(x % 256) as u8, (x / 256 % 256) as u8];
     put_octets(d, at, &v)
@@ -28,7 +28,7 @@ pub fn put_u16(d: &mut [u8], at: usize, x: u16) -> usize
 // A number in four octets.
 pub fn put_u32(d: &mut [u8], at: usize, x: u32) -> usize
     requires { at + 4 ≤ length d.old }
-    ensures { Written d.old at 4 (octetsOf 4 x) d.new result }
+    ensures { Written d.old at 4 (octets_of 4 x) d.new result }
 {
     let y = x / 256;
     let z = y / 256;
@@ -56,7 +56,7 @@ pub fn from_i32(z: i32) -> u32
 // A signed number in four octets.
 pub fn put_i32(d: &mut [u8], at: usize, z: i32) -> usize
     requires { at + 4 ≤ length d.old }
-    ensures { Written d.old at 4 (octetsOf 4 (unsigned32 z)) d.new result }
+    ensures { Written d.old at 4 (octets_of 4 (unsigned32 z)) d.new result }
 {
     put_u32(d, at, from_i32(z))
 }

@@ -17,36 +17,36 @@ use Rattle.message.specs.declared.Header.{Header}
 use Rattle.message.specs.declared.Read.{Read}
 use Rattle.message.specs.declared.Read.TheVariants as answer
 use Rattle.message.specs.Layout.{head_of}
-use Rattle.message.specs.Check.{firstFailing, said, fields_of}
+use Rattle.message.specs.Check.{first_failing, said, fields_of}
 use Rattle.message.proofs.Tables.{verdict-refused}
-use Rattle.token.specs.Token.{nextRows, passes, nextVerdict, Chain, chainOf}
+use Rattle.token.specs.Token.{next_rows, passes, next_verdict, Chain, chain_of}
 use Rattle.token.proofs.Cuts.{turn-pass, turn-fail}
 use Rattle.token.proofs.Messages.{passed, size_is, sized, ends-within, left_less, left-count, left-place, short}
 use Rattle.conversation.specs.declared.Record.{Record}
 use Rattle.conversation.specs.declared.Scan.{Scan}
 use Rattle.conversation.specs.Turns.{reads}
 use Rattle.conversation.specs.Admitting.{Admitted, admit}
-use Rattle.conversation.specs.Reading.{conversationOf, start_of, Judged, whole, halted, thenJudge, judge, judged}
+use Rattle.conversation.specs.Reading.{conversation_of, start_of, Judged, whole, halted, then_judge, judge, judged}
 use Rattle.admitting.specs.declared.Admission.{Admission}
 use Rattle.admitting.specs.declared.Admission.TheVariants as admission
 use Rattle.admitting.specs.Admissions.{admitted}
 use Rattle.admitting.proofs.Admits.{admitted-named}
 use Rattle.receiving.specs.declared.Judgement.{Judgement}
-use Rattle.receiving.specs.Receiving.{judgedAs, cutBy, haltedBy}
+use Rattle.receiving.specs.Receiving.{judged_as, cut_by, halted_by}
 
 -- a refusal, at its place
 module _ (place : ℕ) where
-  pub cut-here : (m : Read) (n : ℕ) → m ≡ answer.Refused n → halted n place ≡ cutBy (said m) place
-  cut-here m n e = sym (ap (λ (z : Read). cutBy (said z) place) e)
+  pub cut-here : (m : Read) (n : ℕ) → m ≡ answer.Refused n → halted n place ≡ cut_by (said m) place
+  cut-here m n e = sym (ap (λ (z : Read). cut_by (said z) place) e)
 
-  pub cut-not : (m : Read) (h : Header) → m ≡ answer.Message h → halted 0 place ≡ cutBy (said m) place
-  cut-not m h e = sym (ap (λ (z : Read). cutBy (said z) place) e)
+  pub cut-not : (m : Read) (h : Header) → m ≡ answer.Message h → halted 0 place ≡ cut_by (said m) place
+  cut-not m h e = sym (ap (λ (z : Read). cut_by (said z) place) e)
 
-  pub halted-here : (a : Admission) (n : ℕ) → a ≡ admission.Stop n → halted n place ≡ haltedBy (admitted a) place
-  halted-here a n e = sym (ap (λ (z : Admission). haltedBy (admitted z) place) e)
+  pub halted-here : (a : Admission) (n : ℕ) → a ≡ admission.Stop n → halted n place ≡ halted_by (admitted a) place
+  halted-here a n e = sym (ap (λ (z : Admission). halted_by (admitted z) place) e)
 
-  pub halted-not : (a : Admission) (c : Scan) → a ≡ admission.On c → halted 0 place ≡ haltedBy (admitted a) place
-  halted-not a c e = sym (ap (λ (z : Admission). haltedBy (admitted z) place) e)
+  pub halted-not : (a : Admission) (c : Scan) → a ≡ admission.On c → halted 0 place ≡ halted_by (admitted a) place
+  halted-not a c e = sym (ap (λ (z : Admission). halted_by (admitted z) place) e)
 
 -- what is carried into the first message
 module _ (r : Record) (c : Scan) (c-is : c ≡ start_of r) where
@@ -57,7 +57,7 @@ module _ (r : Record) (c : Scan) (c-is : c ≡ start_of r) where
   start-judged t ms = ap (λ (z : Scan). judge r t 0 z ms) (sym c-is)
 
 -- a message that is read, and what is left after it
-module _ (rest : List ℕ) (q : ℕ) (v : List ℕ) (m : Read) (m-is : said m ≡ nextVerdict rest q v) (h : Header) (m-reads : m ≡ answer.Message h) where
+module _ (rest : List ℕ) (q : ℕ) (v : List ℕ) (m : Read) (m-is : said m ≡ next_verdict rest q v) (h : Header) (m-reads : m ≡ answer.Message h) where
   here : (64 ≤ h.length) × (h.length ≤ length rest)
   here = sized rest q v m m-is h m-reads
 
@@ -71,57 +71,57 @@ module _ (rest : List ℕ) (q : ℕ) (v : List ℕ) (m : Read) (m-is : said m �
   place-fits at L e w = omega (arith, here)
 
   module _ (r : Record) (t : List ℕ) (c : Scan) (a : Admission) (a-is : admitted a ≡ admit r t c (take h.length rest)) where
-    judged-here : (at n : ℕ) → judge r t n c (chainOf rest 0 at q v)
-        ≡ thenJudge (admitted a) at (λ d. judge r t (n + 1) d (chainOf (drop h.length rest) 0 (at + h.length) (q + 1) v))
+    judged-here : (at n : ℕ) → judge r t n c (chain_of rest 0 at q v)
+        ≡ then_judge (admitted a) at (λ d. judge r t (n + 1) d (chain_of (drop h.length rest) 0 (at + h.length) (q + 1) v))
     unfolding judge
     judged-here at n =
         ap (judge r t n c) (turn-pass at q v rest (passed rest q v m m-is h m-reads).0)
-        ∙ ap (λ (k : ℕ). thenJudge (admit r t c (take k rest)) at (λ d. judge r t (n + 1) d (chainOf (drop k rest) 0 (at + k) (q + 1) v)))
+        ∙ ap (λ (k : ℕ). then_judge (admit r t c (take k rest)) at (λ d. judge r t (n + 1) d (chain_of (drop k rest) 0 (at + k) (q + 1) v)))
         (size_is rest q v m m-is h m-reads)
-        ∙ ap (λ (z : Admitted). thenJudge z at (λ d. judge r t (n + 1) d (chainOf (drop h.length rest) 0 (at + h.length) (q + 1) v))) (sym a-is)
+        ∙ ap (λ (z : Admitted). then_judge z at (λ d. judge r t (n + 1) d (chain_of (drop h.length rest) 0 (at + h.length) (q + 1) v))) (sym a-is)
 
-    pub judge-stopped : (at n : ℕ) (x : Judged) → x ≡ judge r t n c (chainOf rest 0 at q v) → (k : ℕ) → a ≡ admission.Stop k → (y : Judgement)
-        → judgedAs y ≡ haltedBy (admitted a) at → judgedAs y ≡ x
+    pub judge-stopped : (at n : ℕ) (x : Judged) → x ≡ judge r t n c (chain_of rest 0 at q v) → (k : ℕ) → a ≡ admission.Stop k → (y : Judgement)
+        → judged_as y ≡ halted_by (admitted a) at → judged_as y ≡ x
     judge-stopped at n x inv k e y y-is =
-        y-is ∙ ap (λ (z : Admission). haltedBy (admitted z) at) e
+        y-is ∙ ap (λ (z : Admission). halted_by (admitted z) at) e
         ∙ sym (inv ∙ judged-here at n
-        ∙ ap (λ (z : Admission). thenJudge (admitted z) at
-        (λ d. judge r t (n + 1) d (chainOf (drop h.length rest) 0 (at + h.length) (q + 1) v))) e)
+        ∙ ap (λ (z : Admission). then_judge (admitted z) at
+        (λ d. judge r t (n + 1) d (chain_of (drop h.length rest) 0 (at + h.length) (q + 1) v))) e)
 
     module _ (d : Scan) (a-on : a ≡ admission.On d) where
       pub judge-named : (n : ℕ) → c.named ≤ n → d.named ≤ n + 1
       judge-named n w = let u = admitted-named r t c (take h.length rest) d (sym a-is ∙ ap admitted a-on) in omega arith
 
-      pub judge-on : (at n : ℕ) (x : Judged) → x ≡ judge r t n c (chainOf rest 0 at q v) → (next : ℕ) → next ≡ at + h.length
-          → x ≡ judge r t (n + 1) d (chainOf (take (length rest - h.length) (drop h.length rest)) 0 next (q + 1) v)
+      pub judge-on : (at n : ℕ) (x : Judged) → x ≡ judge r t n c (chain_of rest 0 at q v) → (next : ℕ) → next ≡ at + h.length
+          → x ≡ judge r t (n + 1) d (chain_of (take (length rest - h.length) (drop h.length rest)) 0 next (q + 1) v)
       judge-on at n x inv next next-is =
           inv ∙ judged-here at n
-          ∙ ap (λ (z : Admission). thenJudge (admitted z) at
-          (λ e. judge r t (n + 1) e (chainOf (drop h.length rest) 0 (at + h.length) (q + 1) v))) a-on
-          ∙ ap (λ (l : List ℕ). judge r t (n + 1) d (chainOf l 0 (at + h.length) (q + 1) v)) (sym (tail_all rest h.length))
-          ∙ ap (λ (k : ℕ). judge r t (n + 1) d (chainOf (take (length rest - h.length) (drop h.length rest)) 0 k (q + 1) v)) (sym next-is)
+          ∙ ap (λ (z : Admission). then_judge (admitted z) at
+          (λ e. judge r t (n + 1) e (chain_of (drop h.length rest) 0 (at + h.length) (q + 1) v))) a-on
+          ∙ ap (λ (l : List ℕ). judge r t (n + 1) d (chain_of l 0 (at + h.length) (q + 1) v)) (sym (tail_all rest h.length))
+          ∙ ap (λ (k : ℕ). judge r t (n + 1) d (chain_of (take (length rest - h.length) (drop h.length rest)) 0 k (q + 1) v)) (sym next-is)
 
 -- a message that 2 to 13 refuse
 cut-chain : (r : Record) (t rest : List ℕ) (at q : ℕ) (v : List ℕ) (n : ℕ) (c : Scan) → 0 < length rest → passes rest q v ≡ false
-    → judge r t n c (chainOf rest 0 at q v) ≡ halted (firstFailing (nextRows rest q v)) at
+    → judge r t n c (chain_of rest 0 at q v) ≡ halted (first_failing (next_rows rest q v)) at
 unfolding judge
 cut-chain r t rest at q v n c some e = ap (judge r t n c) (turn-fail at q v rest some e)
 
 module _ (r : Record) (t rest : List ℕ) (at q : ℕ) (v : List ℕ) (n : ℕ) (c : Scan) (x : Judged)
-    (inv : x ≡ judge r t n c (chainOf rest 0 at q v)) where
+    (inv : x ≡ judge r t n c (chain_of rest 0 at q v)) where
   pub judge-end : length rest ≤ 0 → whole n c ≡ x
   judge-end e = go rest e ∙ sym inv where
-    go : (l : List ℕ) → length l ≤ 0 → whole n c ≡ judge r t n c (chainOf l 0 at q v)
-    go [] w = unfold chainOf judge in refl
+    go : (l : List ℕ) → length l ≤ 0 → whole n c ≡ judge r t n c (chain_of l 0 at q v)
+    go [] w = unfold chain_of judge in refl
     go (y ∷ l) w = absurd (omega arith)
 
-  pub judge-cut : 0 < length rest → (m : Read) → said m ≡ nextVerdict rest q v → (k : ℕ) → m ≡ answer.Refused k → (y : Judgement)
-      → judgedAs y ≡ cutBy (said m) at → judgedAs y ≡ x
+  pub judge-cut : 0 < length rest → (m : Read) → said m ≡ next_verdict rest q v → (k : ℕ) → m ≡ answer.Refused k → (y : Judgement)
+      → judged_as y ≡ cut_by (said m) at → judged_as y ≡ x
   judge-cut some m m-is k e y y-is =
-      y-is ∙ ap (λ (z : Read). cutBy (said z) at) e ∙ ap (λ (j : ℕ). halted j at) (sym failed.1)
+      y-is ∙ ap (λ (z : Read). cut_by (said z) at) e ∙ ap (λ (j : ℕ). halted j at) (sym failed.1)
       ∙ sym (inv ∙ cut-chain r t rest at q v n c some failed.0) where
-        failed : (passes rest q v ≡ false) × (firstFailing (nextRows rest q v) ≡ k)
-        failed = unfold nextVerdict in verdict-refused (nextRows rest q v) (fields_of (head_of rest)) k (sym m-is ∙ ap said e)
+        failed : (passes rest q v ≡ false) × (first_failing (next_rows rest q v) ≡ k)
+        failed = unfold next_verdict in verdict-refused (next_rows rest q v) (fields_of (head_of rest)) k (sym m-is ∙ ap said e)
 
 pub ruleset refusals = (cut-here, cut-not, halted-here, halted-not)
 
@@ -150,16 +150,16 @@ module _ (token : ℕ) (t own : List ℕ) where
 
 -- the whole token
 module _ (r : Record) (t : List ℕ) where
-  pub expected-is : (token : ℕ) → token ≡ reads r → (v : List ℕ) → v ≡ cond (eqb token 0) (octets 16 t 24) r.conversation → v ≡ conversationOf r t
-  unfolding conversationOf
+  pub expected-is : (token : ℕ) → token ≡ reads r → (v : List ℕ) → v ≡ cond (eqb token 0) (octets 16 t 24) r.conversation → v ≡ conversation_of r t
+  unfolding conversation_of
   expected-is token token-is v v-is = v-is ∙ ap (λ (k : ℕ). cond (eqb k 0) (octets 16 t 24) r.conversation) token-is
 
-  pub conversation-first : (token : ℕ) → token ≡ reads r → token ≡ 0 → (x : List ℕ) → x ≡ octets 16 t 24 → x ≡ conversationOf r t
-  unfolding conversationOf
+  pub conversation-first : (token : ℕ) → token ≡ reads r → token ≡ 0 → (x : List ℕ) → x ≡ octets 16 t 24 → x ≡ conversation_of r t
+  unfolding conversation_of
   conversation-first token token-is e x x-is = rw (eq-eqb (reads r) 0 (sym token-is ∙ e)) x-is
 
-  pub conversation-own : (token : ℕ) → token ≡ reads r → (token ≡ 0 → ⊥) → r.conversation ≡ conversationOf r t
-  unfolding conversationOf
+  pub conversation-own : (token : ℕ) → token ≡ reads r → (token ≡ 0 → ⊥) → r.conversation ≡ conversation_of r t
+  unfolding conversation_of
   conversation-own token token-is e = rw (ne_eqb (reads r) 0 (λ q. e (token-is ∙ q)))
 
   pub judged-short : length t < 40 → halted 2 0 ≡ judged r t
@@ -167,17 +167,17 @@ module _ (r : Record) (t : List ℕ) where
     some : eqb (length t) 0 ≡ false → 0 < length t
     some e = let u : length t ≡ 0 → ⊥ = eqb-false _ _ e in omega arith
 
-    f : (passes t r.sequence (conversationOf r t) ≡ false) × (firstFailing (nextRows t r.sequence (conversationOf r t)) ≡ 2)
-    f = short t r.sequence (conversationOf r t) h
+    f : (passes t r.sequence (conversation_of r t) ≡ false) × (first_failing (next_rows t r.sequence (conversation_of r t)) ≡ 2)
+    f = short t r.sequence (conversation_of r t) h
 
     go : (eqb (length t) 0 ≡ true) ⊎ (eqb (length t) 0 ≡ false) → halted 2 0 ≡ judged r t
     go (inl e) = unfold judged judge in rw e
     go (inr e) =
         unfold judged in
-        rw e (sym (cut-chain r t t 0 r.sequence (conversationOf r t) 0 (start_of r) (some e) f.0 ∙ ap (λ (k : ℕ). halted k 0) f.1))
+        rw e (sym (cut-chain r t t 0 r.sequence (conversation_of r t) 0 (start_of r) (some e) f.0 ∙ ap (λ (k : ℕ). halted k 0) f.1))
 
-  pub judged-whole : 40 ≤ length t → (v : List ℕ) → v ≡ conversationOf r t → (x : Judged)
-      → x ≡ judge r t 0 (start_of r) (chainOf t 0 0 r.sequence v) → x ≡ judged r t
+  pub judged-whole : 40 ≤ length t → (v : List ℕ) → v ≡ conversation_of r t → (x : Judged)
+      → x ≡ judge r t 0 (start_of r) (chain_of t 0 0 r.sequence v) → x ≡ judged r t
   unfolding judged
   judged-whole h v v-is x x-is =
       let some : length t ≡ 0 → ⊥ = λ z. omega arith in

@@ -1,37 +1,37 @@
 -- What the functions of src/ answer and ask, beside the definitions of a conversation.
 --
 -- Glossary
---   judgedAs         what an answer of src/ says of a token
---   cutBy, haltedBy  a message's refusal by 2 to 13, or by 14 and 15, at its place
+--   judged_as         what an answer of src/ says of a token
+--   cut_by, halted_by  a message's refusal by 2 to 13, or by 14 and 15, at its place
 --   Taking r size n  what the record after a token of n messages relies on
---   withSets         a record with another common set and other kept places
---   movedBy          what every accepted token changes in a record
+--   with_sets         a record with another common set and other kept places
+--   moved_by          what every accepted token changes in a record
 --   Judging          what 16 and the record rely on after the messages
---   haltedAs         the answer to a token that is halted
+--   halted_as         the answer to a token that is halted
 use Rattle.std.specs.Prelude.{ℕ, ◌≤◌, ◌≡◌, List, length}
 use Rattle.message.specs.Check.{Verdict, read, refused as V·refused}
 use Rattle.conversation.specs.declared.Record.{Record}
 use Rattle.conversation.specs.declared.Scan.{Scan}
 use Rattle.conversation.specs.declared.Answer.{Answer}
-use Rattle.conversation.specs.Outcomes.{answered, closedBy}
+use Rattle.conversation.specs.Outcomes.{answered, closed_by}
 use Rattle.conversation.specs.Admitting.{Admitted, on, stop}
 use Rattle.conversation.specs.Reading.{Judged, whole, halted, judged, taken}
 use Rattle.calls.specs.Calls.{Inside}
 use Rattle.receiving.specs.declared.Judgement.{Judgement}
 use Rattle.receiving.specs.declared.Judgement.TheVariants as judgement
 
-abbrev pub judgedAs : Judgement → Judged
-judgedAs (judgement.Whole n c) = whole n c
-judgedAs (judgement.Halted n p) = halted n p.0
+abbrev pub judged_as : Judgement → Judged
+judged_as (judgement.Whole n c) = whole n c
+judged_as (judgement.Halted n p) = halted n p.0
 
 -- a message that is read has no refusal, and 0 stands for that
-abbrev pub cutBy : Verdict → ℕ → Judged
-cutBy (read h) place = halted 0 place
-cutBy (V·refused n) place = halted n place
+abbrev pub cut_by : Verdict → ℕ → Judged
+cut_by (read h) place = halted 0 place
+cut_by (V·refused n) place = halted n place
 
-abbrev pub haltedBy : Admitted → ℕ → Judged
-haltedBy (on c) place = halted 0 place
-haltedBy (stop n) place = halted n place
+abbrev pub halted_by : Admitted → ℕ → Judged
+halted_by (on c) place = halted 0 place
+halted_by (stop n) place = halted n place
 
 pub record Taking (r : Record) (size n : ℕ) : Type 0 where
   pub inside : Inside r
@@ -39,8 +39,8 @@ pub record Taking (r : Record) (size n : ℕ) : Type 0 where
   pub short : size ≤ 65535
   pub messages : n ≤ size
 
-abbrev pub withSets : Record → ℕ → List ℕ → Record
-withSets r x k = record {
+abbrev pub with_sets : Record → ℕ → List ℕ → Record
+with_sets r x k = record {
   acceptor = r.acceptor;
   stage = r.stage;
   position = r.position;
@@ -60,15 +60,15 @@ withSets r x k = record {
 }
 
 -- only the first token and the reply change the common schemes and the kept places
-abbrev pub movedBy : Record → List ℕ → ℕ → Scan → Record
-movedBy r t n c = withSets (taken r t n c) r.common r.kept
+abbrev pub moved_by : Record → List ℕ → ℕ → Scan → Record
+moved_by r t n c = with_sets (taken r t n c) r.common r.kept
 
 pub record Judging (r : Record) (t : List ℕ) (j : Judgement) : Type 0 where
   pub inside : Inside r
   pub short : length t ≤ 65535
-  pub says : judgedAs j ≡ judged r t
+  pub says : judged_as j ≡ judged r t
 
 -- a whole token has no refusal, and 0 stands for that
-abbrev pub haltedAs : Record → Judged → Answer
-haltedAs r (whole n c) = answered 0 0 r
-haltedAs r (halted number place) = answered number place (closedBy number r)
+abbrev pub halted_as : Record → Judged → Answer
+halted_as r (whole n c) = answered 0 0 r
+halted_as r (halted number place) = answered number place (closed_by number r)

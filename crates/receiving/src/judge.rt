@@ -2,11 +2,11 @@
 ghost use Rattle.std.specs.Prelude.{◌≡◌, cond, ◌≤◌, length, eqb};
 ghost use Rattle.octets.specs.Octets.{octets};
 ghost use Rattle.message.specs.Check.{said};
-ghost use Rattle.token.specs.Token.{chainOf};
-ghost use Rattle.conversation.specs.Reading.{start_of, conversationOf, judge, judged};
+ghost use Rattle.token.specs.Token.{chain_of};
+ghost use Rattle.conversation.specs.Reading.{start_of, conversation_of, judge, judged};
 ghost use Rattle.calls.specs.Calls.{Inside};
 ghost use Rattle.admitting.specs.Admissions.{admitted};
-ghost use Rattle.receiving.specs.Receiving.{judgedAs, cutBy, haltedBy};
+ghost use Rattle.receiving.specs.Receiving.{judged_as, cut_by, halted_by};
 
 use super::Judgement;
 use admitting::Admission;
@@ -20,7 +20,7 @@ use vector::{MessageOffset, TokenPlace, in_token};
 
 // A message that 2 to 13 refuse, at its place.
 fn cut_at(reading: Read, place: TokenPlace) -> Judgement
-    ensures { judgedAs result ≡ cutBy (said reading) place.0 }
+    ensures { judged_as result ≡ cut_by (said reading) place.0 }
 {
     match reading {
         Read::Refused(n) => Judgement::Halted(n, place),
@@ -30,7 +30,7 @@ fn cut_at(reading: Read, place: TokenPlace) -> Judgement
 
 // A message that 14 or 15 stop, at its place.
 fn halted_at(admission: Admission, place: TokenPlace) -> Judgement
-    ensures { judgedAs result ≡ haltedBy (admitted admission) place.0 }
+    ensures { judged_as result ≡ halted_by (admitted admission) place.0 }
 {
     match admission {
         Admission::Stop(n) => Judgement::Halted(n, place),
@@ -54,7 +54,7 @@ fn start_of(r: Record) -> Scan
 // The messages of a token, each by 2 to 13 and then by 14 and 15.
 fn judge_messages(r: Record, t: &[u8], conversation: &[u8]) -> Judgement
     requires { Inside r × (length t.now ≤ 65535) }
-    ensures { judgedAs result ≡ judge r t.now 0 (start_of r) (chainOf t.now 0 0 r.sequence conversation.now) }
+    ensures { judged_as result ≡ judge r t.now 0 (start_of r) (chain_of t.now 0 0 r.sequence conversation.now) }
 {
     let mut rest = t;
     let mut place = TokenPlace(0);
@@ -83,7 +83,7 @@ fn judge_messages(r: Record, t: &[u8], conversation: &[u8]) -> Judgement
 // The conversation that a token's messages must have: an acceptor takes it from the first.
 pub(crate) fn conversation_of(r: Record, t: &[u8]) -> [u8; 16]
     requires { 40 ≤ length t.now }
-    ensures { result ≡ conversationOf r t.now }
+    ensures { result ≡ conversation_of r t.now }
 {
     let token = reading_token(r.acceptor, r.stage);
     if token == Turn::FIRST {
@@ -106,7 +106,7 @@ fn expected<'a>(token: u8, t: &'a [u8], own: &'a [u8]) -> &'a [u8]
 // 2 to 15, message by message.
 pub(crate) fn judge_token(r: Record, t: &[u8]) -> Judgement
     requires { Inside r × (length t.now ≤ 65535) }
-    ensures { judgedAs result ≡ judged r t.now }
+    ensures { judged_as result ≡ judged r t.now }
 {
     if t.len() < field::COMMON_HEADER {
         return Judgement::Halted(2, TokenPlace(0));

@@ -1,9 +1,9 @@
 // Reading a peer's token into a conversation record.
 ghost use Rattle.std.specs.Prelude.{◌≡◌, ◌+◌, ◌≤◌, length};
-ghost use Rattle.conversation.specs.Outcomes.{leaving, closedBy};
-ghost use Rattle.conversation.specs.Reading.{accepted, finish, tokenRows, readingToken};
-ghost use Rattle.calls.specs.Calls.{callRefusal};
-ghost use Rattle.receiving.specs.Receiving.{Taking, Judging, judgedAs, haltedAs};
+ghost use Rattle.conversation.specs.Outcomes.{leaving, closed_by};
+ghost use Rattle.conversation.specs.Reading.{accepted, finish, token_rows, reading_token};
+ghost use Rattle.calls.specs.Calls.{call_refusal};
+ghost use Rattle.receiving.specs.Receiving.{Taking, Judging, judged_as, halted_as};
 
 use calls::{answer, has_room};
 use conversation::limits::outside;
@@ -26,7 +26,7 @@ pub enum Judgement {
 
 // 18 and 1: the first that refuses before any message is looked at, or 0.
 fn refusal_before(r: Record, size: usize) -> u32
-    ensures { result ≡ callRefusal r (tokenRows r size) }
+    ensures { result ≡ call_refusal r (token_rows r size) }
 {
     let number = outside(r);
     if number != 0 {
@@ -43,7 +43,7 @@ fn refusal_before(r: Record, size: usize) -> u32
 
 // The record after a token's refusal: 12 closes it.
 fn closed_by(number: u32, r: Record) -> Record
-    ensures { result ≡ closedBy number r }
+    ensures { result ≡ closed_by number r }
 {
     if number != 12 {
         return r;
@@ -55,7 +55,7 @@ fn closed_by(number: u32, r: Record) -> Record
 
 // A token's refusal, at its place.
 fn refuse_halted(r: Record, judgement: Judgement) -> Answer
-    ensures { result ≡ haltedAs r (judgedAs judgement) }
+    ensures { result ≡ halted_as r (judged_as judgement) }
 {
     match judgement {
         Judgement::Halted(number, place) => answer(number, place, closed_by(number, r)),
@@ -83,7 +83,7 @@ fn accept(r: Record, transcript: &mut [u8], t: &[u8], messages: u32, scan: Scan)
 // 16, after all messages.
 fn finish_token(r: Record, transcript: &mut [u8], t: &[u8], judgement: Judgement) -> Answer
     requires { Judging r t.now judgement }
-    ensures { leaving result transcript.new ≡ finish r transcript.old t.now (judgedAs judgement) }
+    ensures { leaving result transcript.new ≡ finish r transcript.old t.now (judged_as judgement) }
 {
     let Judgement::Whole(messages, scan) = judgement else {
         return refuse_halted(r, judgement);
@@ -96,7 +96,7 @@ fn finish_token(r: Record, transcript: &mut [u8], t: &[u8], judgement: Judgement
 
 // A peer's token, read into the record and put at the transcript's end.
 pub fn read(r: Record, transcript: &mut [u8], token: &[u8]) -> Answer
-    ensures { leaving result transcript.new ≡ readingToken r transcript.old token.now }
+    ensures { leaving result transcript.new ≡ reading_token r transcript.old token.now }
 {
     let number = refusal_before(r, token.len());
     if number != 0 {

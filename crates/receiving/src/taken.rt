@@ -1,7 +1,7 @@
 // The record after an accepted token.
 ghost use Rattle.std.specs.Prelude.{◌≡◌, length};
-ghost use Rattle.conversation.specs.Reading.{countsAfter, taken};
-ghost use Rattle.receiving.specs.Receiving.{Taking, movedBy};
+ghost use Rattle.conversation.specs.Reading.{counts_after, taken};
+ghost use Rattle.receiving.specs.Receiving.{Taking, moved_by};
 
 use super::judge::conversation_of;
 use admitting::named::listed;
@@ -12,7 +12,7 @@ use schemes::set::{common_set, full_set};
 
 // Whether the own one VERIFY is spent after a token: the acceptor's first later token fixes the choice, and with it whether an early one counts.
 fn counts_after(r: Record, scan: Scan) -> bool
-    ensures { result ≡ countsAfter r scan }
+    ensures { result ≡ counts_after r scan }
 {
     if r.stage != Record::REPLY {
         return r.attested;
@@ -26,7 +26,7 @@ fn counts_after(r: Record, scan: Scan) -> bool
 // What every accepted token changes: stage, turn, conversation, and what was carried out of it.
 fn moved(r: Record, t: &[u8], messages: u32, scan: Scan) -> Record
     requires { Taking r (length t.now) messages }
-    ensures { result ≡ movedBy r t.now messages scan }
+    ensures { result ≡ moved_by r t.now messages scan }
 {
     let token = reading_token(r.acceptor, r.stage);
     let conversation = conversation_of(r, t);

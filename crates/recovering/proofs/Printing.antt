@@ -5,8 +5,8 @@ use mathlib.Core.List.{List}
 use native.Mathlib.Omega.{arith}
 use lib.ListN.{length}
 use Rattle.console.proofs.Printing.{END}
-use Rattle.recovery.specs.Recovery.{recoveredLines}
+use Rattle.recovery.specs.Recovery.{recovered_lines}
 use Rattle.recovery.proofs.Bounds.{few-recovered}
 
-pub recovered-few : (s : List ℕ) → length s < END - 1 → length (recoveredLines s) < END
+pub recovered-few : (s : List ℕ) → length s < END - 1 → length (recovered_lines s) < END
 recovered-few s h = omega (arith, few-recovered s)

@@ -1,13 +1,13 @@
 // The lines of a damaged capture on a file descriptor.
 ghost use Rattle.std.specs.Prelude.{◌≡◌, length};
-ghost use Rattle.console.specs.Console.{holds};
-ghost use Rattle.recovery.specs.Recovery.{recoveredLines};
+ghost use Rattle.console.specs.Console.{Holds};
+ghost use Rattle.recovery.specs.Recovery.{recovered_lines};
 
 use console::Loaded;
 
 // Writes the lines of a file, window by window, and answers the number of its lines.
 pub fn print(fd: i32, file: &[u8]) -> usize
-    ensures { result ≡ length (recoveredLines file.now) }
+    ensures { result ≡ length (recovered_lines file.now) }
 {
     let mut text = [0u8; 65536];
     let mut first: usize = 0;
@@ -24,7 +24,7 @@ pub fn print(fd: i32, file: &[u8]) -> usize
 
 // Lists what can still be read of the file with a name, by way of a buffer that the caller lends.
 pub fn recover_file(fd: i32, name: &[u8], buf: &mut [u8]) -> Loaded
-    ensures { holds result buf.new }
+    ensures { Holds result buf.new }
 {
     let loaded = console::load(name, buf);
     match loaded {

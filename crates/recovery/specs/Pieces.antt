@@ -3,9 +3,9 @@
 -- Glossary
 --   start, extent       where a piece begins, and how many octets it has
 --   FollowOn a ps e     the pieces ps follow on from the place a up to e: each has octets, and begins where the one before it ends
---   octetsIn s p        the octets of the piece p of the file s; joinedIn s ps: those of pieces, one behind the other
+--   octets_in s p        the octets of the piece p of the file s; joined_in s ps: those of pieces, one behind the other
 --   Apart ps            no two skipped stretches stand side by side
---   movedPiece n p      a piece with its place moved by n; movedPieces: pieces
+--   moved_piece n p      a piece with its place moved by n; movedPieces: pieces
 --   PiecesCover         the pieces of a file follow on from its first octet to its end, and their octets, joined, are the file's
 --   PiecesApart         no two skipped stretches of a file stand side by side
 --   TakenReadable       where a message is taken, a message can be read, and it is that one
@@ -18,12 +18,12 @@
 use Rattle.std.specs.Prelude.{ℕ, ◌+◌, ◌<◌, ◌≤◌, ◌≡◌, true, false, length, take, drop, get_or}
 use mathlib.Core.List.{List, [], ◌∷◌, ◌++◌, map, Memᴰ}
 use Rattle.message.specs.Layout.{front}
-use Rattle.token.specs.Token.{Placed, Accepted, tokenOf}
+use Rattle.token.specs.Token.{Placed, Accepted, token_of}
 use Rattle.put.specs.Put.{joined}
-use Rattle.lines.specs.Lines.{endLine}
+use Rattle.lines.specs.Lines.{end_line}
 use Rattle.windows.specs.Windows.{texts}
 use Rattle.listing.specs.Listing.{lines_of}
-use Rattle.recovery.specs.Recovery.{readable, taken_of, Piece, taken, skipped, pieces_of, allPieceLines, recoveredLines}
+use Rattle.recovery.specs.Recovery.{readable, taken_of, Piece, taken, skipped, pieces_of, all_piece_lines, recovered_lines}
 
 abbrev pub start : Piece → ℕ
 start (taken m) = m.place
@@ -38,15 +38,15 @@ abbrev pub FollowOn : ℕ → List Piece → ℕ → Type 0
 FollowOn a [] end = a ≡ end
 FollowOn a (p ∷ ps) end = (start p ≡ a) × ((0 < extent p) × FollowOn (a + extent p) ps end)
 
-abbrev pub octetsIn : List ℕ → Piece → List ℕ
-octetsIn s p = take (extent p) (drop (start p) s)
+abbrev pub octets_in : List ℕ → Piece → List ℕ
+octets_in s p = take (extent p) (drop (start p) s)
 
-abbrev pub joinedIn : List ℕ → List Piece → List ℕ
-joinedIn s [] = []
-joinedIn s (p ∷ ps) = octetsIn s p ++ joinedIn s ps
+abbrev pub joined_in : List ℕ → List Piece → List ℕ
+joined_in s [] = []
+joined_in s (p ∷ ps) = octets_in s p ++ joined_in s ps
 
 abbrev pub PiecesCover : Type 0
-PiecesCover = (s : List ℕ) → FollowOn 0 (pieces_of s) (length s) × (joinedIn s (pieces_of s) ≡ s)
+PiecesCover = (s : List ℕ) → FollowOn 0 (pieces_of s) (length s) × (joined_in s (pieces_of s) ≡ s)
 
 -- "each longest skipped stretch"
 abbrev pub Apart : List Piece → Type 0
@@ -71,29 +71,29 @@ SkippedUnreadable =
     (s : List ℕ) (place n : ℕ) → Memᴰ (skipped place n) (pieces_of s)
     → (i : ℕ) → place ≤ i → i < place + n → readable (drop i s) ≡ false
 
-abbrev pub movedPiece : ℕ → Piece → Piece
-movedPiece n (taken m) = taken (record { place = n + m.place; octets = m.octets })
-movedPiece n (skipped place k) = skipped (n + place) k
+abbrev pub moved_piece : ℕ → Piece → Piece
+moved_piece n (taken m) = taken (record { place = n + m.place; octets = m.octets })
+moved_piece n (skipped place k) = skipped (n + place) k
 
-abbrev pub movedPieces : ℕ → List Piece → List Piece
-movedPieces n ps = map (movedPiece n) ps
+abbrev pub moved_pieces : ℕ → List Piece → List Piece
+moved_pieces n ps = map (moved_piece n) ps
 
 -- "If damage lies wholly before a place where the tool takes a message in the damaged file": the file is x, with the damage, and then the tail t
 abbrev pub TailAlone : Type 0
 TailAlone =
     (x t : List ℕ) (ps : List Piece) (m : Placed) (qs : List Piece)
     → pieces_of (x ++ t) ≡ ps ++ (taken m ∷ qs) → m.place ≡ length x
-    → taken m ∷ qs ≡ movedPieces (length x) (pieces_of t)
+    → taken m ∷ qs ≡ moved_pieces (length x) (pieces_of t)
 
 -- "then from there on, last line aside, the list is that of the undamaged tail read alone, with places shifted"
 abbrev pub TailLines : Type 0
 TailLines =
     (x t : List ℕ) (ps : List Piece) (m : Placed) (qs : List Piece)
     → pieces_of (x ++ t) ≡ ps ++ (taken m ∷ qs) → m.place ≡ length x → length (x ++ t) ≤ 65535
-    → (recoveredLines (x ++ t)
-    ≡ texts (allPieceLines ps)
-    ++ (texts (allPieceLines (movedPieces (length x) (pieces_of t))) ++ (joined (endLine (length (taken_of (x ++ t))) (length (x ++ t))) ∷ [])))
-    × (recoveredLines t ≡ texts (allPieceLines (movedPieces 0 (pieces_of t))) ++ (joined (endLine (length (taken_of t)) (length t)) ∷ []))
+    → (recovered_lines (x ++ t)
+    ≡ texts (all_piece_lines ps)
+    ++ (texts (all_piece_lines (moved_pieces (length x) (pieces_of t))) ++ (joined (end_line (length (taken_of (x ++ t))) (length (x ++ t))) ∷ [])))
+    × (recovered_lines t ≡ texts (all_piece_lines (moved_pieces 0 (pieces_of t))) ++ (joined (end_line (length (taken_of t)) (length t)) ∷ []))
 
 -- the damage may also have changed how many octets stand before the place
 abbrev pub DamageBefore : Type 0
@@ -101,15 +101,15 @@ DamageBefore =
     (x y t : List ℕ) (ps ps' : List Piece) (m m' : Placed) (qs qs' : List Piece)
     → pieces_of (x ++ t) ≡ ps ++ (taken m ∷ qs) → m.place ≡ length x
     → pieces_of (y ++ t) ≡ ps' ++ (taken m' ∷ qs') → m'.place ≡ length y
-    → movedPieces (length y) (taken m ∷ qs) ≡ movedPieces (length x) (taken m' ∷ qs')
+    → moved_pieces (length y) (taken m ∷ qs) ≡ moved_pieces (length x) (taken m' ∷ qs')
 
 abbrev pub WholeToken : Type 0
 WholeToken =
-    (s : List ℕ) (ps : List Placed) → tokenOf s ≡ Accepted ps
-    → (pieces_of s ≡ map taken ps) × (recoveredLines s ≡ lines_of s)
+    (s : List ℕ) (ps : List Placed) → token_of s ≡ Accepted ps
+    → (pieces_of s ≡ map taken ps) × (recovered_lines s ≡ lines_of s)
 
 abbrev pub ShortRecovered : Type 0
-ShortRecovered = (s : List ℕ) (k : ℕ) → length (get_or (recoveredLines s) k []) < 128
+ShortRecovered = (s : List ℕ) (k : ℕ) → length (get_or (recovered_lines s) k []) < 128
 
 abbrev pub FewRecovered : Type 0
-FewRecovered = (s : List ℕ) → length (recoveredLines s) ≤ length s + 1
+FewRecovered = (s : List ℕ) → length (recovered_lines s) ≤ length s + 1

@@ -1,9 +1,9 @@
 // Reading a damaged capture: every message that can still be read, and the stretches between them; and windows of their lines.
 ghost use Rattle.std.specs.Prelude.{◌≡◌, ◌≤◌, length};
 ghost use Rattle.text.specs.Text.{text, written};
-ghost use Rattle.windows.specs.Windows.{asWindow, windowOf};
+ghost use Rattle.windows.specs.Windows.{as_window, window_of};
 ghost use Rattle.windows.specs.Steps.{within, steps, Going};
-ghost use Rattle.recovery.specs.Recovery.{skippedLine, recoveredLines};
+ghost use Rattle.recovery.specs.Recovery.{skipped_line, recovered_lines};
 ghost use Rattle.recovery.specs.Scans.{scanned, stretch, advanced, InFile, ShowsPieces};
 
 use listing::{show_end, show_message, show_refusal};
@@ -23,7 +23,7 @@ pub struct Scan {
 
 // The line of a skipped stretch, from the front of a lent slice on.
 fn skipped_text(d: &mut [u8], place: TokenPlace, n: usize) -> usize
-    ensures { text d.new result ≡ written (skippedLine place.0 n) (text d.old 0) }
+    ensures { text d.new result ≡ written (skipped_line place.0 n) (text d.old 0) }
 {
     let placed = wide_field(d, 0, b"skipped at=", place.0);
     let counted = wide_field(d, placed, b" length=", n);
@@ -102,7 +102,7 @@ fn show_pieces(p: Progress, d: &mut [u8], file: &[u8]) -> Scan
 
 // A window of the lines: as many whole lines from `from` up to, not including, `end` as fit stand at the buffer's front.
 pub fn window(file: &[u8], from: usize, end: usize, d: &mut [u8]) -> Shown
-    ensures { asWindow result d.new ≡ windowOf (recoveredLines file.now) from end d.old }
+    ensures { as_window result d.new ≡ window_of (recovered_lines file.now) from end d.old }
 {
     let progress = start(from, end);
     if 65535 < file.len() {

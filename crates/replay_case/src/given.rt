@@ -1,6 +1,6 @@
 // The lines of a case: a side's file, and its marks with its list.
 ghost use Rattle.std.specs.Prelude.{◌≡◌, false, length};
-ghost use Rattle.replay_case.specs.Given.{behindWord, givenAs, given_of};
+ghost use Rattle.replay_case.specs.Given.{behind_word, given_as, given_of};
 
 use fields::hex::Decoded;
 use fields::number::Number;
@@ -19,7 +19,7 @@ pub struct GivenText {
 
 // What stands behind the word at the front of a line; nothing where it does not begin so.
 pub(crate) fn read_behind<'a>(line: &'a [u8], word: &[u8]) -> &'a [u8]
-    ensures { result.now ≡ behindWord word.now line.now }
+    ensures { result.now ≡ behind_word word.now line.now }
 {
     if is_word(part(line, 0, word.len()), word) {
         return part(line, word.len(), line.len());
@@ -40,7 +40,7 @@ fn none() -> GivenText
 
 // The marks and the ids of a line whose first field is a word.
 pub(crate) fn read_given(line: &[u8], word: &[u8], lent: &mut [u8]) -> GivenText
-    ensures { givenAs result lent.new ≡ given_of word.now line.now (length lent.old) }
+    ensures { given_as result lent.new ≡ given_of word.now line.now (length lent.old) }
 {
     if is_word(field(line, 0), word) {} else {
         return none();

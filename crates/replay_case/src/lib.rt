@@ -1,6 +1,6 @@
 // The text of a case: four lines, in their order. Where they stand is found first, then each is read.
 ghost use Rattle.std.specs.Prelude.{◌≡◌, false, cond, ◌&&◌, ltb, length};
-ghost use Rattle.replay_case.specs.Case.{caseAs, caseIn, counts as Case·counts};
+ghost use Rattle.replay_case.specs.Case.{case_as, case_in, counts as Case·counts};
 ghost use Rattle.replay_case.specs.Steps.{NextLine, NameLine, FourLines};
 
 use bytes::scan::find;
@@ -137,7 +137,7 @@ fn four_lines(text: &[u8]) -> Places
 
 // Reads the text of a case. The ids of each side are put at the front of its slice.
 pub fn read_case(text: &[u8], ilist: &mut [u8], alist: &mut [u8]) -> CaseText
-    ensures { caseAs result text.now ilist.new alist.new ≡ caseIn text.now (length ilist.old)
+    ensures { case_as result text.now ilist.new alist.new ≡ case_in text.now (length ilist.old)
         (length alist.old) }
 {
     let lines = four_lines(text);

@@ -1,5 +1,5 @@
 // Replaying a case: its text and its two files read, and what the replay says written to standard output.
-ghost use Rattle.console.specs.Console.{holds};
+ghost use Rattle.console.specs.Console.{Holds};
 
 use console::{Loaded, load};
 use fields::part;
@@ -89,7 +89,7 @@ fn replay_front(buf: &[u8], n: usize) {
 
 // Replays the case in the file with a name, by way of a buffer that the caller lends, and writes what is to be seen of it to standard output.
 pub fn replay_file(name: &[u8], buf: &mut [u8]) -> Loaded
-    ensures { holds result buf.new }
+    ensures { Holds result buf.new }
 {
     let loaded = load(name, buf);
     match loaded {

@@ -1,7 +1,7 @@
 // The turns of a replay, each played and then shown.
 ghost use Rattle.std.specs.Prelude.{◌≡◌, true};
 ghost use Rattle.sides.specs.Replay.{finished};
-ghost use Rattle.replaying.specs.Playing.{endingAs, summary, playedAs, counted, rest_of, Fine};
+ghost use Rattle.replaying.specs.Playing.{ending_as, summary, played_as, counted, rest_of, Fine};
 
 use conversation::Record;
 use fields::part;
@@ -76,8 +76,8 @@ fn show_turns(
     d: &mut [u8],
     text: &mut [u8],
 ) -> Replay
-    requires { Fine ifile.now afile.now s × (s.more ≡ true) × (endingAs s.fault ≡ finished) }
-    ensures { playedAs result d.new ≡ counted s.turns
+    requires { Fine ifile.now afile.now s × (s.more ≡ true) × (ending_as s.fault ≡ finished) }
+    ensures { played_as result d.new ≡ counted s.turns
         (summary (rest_of marks ifile.now afile.now s d.old)) }
 {
     let mut replay = s;

@@ -2,15 +2,15 @@
 ghost use Rattle.std.specs.Prelude.{◌≡◌, cond, [], ◌∷◌};
 ghost use Rattle.std.proofs.Math.Option.{none, some};
 ghost use Rattle.text.specs.Text.{text, written};
-ghost use Rattle.replaying.specs.Playing.{whoseAs, endingAs};
-ghost use Rattle.replay_lines.specs.Lines.{sideText, turnLine, choiceLine, refusedLine, endLines};
+ghost use Rattle.replaying.specs.Playing.{whose_as, ending_as};
+ghost use Rattle.replay_lines.specs.Lines.{side_text, turn_line, choice_line, refused_line, end_lines};
 
 use replaying::Fault;
 use text::{append, field, id, wide_field};
 
 // The word for a side, and the line's end.
 fn side(d: &mut [u8], at: usize, whose: u8) -> usize
-    ensures { text d.new result ≡ written (sideText (whoseAs whose) ∷ []) (text d.old at) }
+    ensures { text d.new result ≡ written (side_text (whose_as whose) ∷ []) (text d.old at) }
 {
     if whose == Fault::INITIATOR {
         return append(d, at, b" initiator\n");
@@ -23,7 +23,7 @@ fn side(d: &mut [u8], at: usize, whose: u8) -> usize
 
 // The line of a turn.
 pub fn turn_line(d: &mut [u8], k: u32, acceptor: bool) -> usize
-    ensures { text d.new result ≡ written (turnLine k acceptor) (text d.old 0) }
+    ensures { text d.new result ≡ written (turn_line k acceptor) (text d.old 0) }
 {
     let number_end = field(d, 0, b"turn ", k);
     if acceptor {
@@ -34,7 +34,7 @@ pub fn turn_line(d: &mut [u8], k: u32, acceptor: bool) -> usize
 
 // The line of a choice, or of none.
 pub fn choice_line(d: &mut [u8], chosen: bool, scheme: [u8; 16]) -> usize
-    ensures { text d.new result ≡ written (choiceLine (cond chosen (some scheme) none)) (text d.old 0) }
+    ensures { text d.new result ≡ written (choice_line (cond chosen (some scheme) none)) (text d.old 0) }
 {
     if chosen {} else {
         return append(d, 0, b"choice none\n");
@@ -46,7 +46,7 @@ pub fn choice_line(d: &mut [u8], chosen: bool, scheme: [u8; 16]) -> usize
 
 // The line of a refusal that ends a replay.
 fn refusal(d: &mut [u8], number: u32, place: usize, whose: u8) -> usize
-    ensures { text d.new result ≡ written (refusedLine number place (whoseAs whose)) (text d.old 0) }
+    ensures { text d.new result ≡ written (refused_line number place (whose_as whose)) (text d.old 0) }
 {
     let number_end = field(d, 0, b"refused ", number);
     let place_end = wide_field(d, number_end, b" at=", place);
@@ -55,7 +55,7 @@ fn refusal(d: &mut [u8], number: u32, place: usize, whose: u8) -> usize
 
 // The line of how a replay ended: none at the last turn.
 pub fn end_line(d: &mut [u8], f: Fault) -> usize
-    ensures { text d.new result ≡ written (endLines (endingAs f)) (text d.old 0) }
+    ensures { text d.new result ≡ written (end_lines (ending_as f)) (text d.old 0) }
 {
     if f.missing {
         return append(d, 0, b"no file\n");

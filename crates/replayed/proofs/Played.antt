@@ -11,11 +11,11 @@ use Rattle.token.proofs.Joins.{join-append}
 use Rattle.put.specs.Put.{put}
 use Rattle.put.proofs.Laws.{length-put}
 use Rattle.conversation.specs.declared.Record.{Record}
-use Rattle.conversation.specs.Runs.{isAccepted}
+use Rattle.conversation.specs.Runs.{is_accepted}
 use Rattle.conversation.proofs.Logs.{put-end}
 use Rattle.sides.specs.Merging.{Turn}
-use Rattle.sides.specs.Replay.{Case, Sides, side_of, withSides, finished, outcomeOf, soPlayed, playFrom}
-use Rattle.sides.proofs.Turns.{all_of, ofSide, Alternate}
+use Rattle.sides.specs.Replay.{Case, Sides, side_of, with_sides, finished, outcome_of, so_played, play_from}
+use Rattle.sides.proofs.Turns.{all_of, of_side, Alternate}
 
 -- 1. transcripts
 
@@ -53,27 +53,27 @@ holds_on d used ms ns h u short =
 -- 2. one more turn
 
 module _ (c : Case) where
-  abbrev pub sidesAfter : Sides → List Turn → Sides
-  sidesAfter s [] = s
-  sidesAfter s (t ∷ ts) = sidesAfter (soPlayed c s t) ts
+  abbrev pub sides_after : Sides → List Turn → Sides
+  sides_after s [] = s
+  sides_after s (t ∷ ts) = sides_after (so_played c s t) ts
 
   abbrev pub AllHeard : Sides → List Turn → Type 0
   AllHeard s [] = Unit {0}
-  AllHeard s (t ∷ ts) = (isAccepted (outcomeOf c s t).answer ≡ true) × AllHeard (soPlayed c s t) ts
+  AllHeard s (t ∷ ts) = (is_accepted (outcome_of c s t).answer ≡ true) × AllHeard (so_played c s t) ts
 
-  pub after-snoc : (s : Sides) (ts : List Turn) (t : Turn) → sidesAfter s (ts ++ (t ∷ [])) ≡ soPlayed c (sidesAfter s ts) t
+  pub after-snoc : (s : Sides) (ts : List Turn) (t : Turn) → sides_after s (ts ++ (t ∷ [])) ≡ so_played c (sides_after s ts) t
   after-snoc s [] t = refl
-  after-snoc s (u ∷ ts) t = after-snoc (soPlayed c s u) ts t
+  after-snoc s (u ∷ ts) t = after-snoc (so_played c s u) ts t
 
-  pub heard-snoc : (s : Sides) (ts : List Turn) (t : Turn) → AllHeard s ts → isAccepted (outcomeOf c (sidesAfter s ts) t).answer ≡ true
+  pub heard-snoc : (s : Sides) (ts : List Turn) (t : Turn) → AllHeard s ts → is_accepted (outcome_of c (sides_after s ts) t).answer ≡ true
       → AllHeard s (ts ++ (t ∷ []))
   heard-snoc s [] t h a = (a, tt)
-  heard-snoc s (u ∷ ts) t h a = (h.0, heard-snoc (soPlayed c s u) ts t h.1 a)
+  heard-snoc s (u ∷ ts) t h a = (h.0, heard-snoc (so_played c s u) ts t h.1 a)
 
-  pub played-all : (s : Sides) (ts : List Turn) → AllHeard s ts → ((playFrom c s ts).ending ≡ finished) × ((playFrom c s ts).sides ≡ sidesAfter s ts)
-  unfolding playFrom
+  pub played-all : (s : Sides) (ts : List Turn) → AllHeard s ts → ((play_from c s ts).ending ≡ finished) × ((play_from c s ts).sides ≡ sides_after s ts)
+  unfolding play_from
   played-all s [] h = (refl, refl)
-  played-all s (t ∷ ts) h = let i = played-all (soPlayed c s t) ts h.1 in rw h.0 i
+  played-all s (t ∷ ts) h = let i = played-all (so_played c s t) ts h.1 in rw h.0 i
 
 -- 3. whose turn is next
 
@@ -100,23 +100,23 @@ turn x ms = record { acceptor = x; messages = ms }
 onto : (a b : List (List ℕ)) {c : List (List ℕ)} → c ≡ a ++ b → (l : List (List ℕ)) → l ++ c ≡ l ++ a ++ b
 onto a b e l = ap (λ (k : List (List ℕ)). l ++ k) e ∙ sym (append_assoc l a b)
 
-pub side-here : (x : Bool) (ts : List Turn) (ms : List (List ℕ)) → ofSide x (ts ++ (turn x ms ∷ [])) ≡ ofSide x ts ++ ms
+pub side-here : (x : Bool) (ts : List Turn) (ms : List (List ℕ)) → of_side x (ts ++ (turn x ms ∷ [])) ≡ of_side x ts ++ ms
 side-here false [] ms = append-nil ms
 side-here true [] ms = append-nil ms
 side-here false (t ∷ ts) ms = go t.acceptor (side-here false ts ms) where
-  go : (b : Bool) → ofSide false (ts ++ (turn false ms ∷ [])) ≡ ofSide false ts ++ ms
-      → cond b (ofSide false (ts ++ (turn false ms ∷ []))) (t.messages ++ ofSide false (ts ++ (turn false ms ∷ [])))
-      ≡ cond b (ofSide false ts) (t.messages ++ ofSide false ts) ++ ms
+  go : (b : Bool) → of_side false (ts ++ (turn false ms ∷ [])) ≡ of_side false ts ++ ms
+      → cond b (of_side false (ts ++ (turn false ms ∷ []))) (t.messages ++ of_side false (ts ++ (turn false ms ∷ [])))
+      ≡ cond b (of_side false ts) (t.messages ++ of_side false ts) ++ ms
   go true e = e
-  go false e = onto (ofSide false ts) ms e t.messages
+  go false e = onto (of_side false ts) ms e t.messages
 side-here true (t ∷ ts) ms = go t.acceptor (side-here true ts ms) where
-  go : (b : Bool) → ofSide true (ts ++ (turn true ms ∷ [])) ≡ ofSide true ts ++ ms
-      → cond b (t.messages ++ ofSide true (ts ++ (turn true ms ∷ []))) (ofSide true (ts ++ (turn true ms ∷ [])))
-      ≡ cond b (t.messages ++ ofSide true ts) (ofSide true ts) ++ ms
-  go true e = onto (ofSide true ts) ms e t.messages
+  go : (b : Bool) → of_side true (ts ++ (turn true ms ∷ [])) ≡ of_side true ts ++ ms
+      → cond b (t.messages ++ of_side true (ts ++ (turn true ms ∷ []))) (of_side true (ts ++ (turn true ms ∷ [])))
+      ≡ cond b (t.messages ++ of_side true ts) (of_side true ts) ++ ms
+  go true e = onto (of_side true ts) ms e t.messages
   go false e = e
 
-pub side-there : (x : Bool) (ts : List Turn) (ms : List (List ℕ)) → ofSide (not x) (ts ++ (turn x ms ∷ [])) ≡ ofSide (not x) ts
+pub side-there : (x : Bool) (ts : List Turn) (ms : List (List ℕ)) → of_side (not x) (ts ++ (turn x ms ∷ [])) ≡ of_side (not x) ts
 side-there false [] ms = refl
 side-there true [] ms = refl
 side-there false (t ∷ ts) ms = ap (λ (l : List (List ℕ)). cond t.acceptor (t.messages ++ l) l) (side-there false ts ms)
@@ -126,14 +126,14 @@ pub not-not : (x : Bool) → not (not x) ≡ x
 not-not true = refl
 not-not false = refl
 
-pub side-writer : (x : Bool) (a b : Record) (d : List ℕ) → side_of x (withSides x a b d) ≡ a
+pub side-writer : (x : Bool) (a b : Record) (d : List ℕ) → side_of x (with_sides x a b d) ≡ a
 side-writer true a b d = refl
 side-writer false a b d = refl
 
-pub side-reader : (x : Bool) (a b : Record) (d : List ℕ) → side_of (not x) (withSides x a b d) ≡ b
+pub side-reader : (x : Bool) (a b : Record) (d : List ℕ) → side_of (not x) (with_sides x a b d) ≡ b
 side-reader true a b d = refl
 side-reader false a b d = refl
 
-pub side-transcript : (x : Bool) (a b : Record) (d : List ℕ) → (withSides x a b d).transcript ≡ d
+pub side-transcript : (x : Bool) (a b : Record) (d : List ℕ) → (with_sides x a b d).transcript ≡ d
 side-transcript true a b d = refl
 side-transcript false a b d = refl

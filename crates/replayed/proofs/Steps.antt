@@ -14,21 +14,21 @@ use Rattle.put.specs.Put.{put}
 use Rattle.conversation.specs.declared.Record.{Record}
 use Rattle.conversation.specs.Turns.{writing, writes}
 use Rattle.conversation.specs.Outcomes.{Outcome}
-use Rattle.conversation.specs.Reading.{chainFor, taken, accepted, readingToken}
-use Rattle.conversation.specs.Runs.{Call, read, End, act, moved, isAccepted}
-use Rattle.conversation.specs.Logs.{messagesIn, added}
+use Rattle.conversation.specs.Reading.{chain_for, taken, accepted, reading_token}
+use Rattle.conversation.specs.Runs.{Call, read, End, act, moved, is_accepted}
+use Rattle.conversation.specs.Logs.{messages_in, added}
 use Rattle.conversation.proofs.Messages.{join_one}
 use Rattle.conversation.proofs.Logs.{Sound}
 use Rattle.sides.specs.Merging.{Turn, token}
-use Rattle.sides.specs.Turning.{begun, owed, heardTurn, said, said_all, spoke}
-use Rattle.sides.specs.Replay.{Case, Sides, side_of, marksOf, outcomeOf, soPlayed}
+use Rattle.sides.specs.Turning.{begun, owed, heard_turn, said, said_all, spoke}
+use Rattle.sides.specs.Replay.{Case, Sides, side_of, marks_of, outcome_of, so_played}
 use Rattle.sides.proofs.Cutting.{Pieces, pieces-append}
-use Rattle.sides.proofs.Turns.{all_of, ofSide}
+use Rattle.sides.proofs.Turns.{all_of, of_side}
 use Rattle.replayed.proofs.Messages.{Headed}
-use Rattle.replayed.proofs.Writes.{Marked, marksIn, marked-in, Writes, writes-call}
+use Rattle.replayed.proofs.Writes.{Marked, marks_in, marked-in, Writes, writes-call}
 use Rattle.sides.proofs.Spoken.{said-snoc, spoke-counts}
 use Rattle.sides.proofs.Heard.{Heard, heard-by, heard-again, AllExact, exact-append, Gone, gone-through, first-number}
-use Rattle.replayed.proofs.Played.{Level, level-on, Holds, holds_on, sidesAfter, AllHeard, after-snoc, heard-snoc, AlternateTo, alternate-snoc, all_snoc, side-here, side-there, not-not, side-writer, side-reader, side-transcript}
+use Rattle.replayed.proofs.Played.{Level, level-on, Holds, holds_on, sides_after, AllHeard, after-snoc, heard-snoc, AlternateTo, alternate-snoc, all_snoc, side-here, side-there, not-not, side-writer, side-reader, side-transcript}
 
 -- 1. ends that have parted
 
@@ -41,7 +41,7 @@ head-kept : (t x : List ℕ) → 40 ≤ length t → head_of (t ++ x) ≡ head_o
 head-kept t x h = head-same t (t ++ x) h (omega (arith, length-append t x)) (λ i w. get_or-append t x 0 i (omega arith))
 
 -- a token that begins before the number that is expected is not read
-past-unread : (e f : End) → Past e f → isAccepted (readingToken e.record_of e.transcript f.turn).answer ≡ true → ⊥
+past-unread : (e f : End) → Past e f → is_accepted (reading_token e.record_of e.transcript f.turn).answer ≡ true → ⊥
 past-unread e f (none_yet t n) a =
     let h = heard-by e.record_of e.transcript f.turn a in
     let g = first-number e.record_of f.turn h.n h.scan h.is in
@@ -51,8 +51,8 @@ past-unread e f (begun-before l n) a =
     let g = first-number e.record_of f.turn h.n h.scan h.is in
     omega (arith, g.1)
 
-accepted-reads : (e : End) (peer : List ℕ) → isAccepted (act e peer read).answer ≡ true
-    → isAccepted (readingToken e.record_of e.transcript peer).answer ≡ true
+accepted-reads : (e : End) (peer : List ℕ) → is_accepted (act e peer read).answer ≡ true
+    → is_accepted (reading_token e.record_of e.transcript peer).answer ≡ true
 unfolding act
 accepted-reads e peer a = a
 
@@ -64,7 +64,7 @@ record Wrote (e e' : End) (message : List ℕ) : Type 0 where
   counts : e'.record_of.sequence ≡ e.record_of.sequence + 1
 
 wrote_by : (marks : ℕ) (e : End) (peer : List ℕ) (log : List (List ℕ)) (ok : Sound e.record_of e.transcript log) (k : Call)
-    (a : isAccepted (act e peer k).answer ≡ true)
+    (a : is_accepted (act e peer k).answer ≡ true)
     → (w : Writes e peer log ok marks k) → Wrote e (moved e k (act e peer k)) w.message
 wrote_by marks e peer log ok k a w = record {
   type = w.type;
@@ -97,11 +97,11 @@ pub parted-swap : (e f : End) (we wf re rf : List (List ℕ)) → Parted e f we 
 parted-swap e f we wf re rf p = record { here = p.there; there = p.here; unread = elim p.unread [ inl h ↦ inr h | inr h ↦ inl h ] }
 
 pub parted-on : (e f : End) (log we wf re rf : List (List ℕ)) (ok : Sound e.record_of e.transcript log) → Parted e f we wf re rf
-    → (k : Call) → (k ≡ read → ⊥) → isAccepted (act e f.turn k).answer ≡ true
+    → (k : Call) → (k ≡ read → ⊥) → is_accepted (act e f.turn k).answer ≡ true
     → Parted (moved e k (act e f.turn k)) f (we ++ added e f.turn k) wf re rf
 parted-on e f log we wf re rf ok p k n a =
-    let w = writes-call e f.turn log ok (marksIn k) k (marked-in _ k) n a in
-    let v = wrote_by (marksIn k) e f.turn log ok k a w in
+    let w = writes-call e f.turn log ok (marks_in k) k (marked-in _ k) n a in
+    let v = wrote_by (marks_in k) e f.turn log ok k a w in
     let e' : End = moved e k (act e f.turn k) in
     record {
       here = past-longer e e' f w.message v p.here;
@@ -109,14 +109,14 @@ parted-on e f log we wf re rf ok p k n a =
       unread = elim p.unread [ inl h ↦ inl (omega (arith, length-append we (added e f.turn k))) | inr h ↦ inr h ];
     }
 
-pub parted-unread : (e f : End) (we wf re rf : List (List ℕ)) → Parted e f we wf re rf → isAccepted (act e f.turn read).answer ≡ true → ⊥
+pub parted-unread : (e f : End) (we wf re rf : List (List ℕ)) → Parted e f we wf re rf → is_accepted (act e f.turn read).answer ≡ true → ⊥
 parted-unread e f we wf re rf p a = past-unread e f p.here (accepted-reads e f.turn a)
 
 -- 2. ends in step with a replay
 
-abbrev pub spokenBy : ℕ → Record → List (List ℕ) → Record
-spokenBy m w [] = w
-spokenBy m w (k ∷ ks) = spoke m w (k ∷ ks)
+abbrev pub spoken_by : ℕ → Record → List (List ℕ) → Record
+spoken_by m w [] = w
+spoken_by m w (k ∷ ks) = spoke m w (k ∷ ks)
 
 -- the writer x has read the turn before, and what it wrote since is its turn so far
 abbrev Underway : ℕ → Record → Record → List (List ℕ) → Type 0
@@ -152,35 +152,35 @@ module _ (c : Case) (s₀ : Sides) (v : List ℕ) where
     pub own : List (List ℕ)
     pub heard : AllHeard c s₀ turns
     pub alternate : AlternateTo false turns x
-    pub pieces : (y : Bool) → Pieces (ofSide y turns)
-    pub levels : (y : Bool) → Level (side_of y (sidesAfter c s₀ turns)) (all_of turns)
-    pub holds : Holds (sidesAfter c s₀ turns).transcript (all_of turns)
-    pub writer : e.record_of ≡ spokenBy (marksOf x c) (side_of x (sidesAfter c s₀ turns)) own
-    pub reader : f.record_of ≡ side_of (not x) (sidesAfter c s₀ turns)
+    pub pieces : (y : Bool) → Pieces (of_side y turns)
+    pub levels : (y : Bool) → Level (side_of y (sides_after c s₀ turns)) (all_of turns)
+    pub holds : Holds (sides_after c s₀ turns).transcript (all_of turns)
+    pub writer : e.record_of ≡ spoken_by (marks_of x c) (side_of x (sides_after c s₀ turns)) own
+    pub reader : f.record_of ≡ side_of (not x) (sides_after c s₀ turns)
     pub role-e : e.record_of.acceptor ≡ x
     pub role-f : f.record_of.acceptor ≡ not x
     pub talks : Talks v e.record_of turns own
     pub turn : e.turn ≡ join own
     pub exact : AllExact own
     pub begins : Begins (length (all_of turns)) own
-    pub underway : Underway (marksOf x c) (side_of x (sidesAfter c s₀ turns)) e.record_of own
+    pub underway : Underway (marks_of x c) (side_of x (sides_after c s₀ turns)) e.record_of own
     pub stale : Stale e f
     pub log-e : le ≡ all_of turns ++ own
     pub log-f : lf ≡ all_of turns
-    pub wrote-e : we ≡ ofSide x turns ++ own
-    pub wrote-f : wf ≡ ofSide (not x) turns
-    pub read-e : re ≡ ofSide (not x) turns
-    pub read-f : rf ≡ ofSide x turns
+    pub wrote-e : we ≡ of_side x turns ++ own
+    pub wrote-f : wf ≡ of_side (not x) turns
+    pub read-e : re ≡ of_side (not x) turns
+    pub read-f : rf ≡ of_side x turns
 
   module _ (x : Bool) (e f : End) (le lf we wf re rf : List (List ℕ)) (g : Good x e f le lf we wf re rf) where
     abbrev s : Sides
-    s = sidesAfter c s₀ g.turns
+    s = sides_after c s₀ g.turns
 
     abbrev marks : ℕ
-    marks = marksOf x c
+    marks = marks_of x c
 
     -- the writer does not read
-    pub good-unread : isAccepted (act e f.turn read).answer ≡ true → ⊥
+    pub good-unread : is_accepted (act e f.turn read).answer ≡ true → ⊥
     good-unread a = go g.stale where
       go : Stale e f → ⊥
       go (had-turn p) = past-unread e f p (accepted-reads e f.turn a)
@@ -191,14 +191,14 @@ module _ (c : Case) (s₀ : Sides) (v : List ℕ) where
 
     sequence-e : e.record_of.sequence ≡ length (all_of g.turns) + length g.own
     sequence-e = ap (λ (r : Record). r.sequence) g.writer ∙ go g.own where
-      go : (own : List (List ℕ)) → (spokenBy marks (side_of x s) own).sequence ≡ length (all_of g.turns) + length own
+      go : (own : List (List ℕ)) → (spoken_by marks (side_of x s) own).sequence ≡ length (all_of g.turns) + length own
       go [] = let z = (g.levels x).sequence in omega arith
       go (m ∷ ms) = let z = (g.levels x).sequence in let y = (spoke-counts marks (side_of x s) (m ∷ ms)).1 in omega arith
 
     -- 3. the writer writes
 
     pub good-writes : Sound e.record_of e.transcript le → (k : Call) → Marked x marks k → (k ≡ read → ⊥)
-        → isAccepted (act e f.turn k).answer ≡ true
+        → is_accepted (act e f.turn k).answer ≡ true
         → Good x (moved e k (act e f.turn k)) f (le ++ added e f.turn k) lf (we ++ added e f.turn k) wf re rf
     good-writes ok k m n a =
         let w = writes-call e f.turn le ok marks k (subst (λ (y : Bool). Marked y marks k) (sym g.role-e) m) n a in
@@ -225,7 +225,7 @@ module _ (c : Case) (s₀ : Sides) (v : List ℕ) where
           stale = then-stale e' w.message z g.stale;
           log-e = grown le (all_of g.turns) g.own w.message (added e f.turn k) g.log-e there;
           log-f = g.log-f;
-          wrote-e = grown we (ofSide x g.turns) g.own w.message (added e f.turn k) g.wrote-e there;
+          wrote-e = grown we (of_side x g.turns) g.own w.message (added e f.turn k) g.wrote-e there;
           wrote-f = g.wrote-f;
           read-e = g.read-e;
           read-f = g.read-f;
@@ -233,14 +233,14 @@ module _ (c : Case) (s₀ : Sides) (v : List ℕ) where
           grown : (l a own : List (List ℕ)) (m : List ℕ) (b : List (List ℕ)) → l ≡ a ++ own → b ≡ m ∷ [] → l ++ b ≡ a ++ (own ++ (m ∷ []))
           grown l a own m b i j = ap (λ (k : List (List ℕ)). k ++ b) i ∙ ap (λ (k : List (List ℕ)). (a ++ own) ++ k) j ∙ append_assoc a own (m ∷ [])
 
-          then-said : (w : Writes e f.turn le ok marks k) (own : List (List ℕ)) → e.record_of ≡ spokenBy marks (side_of x s) own
+          then-said : (w : Writes e f.turn le ok marks k) (own : List (List ℕ)) → e.record_of ≡ spoken_by marks (side_of x s) own
               → Underway marks (side_of x s) e.record_of own
-              → said w.base w.message ≡ spokenBy marks (side_of x s) (own ++ (w.message ∷ []))
+              → said w.base w.message ≡ spoken_by marks (side_of x s) (own ++ (w.message ∷ []))
           then-said w [] is u =
               let b = (w.begins (ap (λ (r : Record). r.position) is ∙ u)).0 in
               ap (λ (r : Record). said r w.message) (b ∙ ap (begun marks) is) ∙ (unfold said_all in refl)
           then-said w (h ∷ hs) is u =
-              let b = w.goes_on u.0 u.1.0 in
+              let b = w.goes_on_lem u.0 u.1.0 in
               ap (λ (r : Record). said r w.message) (b ∙ is) ∙ sym (said-snoc (begun marks (side_of x s)) (h ∷ hs) w.message)
 
           then-talks : (w : Writes e f.turn le ok marks k) (ts : List Turn) (own : List (List ℕ)) → Talks v e.record_of ts own
@@ -254,7 +254,7 @@ module _ (c : Case) (s₀ : Sides) (v : List ℕ) where
           then-begins w [] is b = λ rest. w.head.number rest ∙ sequence-e ∙ (let z : length g.own ≡ 0 = ap length is in omega arith)
           then-begins w (h ∷ hs) is b = b
 
-          then-underway : (w : Writes e f.turn le ok marks k) (own : List (List ℕ)) → e.record_of ≡ spokenBy marks (side_of x s) own
+          then-underway : (w : Writes e f.turn le ok marks k) (own : List (List ℕ)) → e.record_of ≡ spoken_by marks (side_of x s) own
               → Underway marks (side_of x s) e.record_of own
               → Underway marks (side_of x s) (moved e k (act e f.turn k)).record_of (own ++ (w.message ∷ []))
           then-underway w [] is u =
@@ -289,15 +289,15 @@ module _ (c : Case) (s₀ : Sides) (v : List ℕ) where
           let q : (head_of e.turn).sequence ≡ length (all_of g.turns) = ap (λ (y : List ℕ). (head_of y).sequence) t ∙ b (join ms) in
           begun-before (let z = x.0.long in omega (arith, length-append m (join ms))) (omega (arith, sequence-f))
 
-    pub good-parts : Sound f.record_of f.transcript lf → (k : Call) → (k ≡ read → ⊥) → isAccepted (act f e.turn k).answer ≡ true
+    pub good-parts : Sound f.record_of f.transcript lf → (k : Call) → (k ≡ read → ⊥) → is_accepted (act f e.turn k).answer ≡ true
         → Parted (moved f k (act f e.turn k)) e (wf ++ added f e.turn k) we rf re
     good-parts ok k n a =
-        let w = writes-call f e.turn lf ok (marksIn k) k (marked-in _ k) n a in
-        let v = wrote_by (marksIn k) f e.turn lf ok k a w in
+        let w = writes-call f e.turn lf ok (marks_in k) k (marked-in _ k) n a in
+        let v = wrote_by (marks_in k) f e.turn lf ok k a w in
         go w v g.stale where
-          go : (w : Writes f e.turn lf ok (marksIn k) k) → Wrote f (moved f k (act f e.turn k)) w.message → Stale e f
+          go : (w : Writes f e.turn lf ok (marks_in k) k) → Wrote f (moved f k (act f e.turn k)) w.message → Stale e f
               → Parted (moved f k (act f e.turn k)) e (wf ++ added f e.turn k) we rf re
-          go w v (fresh-reader t r st p) = absurd (fresh-barred (marksIn k) f.record_of w.base w.message r st (w.begins p).0 w.on)
+          go w v (fresh-reader t r st p) = absurd (fresh-barred (marks_in k) f.record_of w.base w.message r st (w.begins p).0 w.on)
           go w v (had-turn p) = record {
             here = past-turn (moved f k (act f e.turn k)) v.counts;
             there = past_more f (moved f k (act f e.turn k)) e w.message v p;
@@ -310,7 +310,7 @@ module _ (c : Case) (s₀ : Sides) (v : List ℕ) where
     own-owed [] some u = absurd (omega arith)
     own-owed (m ∷ ms) some u = u.1.1 (join ms)
 
-    spoken-some : (own : List (List ℕ)) → 0 < length own → spokenBy marks (side_of x s) own ≡ spoke marks (side_of x s) own
+    spoken-some : (own : List (List ℕ)) → 0 < length own → spoken_by marks (side_of x s) own ≡ spoke marks (side_of x s) own
     spoken-some [] some = absurd (omega arith)
     spoken-some (m ∷ ms) some = refl
 
@@ -331,15 +331,15 @@ module _ (c : Case) (s₀ : Sides) (v : List ℕ) where
       through : Gone r g.own h.n
       through = gone-through r g.own h.n h.scan g.exact h.is
 
-      out : outcomeOf c s t ≡ accepted r d (join g.own) h.n h.scan
+      out : outcome_of c s t ≡ accepted r d (join g.own) h.n h.scan
       out =
-          ap (λ (b : Bool). heardTurn b r d (join g.own)) (own-owed g.own through.some g.underway)
+          ap (λ (b : Bool). heard_turn b r d (join g.own)) (own-owed g.own through.some g.underway)
           ∙ heard-again r (join g.own) next h d g.holds.wide
 
       abbrev s' : Sides
-      s' = sidesAfter c s₀ (g.turns ++ (t ∷ []))
+      s' = sides_after c s₀ (g.turns ++ (t ∷ []))
 
-      after : s' ≡ soPlayed c s t
+      after : s' ≡ so_played c s t
       after = after-snoc c s₀ g.turns t
 
       writer-side : side_of x s' ≡ spoke marks (side_of x s) g.own
@@ -378,18 +378,18 @@ module _ (c : Case) (s₀ : Sides) (v : List ℕ) where
           → Good (not x) f' e (lf ++ more) le wf we (rf ++ more) re
       flipped f' rec none more is =
           let then : f'.record_of ≡ side_of (not x) s' = rec ∙ h.next ∙ sym reader-side in
-          let here : ofSide x (g.turns ++ (t ∷ [])) ≡ ofSide x g.turns ++ g.own = side-here x g.turns g.own in
-          let there : ofSide (not x) (g.turns ++ (t ∷ [])) ≡ ofSide (not x) g.turns = side-there x g.turns g.own in
-          let back : ofSide (not (not x)) (g.turns ++ (t ∷ [])) ≡ ofSide x g.turns ++ g.own =
-          ap (λ (y : Bool). ofSide y (g.turns ++ (t ∷ []))) (not-not x) ∙ here in
+          let here : of_side x (g.turns ++ (t ∷ [])) ≡ of_side x g.turns ++ g.own = side-here x g.turns g.own in
+          let there : of_side (not x) (g.turns ++ (t ∷ [])) ≡ of_side (not x) g.turns = side-there x g.turns g.own in
+          let back : of_side (not (not x)) (g.turns ++ (t ∷ [])) ≡ of_side x g.turns ++ g.own =
+          ap (λ (y : Bool). of_side y (g.turns ++ (t ∷ []))) (not-not x) ∙ here in
           record {
             turns = g.turns ++ (t ∷ []);
             own = [];
-            heard = heard-snoc c s₀ g.turns t g.heard (ap (λ (o : Outcome). isAccepted o.answer) out);
+            heard = heard-snoc c s₀ g.turns t g.heard (ap (λ (o : Outcome). is_accepted o.answer) out);
             alternate = alternate-snoc false x g.turns g.own g.alternate through.some;
             pieces =
-                either x (λ y. Pieces (ofSide y (g.turns ++ (t ∷ []))))
-                (subst Pieces (sym here) (pieces-append (ofSide x g.turns) g.own (g.pieces x) through.pieces))
+                either x (λ y. Pieces (of_side y (g.turns ++ (t ∷ []))))
+                (subst Pieces (sym here) (pieces-append (of_side x g.turns) g.own (g.pieces x) through.pieces))
                 (subst Pieces (sym there) (g.pieces (not x)));
             levels = either x (λ y. Level (side_of y s') (all_of (g.turns ++ (t ∷ [])))) writer-level reader-level;
             holds = then-holds;
@@ -409,9 +409,9 @@ module _ (c : Case) (s₀ : Sides) (v : List ℕ) where
                 ap (λ (l : List (List ℕ)). l ++ more) g.log-f ∙ ap (λ (l : List (List ℕ)). all_of g.turns ++ l) is ∙ sym all_then
                 ∙ sym (append-nil (all_of (g.turns ++ (t ∷ []))));
             log-f = g.log-e ∙ sym all_then;
-            wrote-e = g.wrote-f ∙ sym there ∙ sym (append-nil (ofSide (not x) (g.turns ++ (t ∷ []))));
+            wrote-e = g.wrote-f ∙ sym there ∙ sym (append-nil (of_side (not x) (g.turns ++ (t ∷ []))));
             wrote-f = g.wrote-e ∙ sym back;
-            read-e = ap (λ (l : List (List ℕ)). l ++ more) g.read-f ∙ ap (λ (l : List (List ℕ)). ofSide x g.turns ++ l) is ∙ sym back;
+            read-e = ap (λ (l : List (List ℕ)). l ++ more) g.read-f ∙ ap (λ (l : List (List ℕ)). of_side x g.turns ++ l) is ∙ sym back;
             read-f = g.read-e ∙ sym there;
           } where
             then-talks : (ts : List Turn) (own : List (List ℕ)) → 0 < length own → (y : Record) → Talks v e.record_of ts own
@@ -432,16 +432,16 @@ module _ (c : Case) (s₀ : Sides) (v : List ℕ) where
             either false P a b true = b
             either false P a b false = a
 
-    pub good-reads : isAccepted (act f e.turn read).answer ≡ true
+    pub good-reads : is_accepted (act f e.turn read).answer ≡ true
         → Good (not x) (moved f read (act f e.turn read)) e (lf ++ added f e.turn read) le wf we (rf ++ added f e.turn read) re
     unfolding act
     good-reads a =
         let raw = heard-by f.record_of f.transcript e.turn a in
-        let then : Record = (readingToken f.record_of f.transcript e.turn).answer.next in
+        let then : Record = (reading_token f.record_of f.transcript e.turn).answer.next in
         let h : Heard (side_of (not x) s) (join g.own) then =
         subst (λ (l : List ℕ). Heard (side_of (not x) s) l then) g.turn (subst (λ (y : Record). Heard y e.turn then) g.reader raw) in
-        let same : messagesIn (chainFor f.record_of e.turn) ≡ g.own =
-        ap (λ (y : Record). messagesIn (chainFor y e.turn)) g.reader ∙ ap (λ (l : List ℕ). messagesIn (chainFor (side_of (not x) s) l)) g.turn
+        let same : messages_in (chain_for f.record_of e.turn) ≡ g.own =
+        ap (λ (y : Record). messages_in (chain_for y e.turn)) g.reader ∙ ap (λ (l : List ℕ). messages_in (chain_for (side_of (not x) s) l)) g.turn
         ∙ (through then h).same in
-        flipped then h (moved f read (readingToken f.record_of f.transcript e.turn)) refl (rw a)
-        (messagesIn (chainFor f.record_of e.turn)) same
+        flipped then h (moved f read (reading_token f.record_of f.transcript e.turn)) refl (rw a)
+        (messages_in (chain_for f.record_of e.turn)) same

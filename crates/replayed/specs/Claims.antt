@@ -11,30 +11,30 @@
 use Rattle.std.specs.Prelude.{ℕ, ◌≤◌, ◌≡◌, Bool, true, false, List, length, take}
 use Rattle.std.proofs.Math.Option.{some}
 use Rattle.token.specs.Split.{join}
-use Rattle.schemes.specs.Lists.{joinIds}
+use Rattle.schemes.specs.Lists.{join_ids}
 use Rattle.schemes.specs.Sets.{below}
 use Rattle.conversation.specs.Runs.{Call, End, Opening, world, ends, Replied, ChoseWith}
-use Rattle.conversation.specs.Claims.{writtenIn, readIn}
+use Rattle.conversation.specs.Claims.{written_in, read_in}
 use Rattle.conversation.specs.declared.Record.{Record}
-use Rattle.sides.specs.Replay.{Case, Played, finished, choice_of, replayOf}
+use Rattle.sides.specs.Replay.{Case, Played, finished, choice_of, replay_of}
 
 -- "every message read": what an end writes is what the other reads, in order
 pub record AllRead (o : Opening) (cs : List (Bool × Call)) : Type 0 where
-  pub by-acceptor : writtenIn false (world o) cs ≡ readIn true (world o) cs
-  pub by-initiator : writtenIn true (world o) cs ≡ readIn false (world o) cs
+  pub by_acceptor : written_in false (world o) cs ≡ read_in true (world o) cs
+  pub by_initiator : written_in true (world o) cs ≡ read_in false (world o) cs
 
 -- "with the same lists and marks": an end has at most one such call (`MarksOnce`); without one, any marks that the list has places for
 pub record MarksAre (o : Opening) (cs : List (Bool × Call)) (mi ma : ℕ) : Type 0 where
   pub chosen : (m : ℕ) → ChoseWith o cs m → m ≡ mi
   pub replied : (m : ℕ) → Replied o cs m → m ≡ ma
-  pub initiator-below : below (length o.initiator) mi ≡ true
-  pub acceptor-below : below (length o.acceptor) ma ≡ true
+  pub initiator_below : below (length o.initiator) mi ≡ true
+  pub acceptor_below : below (length o.acceptor) ma ≡ true
 
 -- "both files come from our two ends": "one file per direction, each holding that side's messages in order"
 abbrev pub case_of : Opening → List (Bool × Call) → ℕ → ℕ → Case
 case_of o cs mi ma = record {
-  i = record { list = joinIds o.initiator; marks = mi; file = some (join (writtenIn false (world o) cs)) };
-  a = record { list = joinIds o.acceptor; marks = ma; file = some (join (writtenIn true (world o) cs)) };
+  i = record { list = join_ids o.initiator; marks = mi; file = some (join (written_in false (world o) cs)) };
+  a = record { list = join_ids o.acceptor; marks = ma; file = some (join (written_in true (world o) cs)) };
 }
 
 -- "the same transcript": what the end has read and written
@@ -52,4 +52,4 @@ pub record SameEnds (o : Opening) (cs : List (Bool × Call)) (p : Played) : Type
 abbrev pub ReplaysRun : Type 0
 ReplaysRun =
     (o : Opening) (cs : List (Bool × Call)) (mi ma : ℕ) → AllRead o cs → MarksAre o cs mi ma → (d : List ℕ) → 65535 ≤ length d
-    → SameEnds o cs (replayOf (case_of o cs mi ma) d)
+    → SameEnds o cs (replay_of (case_of o cs mi ma) d)

@@ -12,15 +12,15 @@ use Rattle.octets.specs.Octets.{octets}
 use Rattle.octets.proofs.Bools.{no_true}
 use Rattle.token.specs.Split.{join}
 use Rattle.conversation.specs.declared.Answer.{Answer}
-use Rattle.conversation.specs.Outcomes.{zeroId}
+use Rattle.conversation.specs.Outcomes.{zero_id}
 use Rattle.conversation.specs.Writing.{opening}
-use Rattle.sides.specs.Merging.{messagesOf, run_from, turnsOf}
-use Rattle.sides.specs.Replay.{conversationIn}
+use Rattle.sides.specs.Merging.{messages_of, run_from, turns_of}
+use Rattle.sides.specs.Replay.{conversation_in}
 use Rattle.merging.specs.declared.Next.{Next}
-use Rattle.merging.specs.Merged.{nextIn}
+use Rattle.merging.specs.Merged.{next_in}
 use Rattle.merging.proofs.Rows.{Says, initiators, acceptors, says, run-octets, run-front, run-within, turns-initiator, turns-acceptor, turns-none}
 use Rattle.replaying.specs.declared.Fault.{Fault}
-use Rattle.replaying.specs.Playing.{begunWith, whoseIn}
+use Rattle.replaying.specs.Playing.{begun_with, whose_in}
 
 -- 1. the conversation
 
@@ -31,19 +31,19 @@ front-octets s x e h =
     ∙ ap (take 16) (drop-append-le 24 x (drop (length x) s) (omega arith))
     ∙ take-append-le 16 (drop 24 x) (drop (length x) s) (omega (arith, length-drop 24 x))
 
-module _ (i a : List ℕ) (n : Next) (n-is : n ≡ nextIn 0 i a) where
-  pub talk-none : n.messages ≡ 0 → zeroId ≡ conversationIn (turnsOf (messagesOf i) (messagesOf a))
+module _ (i a : List ℕ) (n : Next) (n-is : n ≡ next_in 0 i a) where
+  pub talk-none : n.messages ≡ 0 → zero_id ≡ conversation_in (turns_of (messages_of i) (messages_of a))
   talk-none z = go (says 0 i a n n-is) where
-    go : Says 0 i a n → zeroId ≡ conversationIn (turnsOf (messagesOf i) (messagesOf a))
+    go : Says 0 i a n → zero_id ≡ conversation_in (turns_of (messages_of i) (messages_of a))
     go (initiators s r o p m) = absurd (omega arith)
-    go (acceptors s r o p m) = sym (ap conversationIn (turns-none 0 (messagesOf i) (messagesOf a) s (omega arith)))
+    go (acceptors s r o p m) = sym (ap conversation_in (turns-none 0 (messages_of i) (messages_of a) s (omega arith)))
 
   module _ (some : n.messages ≡ 0 → ⊥) where
     abbrev ri : List (List ℕ)
-    ri = run_from 0 (messagesOf i)
+    ri = run_from 0 (messages_of i)
 
     abbrev ra : List (List ℕ)
-    ra = run_from 0 (messagesOf a)
+    ra = run_from 0 (messages_of a)
 
     theirs : n.acceptors ≡ true → (length ri ≤ 0) × (0 < length ra)
     theirs e = go (says 0 i a n n-is) where
@@ -60,26 +60,26 @@ module _ (i a : List ℕ) (n : Next) (n-is : n ≡ nextIn 0 i a) where
     pub talk-long-a : n.acceptors ≡ true → 24 + 16 ≤ length a
     talk-long-a e = omega (arith, theirs e, run-octets 0 a, run-within 0 a)
 
-    pub talk-a : n.acceptors ≡ true → (v : List ℕ) → v ≡ octets 16 a 24 → v ≡ conversationIn (turnsOf (messagesOf i) (messagesOf a))
+    pub talk-a : n.acceptors ≡ true → (v : List ℕ) → v ≡ octets 16 a 24 → v ≡ conversation_in (turns_of (messages_of i) (messages_of a))
     talk-a e v v-is =
         v-is ∙ front-octets a (join ra) (run-front 0 a) (omega (arith, theirs e, run-octets 0 a))
-        ∙ sym (ap conversationIn (turns-acceptor 0 (messagesOf i) (messagesOf a) (theirs e).0 (theirs e).1))
+        ∙ sym (ap conversation_in (turns-acceptor 0 (messages_of i) (messages_of a) (theirs e).0 (theirs e).1))
 
     pub talk-long-i : n.acceptors ≡ false → 24 + 16 ≤ length i
     talk-long-i e = omega (arith, own e, run-octets 0 i, run-within 0 i)
 
-    pub talk-i : n.acceptors ≡ false → (v : List ℕ) → v ≡ octets 16 i 24 → v ≡ conversationIn (turnsOf (messagesOf i) (messagesOf a))
+    pub talk-i : n.acceptors ≡ false → (v : List ℕ) → v ≡ octets 16 i 24 → v ≡ conversation_in (turns_of (messages_of i) (messages_of a))
     talk-i e v v-is =
         v-is ∙ front-octets i (join ri) (run-front 0 i) (omega (arith, own e, run-octets 0 i))
-        ∙ sym (ap conversationIn (turns-initiator 0 (messagesOf i) (messagesOf a) (own e)))
+        ∙ sym (ap conversation_in (turns-initiator 0 (messages_of i) (messages_of a) (own e)))
 
 pub ruleset talks = (talk-none, talk-long-a, talk-a, talk-long-i, talk-i)
 
 -- 2. the replay before its first turn, and whose a refusal is
 
-pub begin-is : (il al v : List ℕ) (f : Fault) (more : Bool) (i a : Answer) → i ≡ opening false il v → a ≡ opening true al zeroId
+pub begin-is : (il al v : List ℕ) (f : Fault) (more : Bool) (i a : Answer) → i ≡ opening false il v → a ≡ opening true al zero_id
     → record { initiator = i.next; acceptor = a.next; iplace = 0; aplace = 0; number = 0; turns = 0; last = false; more = more; fault = f }
-    ≡ begunWith il al v f more
+    ≡ begun_with il al v f more
 begin-is il al v f more i a i-is a-is =
     ap (λ (x : Answer).
     record { initiator = x.next; acceptor = a.next; iplace = 0; aplace = 0; number = 0; turns = 0; last = false; more = more; fault = f }) i-is
@@ -96,10 +96,10 @@ begin-is il al v f more i a i-is a-is =
       fault = f;
     }) a-is
 
-pub whose-writer : (x : Bool) (number : ℕ) → number ≡ 28 → (r : ℕ) → r ≡ cond x 1 0 → r ≡ whoseIn x number
+pub whose-writer : (x : Bool) (number : ℕ) → number ≡ 28 → (r : ℕ) → r ≡ cond x 1 0 → r ≡ whose_in x number
 whose-writer x number e r r-is = rw (eq-eqb _ _ e) r-is
 
-pub whose-other : (x : Bool) (number : ℕ) → (number ≡ 28 → ⊥) → (r : ℕ) → r ≡ cond (not x) 1 0 → r ≡ whoseIn x number
+pub whose-other : (x : Bool) (number : ℕ) → (number ≡ 28 → ⊥) → (r : ℕ) → r ≡ cond (not x) 1 0 → r ≡ whose_in x number
 whose-other x number e r r-is = rw (ne_eqb _ _ e) r-is
 
 pub ruleset begins = (begin-is, whose-writer, whose-other)

@@ -1,9 +1,9 @@
 // What ends a replay before play: 19, each file as it is opened and cut up, 24.
 ghost use Rattle.std.specs.Prelude.{◌≡◌, true, false, not, ◌&&◌, ◌||◌, ◌/◌, length, eqb};
-ghost use Rattle.schemes.specs.Lists.{listOk};
+ghost use Rattle.schemes.specs.Lists.{list_ok};
 ghost use Rattle.schemes.specs.Sets.{below};
 ghost use Rattle.sides.specs.Replay.{before};
-ghost use Rattle.replaying.specs.Playing.{caseWith, endingAs, filesEnding};
+ghost use Rattle.replaying.specs.Playing.{case_with, ending_as, files_ending};
 
 use super::{Fault, Found, Marks};
 use merging::{Cut, cut_file, in_row};
@@ -14,7 +14,7 @@ use vector::TokenPlace;
 
 // 19, of a list and its marks.
 fn given_ok(list: &[u8], marks: u16) -> bool
-    ensures { result ≡ (listOk list.now && below (length list.now / 16) marks) }
+    ensures { result ≡ (list_ok list.now && below (length list.now / 16) marks) }
 {
     if list_ok(list) {} else {
         return false;
@@ -63,7 +63,7 @@ pub(crate) fn is_fault(fault: Fault) -> bool
 
 // The two files, and 24.
 fn files_fault(found: Found, ifile: &[u8], afile: &[u8]) -> Fault
-    ensures { endingAs result ≡ filesEnding found ifile.now afile.now }
+    ensures { ending_as result ≡ files_ending found ifile.now afile.now }
 {
     let icut = cut_file(ifile);
     let ifault = file_fault(found.initiator, icut, Fault::INITIATOR);
@@ -90,8 +90,8 @@ pub fn fault_before(
     ifile: &[u8],
     afile: &[u8],
 ) -> Fault
-    ensures { endingAs result ≡ before
-        (caseWith ilist.now alist.now marks found ifile.now afile.now) }
+    ensures { ending_as result ≡ before
+        (case_with ilist.now alist.now marks found ifile.now afile.now) }
 {
     if given_ok(ilist, marks.initiator) {} else {
         return refuse(19, TokenPlace(0), Fault::NEITHER);

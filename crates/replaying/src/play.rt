@@ -1,8 +1,8 @@
 // The turns of two files, played one after the other.
 ghost use Rattle.std.specs.Prelude.{◌≡◌, true, false, cond, ◌+◌, ◌*◌, ◌-◌, ◌<◌, ◌≤◌, length, take, drop};
-ghost use Rattle.sides.specs.Merging.{messagesOf, turnsOf};
-ghost use Rattle.sides.specs.Replay.{finished, conversationIn, replayOf};
-ghost use Rattle.replaying.specs.Playing.{caseWith, endingAs, summary, playedAs, begunWith, Begun, counted, rest_of, Fine, stood, roleOf, wentOn, endedWith, whoseIn, after_turn, Ready, Goes};
+ghost use Rattle.sides.specs.Merging.{messages_of, turns_of};
+ghost use Rattle.sides.specs.Replay.{finished, conversation_in, replay_of};
+ghost use Rattle.replaying.specs.Playing.{case_with, ending_as, summary, played_as, begun_with, Begun, counted, rest_of, Fine, stood, role_of, went_on, ended_with, whose_in, after_turn, Ready, Goes};
 
 use super::before::{fault_before, is_fault};
 use super::{Fault, Found, Marks, Replay};
@@ -19,7 +19,7 @@ use vector::TokenPlace;
 // The conversation of the first message of two files, zeros where there is no message.
 fn first_conversation(ifile: &[u8], afile: &[u8]) -> [u8; 16]
     requires { (length ifile.now ≤ 65535) × (length afile.now ≤ 65535) }
-    ensures { result ≡ conversationIn (turnsOf (messagesOf ifile.now) (messagesOf afile.now)) }
+    ensures { result ≡ conversation_in (turns_of (messages_of ifile.now) (messages_of afile.now)) }
 {
     let turn = next_turn(ifile, afile, 0);
     if turn.messages == 0 {
@@ -39,7 +39,7 @@ fn begin_with(
     fault: Fault,
     more: bool,
 ) -> Replay
-    ensures { result ≡ begunWith ilist.now alist.now conversation fault more }
+    ensures { result ≡ begun_with ilist.now alist.now conversation fault more }
 {
     let iopened = open(false, ilist, conversation);
     let aopened = open(true, alist, [0u8; 16]);
@@ -67,7 +67,7 @@ pub fn start(
     ifile: &[u8],
     afile: &[u8],
 ) -> Replay
-    ensures { Begun (caseWith ilist.now alist.now marks found ifile.now afile.now) marks
+    ensures { Begun (case_with ilist.now alist.now marks found ifile.now afile.now) marks
         ifile.now afile.now result }
 {
     let fault = fault_before(ilist, alist, marks, found, ifile, afile);
@@ -90,7 +90,7 @@ fn side_of(acceptor: bool) -> u8
 
 // Whose a refusal of a turn is: the writer's for 28, else the reader's.
 fn whose_in(acceptor: bool, number: u32) -> u8
-    ensures { result ≡ whoseIn acceptor number }
+    ensures { result ≡ whose_in acceptor number }
 {
     if number == 28 {
         return side_of(acceptor);
@@ -100,8 +100,8 @@ fn whose_in(acceptor: bool, number: u32) -> u8
 
 // A replay that a turn's refusal ends.
 fn end_with(s: Replay, acceptor: bool, answer: Answer) -> Replay
-    ensures { result ≡ endedWith s
-        (record { missing = false; refusal = answer.refusal; place = answer.place; whose = whoseIn acceptor answer.refusal }) }
+    ensures { result ≡ ended_with s
+        (record { missing = false; refusal = answer.refusal; place = answer.place; whose = whose_in acceptor answer.refusal }) }
 {
     let place = answer.place;
     let whose = whose_in(acceptor, answer.refusal);
@@ -119,7 +119,7 @@ fn end_with(s: Replay, acceptor: bool, answer: Answer) -> Replay
 
 // The record of a role.
 fn role_of(s: Replay, acceptor: bool) -> Record
-    ensures { result ≡ roleOf acceptor s }
+    ensures { result ≡ role_of acceptor s }
 {
     if acceptor {
         return s.acceptor;
@@ -137,7 +137,7 @@ fn go_on(
     messages: u32,
 ) -> Replay
     requires { Ready s octets messages }
-    ensures { result ≡ wentOn acceptor s writer reader octets messages }
+    ensures { result ≡ went_on acceptor s writer reader octets messages }
 {
     let number = s.number + messages;
     let turns = s.turns + 1;
@@ -178,7 +178,7 @@ fn play_side(s: Replay, acceptor: bool, marks: u16, t: &[u8], messages: u32, d: 
 
 // A replay that no turn is left of.
 fn done(s: Replay) -> Replay
-    ensures { result ≡ endedWith s s.fault }
+    ensures { result ≡ ended_with s s.fault }
 {
     let mut next = s;
     next.more = false;
@@ -187,7 +187,7 @@ fn done(s: Replay) -> Replay
 
 // The next turn.
 pub fn play_turn(s: Replay, marks: Marks, ifile: &[u8], afile: &[u8], d: &mut [u8]) -> Replay
-    requires { Fine ifile.now afile.now s × (s.more ≡ true) × (endingAs s.fault ≡ finished) }
+    requires { Fine ifile.now afile.now s × (s.more ≡ true) × (ending_as s.fault ≡ finished) }
     ensures { Goes marks ifile.now afile.now s d.old result d.new }
 {
     let iplace = s.iplace;
@@ -220,8 +220,8 @@ pub fn play_turn(s: Replay, marks: Marks, ifile: &[u8], afile: &[u8], d: &mut [u
 
 // All turns that are left.
 fn play_all(s: Replay, marks: Marks, ifile: &[u8], afile: &[u8], d: &mut [u8]) -> Replay
-    requires { Fine ifile.now afile.now s × (s.more ≡ true) × (endingAs s.fault ≡ finished) }
-    ensures { playedAs result d.new ≡ counted s.turns
+    requires { Fine ifile.now afile.now s × (s.more ≡ true) × (ending_as s.fault ≡ finished) }
+    ensures { played_as result d.new ≡ counted s.turns
         (summary (rest_of marks ifile.now afile.now s d.old)) }
 {
     let mut replay = s;
@@ -241,8 +241,8 @@ pub fn play(
     afile: &[u8],
     transcript: &mut [u8],
 ) -> Replay
-    ensures { playedAs result transcript.new ≡ summary
-        (replayOf (caseWith ilist.now alist.now marks found ifile.now afile.now)
+    ensures { played_as result transcript.new ≡ summary
+        (replay_of (case_with ilist.now alist.now marks found ifile.now afile.now)
         transcript.old) }
 {
     let replay = start(ilist, alist, marks, found, ifile, afile);

@@ -14,12 +14,12 @@ use mir.Facts.{to_z_pos, to_z-of_z}
 use Rattle.vector.specs.declared.TokenPlace.{TokenPlace}
 use Rattle.token.specs.declared.Answer.{Answer}
 use Rattle.token.specs.declared.Answer.TheVariants as answer
-use Rattle.token.specs.Token.{Placed, Reading, tokenOf, outcomeOf, told}
+use Rattle.token.specs.Token.{Placed, Reading, token_of, outcome_of, told}
 use Rattle.token.specs.Split.{join}
-use Rattle.token.specs.Walk.{messagesOf}
+use Rattle.token.specs.Walk.{messages_of}
 use Rattle.token.proofs.Splits.{refused-stops}
 use Rattle.token.proofs.Walks.{answer-accepts, answer-number, answer-refuses}
-use Rattle.replies.specs.Replies.{Reply, given, refused, and_then, readingReply, messagesReply, answer_of, lent, writtenIn, messagesAnswer, faultPlace, placeAnswer}
+use Rattle.replies.specs.Replies.{Reply, given, refused, and_then, reading_reply, messages_reply, answer_of, lent, written_in, messages_answer, fault_place, place_answer}
 
 -- ---- numbers
 minus : (n : ℕ) → pos 0 -ℤ pos n ≡ neg_ℤ (pos n)
@@ -42,34 +42,34 @@ module _ (z : ℤ) (f : SFits w64 z) where
   same y e = to_z-of_z f ∙ e
 
 -- ---- the two outcomes of the structural reading
-module _ (s : List ℕ) (r : Answer) (r-is : told r ≡ outcomeOf (tokenOf s)) where
+module _ (s : List ℕ) (r : Answer) (r-is : told r ≡ outcome_of (token_of s)) where
   module _ (n : ℕ) (here : r ≡ answer.Messages n) where
-    pub reply-given : messagesReply s ≡ given (messagesOf (tokenOf s))
-    reply-given = ap readingReply (answer-accepts s r r-is n here)
+    pub reply-given : messages_reply s ≡ given (messages_of (token_of s))
+    reply-given = ap reading_reply (answer-accepts s r r-is n here)
 
-    pub messages-number : (z : ℤ) → SFits w64 z → z ≡ pos n → to_z w64 (of_z w64 z) ≡ messagesAnswer s
+    pub messages-number : (z : ℤ) → SFits w64 z → z ≡ pos n → to_z w64 (of_z w64 z) ≡ messages_answer s
     messages-number z f e =
         same z f (pos n) e ∙ ap pos (sym (answer-number s r r-is n here))
         ∙ sym (ap (λ (x : Reply (List Placed)). answer_of (and_then x (λ ms. given (length ms)))) reply-given)
 
-    pub place_none : (z : ℤ) → SFits w64 z → z ≡ pos 0 → to_z w64 (of_z w64 z) ≡ placeAnswer s
-    place_none z f e = same z f (pos 0) e ∙ sym (ap (λ (x : Reading). pos (faultPlace x)) (answer-accepts s r r-is n here))
+    pub place_none : (z : ℤ) → SFits w64 z → z ≡ pos 0 → to_z w64 (of_z w64 z) ≡ place_answer s
+    place_none z f e = same z f (pos 0) e ∙ sym (ap (λ (x : Reading). pos (fault_place x)) (answer-accepts s r r-is n here))
 
   module _ (n : ℕ) (place : TokenPlace) (here : r ≡ answer.Refused n place) where
-    pub reply-refused : messagesReply s ≡ refused n
-    reply-refused = ap readingReply (answer-refuses s r r-is n place here)
+    pub reply-refused : messages_reply s ≡ refused n
+    reply-refused = ap reading_reply (answer-refuses s r r-is n place here)
 
     pub any-refused : (f : List Placed → Reply ℕ) (z : ℤ) → SFits w64 z → z ≡ neg_ℤ (pos n)
-        → to_z w64 (of_z w64 z) ≡ answer_of (and_then (messagesReply s) f)
+        → to_z w64 (of_z w64 z) ≡ answer_of (and_then (messages_reply s) f)
     any-refused f z g e = same z g (neg_ℤ (pos n)) e ∙ sym (ap (λ (x : Reply (List Placed)). answer_of (and_then x f)) reply-refused)
 
     pub lent-refused : (f : List Placed → Reply (List ℕ)) (d : List ℕ) (z : ℤ) → SFits w64 z → z ≡ neg_ℤ (pos n)
-        → lent (to_z w64 (of_z w64 z)) d ≡ writtenIn d (and_then (messagesReply s) f)
+        → lent (to_z w64 (of_z w64 z)) d ≡ written_in d (and_then (messages_reply s) f)
     lent-refused f d z g e =
-        ap (λ (x : ℤ). lent x d) (same z g (neg_ℤ (pos n)) e) ∙ sym (ap (λ (x : Reply (List Placed)). writtenIn d (and_then x f)) reply-refused)
+        ap (λ (x : ℤ). lent x d) (same z g (neg_ℤ (pos n)) e) ∙ sym (ap (λ (x : Reply (List Placed)). written_in d (and_then x f)) reply-refused)
 
-    pub place-fault : (z : ℤ) → SFits w64 z → z ≡ pos place.0 → to_z w64 (of_z w64 z) ≡ placeAnswer s
-    place-fault z f e = same z f (pos place.0) e ∙ sym (ap (λ (x : Reading). pos (faultPlace x)) (answer-refuses s r r-is n place here))
+    pub place-fault : (z : ℤ) → SFits w64 z → z ≡ pos place.0 → to_z w64 (of_z w64 z) ≡ place_answer s
+    place-fault z f e = same z f (pos place.0) e ∙ sym (ap (λ (x : Reading). pos (fault_place x)) (answer-refuses s r r-is n place here))
 
     pub fault-small : place.0 < 2 ^ 63
     fault-small = elim (refused-stops s n place.0 (answer-refuses s r r-is n place here)) [

@@ -8,9 +8,9 @@ use native.Mathlib.Omega.{arith}
 use lib.ListN.{length, take, length-append}
 use lib.Seq.{take_at}
 use Rattle.message.specs.Layout.{Head, head_of}
-use Rattle.token.specs.Token.{Accepted, tokenOf}
-use Rattle.token.specs.Split.{Numbered, join, placedFrom, Stop}
-use Rattle.token.specs.Walk.{messagesOf, Accepts}
+use Rattle.token.specs.Token.{Accepted, token_of}
+use Rattle.token.specs.Split.{Numbered, join, placed_from, Stop}
+use Rattle.token.specs.Walk.{messages_of, Accepts}
 use Rattle.token.proofs.Splits.{message-head, refused-stops, splits-accepted}
 use Rattle.replies.specs.Replies.{FrontAccepted}
 
@@ -26,13 +26,13 @@ stopped s n p ms rest stop h =
     let head : head_of s ≡ head_of (join ms) =
     ap head_of (sym stop.joins) ∙ same_head ms (head_of s).sequence (head_of s).conversation rest stop.numbered
     (omega (arith, stop.place)) in
-    let read : tokenOf (join ms) ≡ Accepted (placedFrom 0 ms) = splits-accepted (join ms) ms (record {
+    let read : token_of (join ms) ≡ Accepted (placed_from 0 ms) = splits-accepted (join ms) ms (record {
       short = omega (arith, stop.short, ap length stop.joins, length-append (join ms) rest);
       some = omega (arith, stop.place);
       joins = refl;
       numbered = subst (λ (x : Head). Numbered x.sequence x.conversation ms) head stop.numbered;
     }) in
-    subst Accepts (sym front) (read ∙ ap Accepted (sym (ap messagesOf read)))
+    subst Accepts (sym front) (read ∙ ap Accepted (sym (ap messages_of read)))
 
 pub front-accepted : FrontAccepted
 front-accepted s n p e h = elim (refused-stops s n p e) [

@@ -17,14 +17,14 @@ use Rattle.vector.specs.declared.TokenPlace.{TokenPlace}
 use Rattle.message.specs.Layout.{head_of}
 use Rattle.token.specs.declared.Answer.{Answer}
 use Rattle.token.specs.declared.Answer.TheVariants as answer
-use Rattle.token.specs.Token.{Placed, Reading, Accepted, Refused, tokenOf, outcomeOf, told}
-use Rattle.token.specs.Split.{Message, Numbered, join, placedFrom}
-use Rattle.token.specs.Walk.{messagesOf, messageAt}
+use Rattle.token.specs.Token.{Placed, Reading, Accepted, Refused, token_of, outcome_of, told}
+use Rattle.token.specs.Split.{Message, Numbered, join, placed_from}
+use Rattle.token.specs.Walk.{messages_of, message_at}
 use Rattle.token.proofs.Splits.{message-length}
 use Rattle.token.proofs.Walks.{whole, accepted-short, answer-accepts, answer-refuses}
 use Rattle.put.specs.Put.{put, Written}
-use Rattle.table.specs.Table.{placed_at, fieldsIn}
-use Rattle.replies.specs.Replies.{Reply, given, refused, and_then, readingReply, item_at, fits, messageIn, lackOf, answer_of, lent, writtenIn, fieldAnswer, conversationAnswer}
+use Rattle.table.specs.Table.{placed_at, fields_in}
+use Rattle.replies.specs.Replies.{Reply, given, refused, and_then, reading_reply, item_at, fits, message_in, lack_of, answer_of, lent, written_in, field_answer, conversation_answer}
 use Rattle.replies.proofs.Answers.{same}
 
 -- ---- item k of a list
@@ -50,8 +50,8 @@ pub record Stands (end : ℕ) (m : Placed) : Type 0 where
   pub passes : Message number conversation m.octets
   pub ends : m.place + length m.octets ≤ end
 
-stands : (ms : List (List ℕ)) (place q : ℕ) (v : List ℕ) → Numbered q v ms → (k : ℕ) → k < length (placedFrom place ms)
-    → Stands (place + length (join ms)) (get_or (placedFrom place ms) k beyond)
+stands : (ms : List (List ℕ)) (place q : ℕ) (v : List ℕ) → Numbered q v ms → (k : ℕ) → k < length (placed_from place ms)
+    → Stands (place + length (join ms)) (get_or (placed_from place ms) k beyond)
 stands [] place q v e k h = absurd (omega arith)
 stands (m ∷ ms) place q v e zero h = record { number = q; conversation = v; passes = e.0; ends = omega (arith, length-append m (join ms)) }
 stands (m ∷ ms) place q v e (suc k) h =
@@ -59,16 +59,16 @@ stands (m ∷ ms) place q v e (suc k) h =
     record { number = w.number; conversation = w.conversation; passes = w.passes; ends = omega (arith, w.ends, length-append m (join ms)) }
 
 -- a token that has a message is accepted
-accepts : (r : Reading) (k : ℕ) → k < length (messagesOf r) → r ≡ Accepted (messagesOf r)
+accepts : (r : Reading) (k : ℕ) → k < length (messages_of r) → r ≡ Accepted (messages_of r)
 accepts (Accepted ms) k h = refl
 accepts (Refused n p) k h = absurd (omega arith)
 
-pub there : (s : List ℕ) (k : ℕ) → k < length (messagesOf (tokenOf s)) → Stands 65535 (messageAt s k)
+pub there : (s : List ℕ) (k : ℕ) → k < length (messages_of (token_of s)) → Stands 65535 (message_at s k)
 there s k h =
-    let a = accepts (tokenOf s) k h in
+    let a = accepts (token_of s) k h in
     let (w, places) = whole s a in
     let x = stands w.ms 0 w.q w.v w.numbered k (omega (arith, ap length places)) in
-    let y : Stands (length (join w.ms)) (messageAt s k) =
+    let y : Stands (length (join w.ms)) (message_at s k) =
     subst (λ (ps : List Placed). Stands (length (join w.ms)) (get_or ps k beyond)) places
     (record { number = x.number; conversation = x.conversation; passes = x.passes; ends = omega (arith, x.ends) }) in
     record {
@@ -78,8 +78,8 @@ there s k h =
       ends = omega (arith, y.ends, ap length w.joins, accepted-short s a);
     }
 
-none : (s : List ℕ) (k : ℕ) → length (messagesOf (tokenOf s)) ≤ k → messageAt s k ≡ beyond
-none s k h = get_or-eq_default (messagesOf (tokenOf s)) beyond {n = k} h
+none : (s : List ℕ) (k : ℕ) → length (messages_of (token_of s)) ≤ k → message_at s k ≡ beyond
+none s k h = get_or-eq_default (messages_of (token_of s)) beyond {n = k} h
 
 inside-or-not : (a b : ℕ) → (a < b) ⊎ (b ≤ a)
 inside-or-not a b = elim (which (leb b a)) [
@@ -88,109 +88,109 @@ inside-or-not a b = elim (which (leb b a)) [
 ]
 
 -- a place is small, also where there is no message
-pub message-early : (s : List ℕ) (k p : ℕ) → p ≡ (messageAt s k).place → p < 2 ^ 32
-message-early s k p e = elim (inside-or-not k (length (messagesOf (tokenOf s)))) [
+pub message-early : (s : List ℕ) (k p : ℕ) → p ≡ (message_at s k).place → p < 2 ^ 32
+message-early s k p e = elim (inside-or-not k (length (messages_of (token_of s)))) [
   | inl h ↦ omega (arith, (there s k h).ends)
   | inr h ↦ omega (arith, ap (λ (m : Placed). m.place) (none s k h))
 ]
 
 -- `lack` answers the number that refuses what is not there
-module _ (s : List ℕ) (r : Answer) (r-is : told r ≡ outcomeOf (tokenOf s)) where
-  pub lacks-index : (n : ℕ) → r ≡ answer.Messages n → 19 ≡ lackOf (tokenOf s)
-  lacks-index n here = sym (ap lackOf (answer-accepts s r r-is n here))
+module _ (s : List ℕ) (r : Answer) (r-is : told r ≡ outcome_of (token_of s)) where
+  pub lacks-index : (n : ℕ) → r ≡ answer.Messages n → 19 ≡ lack_of (token_of s)
+  lacks-index n here = sym (ap lack_of (answer-accepts s r r-is n here))
 
-  pub lacks-all : (n : ℕ) (place : TokenPlace) → r ≡ answer.Refused n place → n ≡ lackOf (tokenOf s)
-  lacks-all n place here = sym (ap lackOf (answer-refuses s r r-is n place here))
+  pub lacks-all : (n : ℕ) (place : TokenPlace) → r ≡ answer.Refused n place → n ≡ lack_of (token_of s)
+  lacks-all n place here = sym (ap lack_of (answer-refuses s r r-is n place here))
 
 pub ruleset lacks = (lacks-index, lacks-all)
 
 -- m is what `message_at` answers
-module _ (s : List ℕ) (k : ℕ) (m : List ℕ) (m-is : m ≡ (messageAt s k).octets) where
+module _ (s : List ℕ) (k : ℕ) (m : List ℕ) (m-is : m ≡ (message_at s k).octets) where
   module _ (empty : length m ≡ 0) where
-    outside : length (messagesOf (tokenOf s)) ≤ k
-    outside = elim (inside-or-not k (length (messagesOf (tokenOf s)))) [
+    outside : length (messages_of (token_of s)) ≤ k
+    outside = elim (inside-or-not k (length (messages_of (token_of s)))) [
       | inl h ↦ let w =
-          there s k h in absurd (omega (arith, ap length m-is, message-length w.number w.conversation (messageAt s k).octets w.passes))
+          there s k h in absurd (omega (arith, ap length m-is, message-length w.number w.conversation (message_at s k).octets w.passes))
       | inr h ↦ h
     ]
 
-    pub no-message : messageIn s k ≡ refused (lackOf (tokenOf s))
-    unfolding messageIn
-    no-message = go (tokenOf s) outside where
-      go : (r : Reading) → length (messagesOf r) ≤ k → and_then (readingReply r) (λ ms. item_at ms k) ≡ refused (lackOf r)
+    pub no-message : message_in s k ≡ refused (lack_of (token_of s))
+    unfolding message_in
+    no-message = go (token_of s) outside where
+      go : (r : Reading) → length (messages_of r) ≤ k → and_then (reading_reply r) (λ ms. item_at ms k) ≡ refused (lack_of r)
       go (Accepted ms) h = item_refused ms k h
       go (Refused n p) h = refl
 
-    module _ (n : ℕ) (n-is : n ≡ lackOf (tokenOf s)) (z : ℤ) (f : SFits w64 z) (z-is : z ≡ neg_ℤ (pos n)) where
-      lack-is : to_z w64 (of_z w64 z) ≡ neg_ℤ (pos (lackOf (tokenOf s)))
+    module _ (n : ℕ) (n-is : n ≡ lack_of (token_of s)) (z : ℤ) (f : SFits w64 z) (z-is : z ≡ neg_ℤ (pos n)) where
+      lack-is : to_z w64 (of_z w64 z) ≡ neg_ℤ (pos (lack_of (token_of s)))
       lack-is = same z f (neg_ℤ (pos n)) z-is ∙ ap (λ (x : ℕ). neg_ℤ (pos x)) n-is
 
-      pub message-lacks : (g : Placed → Reply ℕ) → to_z w64 (of_z w64 z) ≡ answer_of (and_then (messageIn s k) g)
+      pub message-lacks : (g : Placed → Reply ℕ) → to_z w64 (of_z w64 z) ≡ answer_of (and_then (message_in s k) g)
       message-lacks g = lack-is ∙ sym (ap (λ (x : Reply Placed). answer_of (and_then x g)) no-message)
 
-      pub lacks-lent : (d : List ℕ) (g : Placed → Reply (List ℕ)) → lent (to_z w64 (of_z w64 z)) d ≡ writtenIn d (and_then (messageIn s k) g)
-      lacks-lent d g = ap (λ (x : ℤ). lent x d) lack-is ∙ sym (ap (λ (x : Reply Placed). writtenIn d (and_then x g)) no-message)
+      pub lacks-lent : (d : List ℕ) (g : Placed → Reply (List ℕ)) → lent (to_z w64 (of_z w64 z)) d ≡ written_in d (and_then (message_in s k) g)
+      lacks-lent d g = ap (λ (x : ℤ). lent x d) lack-is ∙ sym (ap (λ (x : Reply Placed). written_in d (and_then x g)) no-message)
 
   module _ (some : length m ≡ 0 → ⊥) where
-    inside : k < length (messagesOf (tokenOf s))
-    inside = elim (inside-or-not k (length (messagesOf (tokenOf s)))) [
+    inside : k < length (messages_of (token_of s))
+    inside = elim (inside-or-not k (length (messages_of (token_of s)))) [
       | inl h ↦ h
       | inr h ↦ absurd (some (ap length (m-is ∙ ap (λ (x : Placed). x.octets) (none s k h))))
     ]
 
-    pub stand : Stands 65535 (messageAt s k)
+    pub stand : Stands 65535 (message_at s k)
     stand = there s k inside
 
-    pub message-given : messageIn s k ≡ given (messageAt s k)
-    unfolding messageIn
+    pub message-given : message_in s k ≡ given (message_at s k)
+    unfolding message_in
     message-given =
-        ap (λ (r : Reading). and_then (readingReply r) (λ ms. item_at ms k)) (accepts (tokenOf s) k inside)
-        ∙ item-given (messagesOf (tokenOf s)) k beyond inside
+        ap (λ (r : Reading). and_then (reading_reply r) (λ ms. item_at ms k)) (accepts (token_of s) k inside)
+        ∙ item-given (messages_of (token_of s)) k beyond inside
 
     pub message-long : 40 ≤ length m
-    message-long = omega (arith, ap length m-is, message-length stand.number stand.conversation (messageAt s k).octets stand.passes)
+    message-long = omega (arith, ap length m-is, message-length stand.number stand.conversation (message_at s k).octets stand.passes)
 
-    module _ (p : ℕ) (p-is : p ≡ (messageAt s k).place) where
-      message-is : placed_at p m ≡ messageAt s k
+    module _ (p : ℕ) (p-is : p ≡ (message_at s k).place) where
+      message-is : placed_at p m ≡ message_at s k
       message-is = rw (p-is, m-is)
 
-      module _ (xs : List ℕ) (xs-is : xs ≡ fieldsIn (placed_at p m)) (i : ℕ) (z : ℤ) (f : SFits w64 z) where
-        pub field-given : i < 5 → z ≡ pos (get_or xs i 0) → to_z w64 (of_z w64 z) ≡ fieldAnswer s k i
+      module _ (xs : List ℕ) (xs-is : xs ≡ fields_in (placed_at p m)) (i : ℕ) (z : ℤ) (f : SFits w64 z) where
+        pub field-given : i < 5 → z ≡ pos (get_or xs i 0) → to_z w64 (of_z w64 z) ≡ field_answer s k i
         field-given h e =
             same z f (pos (get_or xs i 0)) e
-            ∙ ap (λ (l : List ℕ). pos (get_or l i 0)) (xs-is ∙ ap fieldsIn message-is)
-            ∙ sym (ap (λ (x : Reply Placed). answer_of (and_then x (λ m. item_at (fieldsIn m) i))) message-given
-            ∙ ap answer_of (item-given (fieldsIn (messageAt s k)) i 0 h))
+            ∙ ap (λ (l : List ℕ). pos (get_or l i 0)) (xs-is ∙ ap fields_in message-is)
+            ∙ sym (ap (λ (x : Reply Placed). answer_of (and_then x (λ m. item_at (fields_in m) i))) message-given
+            ∙ ap answer_of (item-given (fields_in (message_at s k)) i 0 h))
 
-        pub field-beyond : 5 ≤ i → z ≡ neg_ℤ (pos 19) → to_z w64 (of_z w64 z) ≡ fieldAnswer s k i
+        pub field-beyond : 5 ≤ i → z ≡ neg_ℤ (pos 19) → to_z w64 (of_z w64 z) ≡ field_answer s k i
         field-beyond h e =
             same z f (neg_ℤ (pos 19)) e
-            ∙ sym (ap (λ (x : Reply Placed). answer_of (and_then x (λ m. item_at (fieldsIn m) i))) message-given
-            ∙ ap answer_of (item_refused (fieldsIn (messageAt s k)) i h))
+            ∙ sym (ap (λ (x : Reply Placed). answer_of (and_then x (λ m. item_at (fields_in m) i))) message-given
+            ∙ ap answer_of (item_refused (fields_in (message_at s k)) i h))
 
     -- the conversation, where it fits
-    id-long : length (head_of (messageAt s k).octets).conversation ≡ 16
+    id-long : length (head_of (message_at s k).octets).conversation ≡ 16
     unfolding head_of
-    id-long = let e : length m ≡ length (messageAt s k).octets = ap length m-is in simp (length-take, length-drop) (omega (arith, message-long))
+    id-long = let e : length m ≡ length (message_at s k).octets = ap length m-is in simp (length-take, length-drop) (omega (arith, message-long))
 
     module _ (d : List ℕ) (z : ℤ) (f : SFits w64 z) where
-      pub conversation-full : length d < 16 → z ≡ neg_ℤ (pos 16) → lent (to_z w64 (of_z w64 z)) d ≡ conversationAnswer s k d
+      pub conversation-full : length d < 16 → z ≡ neg_ℤ (pos 16) → lent (to_z w64 (of_z w64 z)) d ≡ conversation_answer s k d
       conversation-full h e =
           ap (λ (x : ℤ). lent x d) (same z f (neg_ℤ (pos 16)) e)
-          ∙ sym (ap (λ (x : Reply Placed). writtenIn d (and_then x (λ m. fits (length d) (head_of m.octets).conversation))) message-given
-          ∙ (let g : length d < length (head_of (messageAt s k).octets).conversation = omega (arith, id-long) in simp (lt-leb _ _ g)))
+          ∙ sym (ap (λ (x : Reply Placed). written_in d (and_then x (λ m. fits (length d) (head_of m.octets).conversation))) message-given
+          ∙ (let g : length d < length (head_of (message_at s k).octets).conversation = omega (arith, id-long) in simp (lt-leb _ _ g)))
 
       pub conversation-put : 16 ≤ length d → (d' v : List ℕ) (n : ℕ) → v ≡ take 16 (drop 24 m) → Written d 0 (length v) v d' n → z ≡ pos n
-          → lent (to_z w64 (of_z w64 z)) d' ≡ conversationAnswer s k d
+          → lent (to_z w64 (of_z w64 z)) d' ≡ conversation_answer s k d
       conversation-put h d' v n v-is w e =
-          let c = (head_of (messageAt s k).octets).conversation in
+          let c = (head_of (message_at s k).octets).conversation in
           let is : v ≡ c = v-is ∙ ap (λ (l : List ℕ). take 16 (drop 24 l)) m-is ∙ (unfold head_of in refl) in
           let g : length c ≤ length d = omega (arith, id-long) in
           let after : n ≡ length v = omega (arith, w.after) in
           ap (λ (x : ℤ). lent x d') (same z f (pos n) e)
           ∙ ap (λ (x : ℕ). lent (pos x) d') (after ∙ ap length is)
           ∙ ap (lent (pos (length c))) (w.holds ∙ ap (put d 0) is)
-          ∙ sym (ap (λ (x : Reply Placed). writtenIn d (and_then x (λ m. fits (length d) (head_of m.octets).conversation))) message-given
+          ∙ sym (ap (λ (x : Reply Placed). written_in d (and_then x (λ m. fits (length d) (head_of m.octets).conversation))) message-given
           ∙ simp (le-leb _ _ g))
 
 pub ruleset messages = (conversation-full, conversation-put, message-lacks, lacks-lent, message-long, message-early, field-given, field-beyond)

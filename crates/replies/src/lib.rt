@@ -1,8 +1,8 @@
 // What a host is answered of a token, its messages and their vectors: a number, or a refusal's number negated.
 ghost use Rattle.std.specs.Prelude.{◌≡◌, ◌<◌, ◌^◌, pos, neg_ℤ};
-ghost use Rattle.token.specs.Token.{tokenOf};
+ghost use Rattle.token.specs.Token.{token_of};
 ghost use Rattle.token.specs.Walk.{Accepts};
-ghost use Rattle.replies.specs.Replies.{lackOf, lent, messagesAnswer, placeAnswer, fieldAnswer, conversationAnswer, vectorsAnswer, vectorPlaceAnswer, vectorLengthAnswer, tableAnswer};
+ghost use Rattle.replies.specs.Replies.{lack_of, lent, messages_answer, place_answer, field_answer, conversation_answer, vectors_answer, vector_place_answer, vector_length_answer, table_answer};
 
 use coverage::vectors::{vector_count, vector_of};
 use message::field::{COMMON_HEADER, CONVERSATION, ID};
@@ -34,7 +34,7 @@ pub fn refusal(n: u32) -> i64
 
 // The number of messages.
 pub fn count_messages(token: &[u8]) -> i64
-    ensures { result ≡ messagesAnswer token.now }
+    ensures { result ≡ messages_answer token.now }
 {
     let reading = read_token(token);
     match reading {
@@ -45,7 +45,7 @@ pub fn count_messages(token: &[u8]) -> i64
 
 // The place of the message at fault; 0 where the token is accepted.
 pub fn fault_place(token: &[u8]) -> i64
-    ensures { result ≡ placeAnswer token.now }
+    ensures { result ≡ place_answer token.now }
 {
     let reading = read_token(token);
     match reading {
@@ -56,7 +56,7 @@ pub fn fault_place(token: &[u8]) -> i64
 
 // The number that refuses a message which the token has not.
 fn lack(token: &[u8]) -> u32
-    ensures { result ≡ lackOf (tokenOf token.now) }
+    ensures { result ≡ lack_of (token_of token.now) }
 {
     let reading = read_token(token);
     match reading {
@@ -67,7 +67,7 @@ fn lack(token: &[u8]) -> u32
 
 // A field of a message's header.
 pub fn message_field(token: &[u8], message: usize, field: usize) -> i64
-    ensures { result ≡ fieldAnswer token.now message field }
+    ensures { result ≡ field_answer token.now message field }
 {
     let m = message_at(token, message);
     if m.len() == 0 {
@@ -82,7 +82,7 @@ pub fn message_field(token: &[u8], message: usize, field: usize) -> i64
 
 // A message's conversation, at the buffer's front.
 pub fn put_conversation(token: &[u8], message: usize, buffer: &mut [u8]) -> i64
-    ensures { lent result buffer.new ≡ conversationAnswer token.now message buffer.old }
+    ensures { lent result buffer.new ≡ conversation_answer token.now message buffer.old }
 {
     let m = message_at(token, message);
     if m.len() == 0 {
@@ -96,7 +96,7 @@ pub fn put_conversation(token: &[u8], message: usize, buffer: &mut [u8]) -> i64
 
 // The number of a message's vectors.
 pub fn count_vectors(token: &[u8], message: usize) -> i64
-    ensures { result ≡ vectorsAnswer token.now message }
+    ensures { result ≡ vectors_answer token.now message }
 {
     let m = message_at(token, message);
     if m.len() == 0 {
@@ -108,7 +108,7 @@ pub fn count_vectors(token: &[u8], message: usize) -> i64
 
 // The token place of a message's vector; an empty one's is its message's.
 pub fn place_of_vector(token: &[u8], message: usize, vector: usize) -> i64
-    ensures { result ≡ vectorPlaceAnswer token.now message vector }
+    ensures { result ≡ vector_place_answer token.now message vector }
 {
     let m = message_at(token, message);
     if m.len() == 0 {
@@ -123,7 +123,7 @@ pub fn place_of_vector(token: &[u8], message: usize, vector: usize) -> i64
 
 // A vector's length in octets.
 pub fn length_of_vector(token: &[u8], message: usize, vector: usize) -> i64
-    ensures { result ≡ vectorLengthAnswer token.now message vector }
+    ensures { result ≡ vector_length_answer token.now message vector }
 {
     let m = message_at(token, message);
     if m.len() == 0 {
@@ -138,7 +138,7 @@ pub fn length_of_vector(token: &[u8], message: usize, vector: usize) -> i64
 // The table of an accepted token.
 fn fill_table(token: &[u8], buffer: &mut [u8]) -> i64
     requires { Accepts token.now }
-    ensures { lent result buffer.new ≡ tableAnswer token.now buffer.old }
+    ensures { lent result buffer.new ≡ table_answer token.now buffer.old }
 {
     if buffer.len() < table_size(token) {
         return refusal(16);
@@ -148,7 +148,7 @@ fn fill_table(token: &[u8], buffer: &mut [u8]) -> i64
 
 // The fields of all messages, with places and lengths of their vectors, at the buffer's front.
 pub fn write_table(token: &[u8], buffer: &mut [u8]) -> i64
-    ensures { lent result buffer.new ≡ tableAnswer token.now buffer.old }
+    ensures { lent result buffer.new ≡ table_answer token.now buffer.old }
 {
     let reading = read_token(token);
     match reading {

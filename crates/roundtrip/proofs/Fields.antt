@@ -15,10 +15,10 @@ use borrow.Author.Tests.{lt-ltb, le-ltb, le-leb, eq-eqb, ne_eqb}
 use Rattle.octets.specs.Octets.{le, octets, signed32}
 use Rattle.octets.proofs.Le.{le-add}
 use Rattle.vector.specs.declared.Vector.{Vector}
-use Rattle.vector.specs.Vector.{extent, keepsRule, shown}
+use Rattle.vector.specs.Vector.{extent, keeps_rule, shown}
 use Rattle.vector.proofs.Rule.{inside-rule}
-use Rattle.message.specs.Show.{signedIn}
-use Rattle.put.specs.Put.{octetsOf, unsigned32, joined}
+use Rattle.message.specs.Show.{signed_in}
+use Rattle.put.specs.Put.{octets_of, unsigned32, joined}
 use Rattle.put.proofs.Laws.{joined-append}
 use Rattle.roundtrip.specs.ReadBack.{zeros, LeOctets, SignedBack}
 
@@ -39,7 +39,7 @@ le-octets zero x t h = omega arith
 le-octets (suc k) x t h =
     let w : x / 256 < 256 ^ k = small in
     let e : suc k ≡ 1 + k = omega arith in
-    ap (λ (n : ℕ). le n (x % 256 ∷ (octetsOf k (x / 256) ++ t)) 0) e ∙ le-first k (x % 256) (octetsOf k (x / 256) ++ t)
+    ap (λ (n : ℕ). le n (x % 256 ∷ (octets_of k (x / 256) ++ t)) 0) e ∙ le-first k (x % 256) (octets_of k (x / 256) ++ t)
     ∙ ap (λ (n : ℕ). x % 256 + 256 * n) (le-octets k (x / 256) t w)
     ∙ whole where
       small : x / 256 < 256 ^ k
@@ -68,7 +68,7 @@ drop-joined i fs at e =
 
 -- field i of fs, which stands at `at`
 module _ (i at : ℕ) (fs : List (List ℕ)) (starts : length (joined (take i fs)) ≡ at) where
-  pub number_at : (k x : ℕ) (rest : List (List ℕ)) → drop i fs ≡ octetsOf k x ∷ rest → x < 256 ^ k → le k (joined fs) at ≡ x
+  pub number_at : (k x : ℕ) (rest : List (List ℕ)) → drop i fs ≡ octets_of k x ∷ rest → x < 256 ^ k → le k (joined fs) at ≡ x
   number_at k x rest e h =
       le-drop k (joined fs) at ∙ ap (λ (l : List ℕ). le k l 0) (drop-joined i fs at starts ∙ ap joined e) ∙ le-octets k x (joined rest) h
 
@@ -76,22 +76,22 @@ module _ (i at : ℕ) (fs : List (List ℕ)) (starts : length (joined (take i fs
   octets-at f rest e n h = ap (take n) (drop-joined i fs at starts ∙ ap joined e) ∙ take_at f (joined rest) n h
 
 -- a vector that keeps its rule shows the octets where it lies
-pub shown-field : (header : ℕ) (m f : List ℕ) (v : Vector) → keepsRule header (length m) v ≡ true → octets (extent v) m v.offset.0 ≡ f
+pub shown-field : (header : ℕ) (m f : List ℕ) (v : Vector) → keeps_rule header (length m) v ≡ true → octets (extent v) m v.offset.0 ≡ f
     → shown header m v ≡ f
 unfolding shown
 shown-field header m f v k e = rw k e
 
 -- "Written messages put the payload directly after the header": a vector of so many elements from the header's end on
-abbrev pub behindHeader : ℕ → ℕ → ℕ → Vector
-behindHeader size header count = record { size = size; offset = record { 0 = header }; count = count }
+abbrev pub behind_header : ℕ → ℕ → ℕ → Vector
+behind_header size header count = record { size = size; offset = record { 0 = header }; count = count }
 
 module _ (size header count : ℕ) (f : List ℕ) (whole : count * size ≡ length f) where
-  pub payload-rule : keepsRule header (header + length f) (behindHeader size header count) ≡ true
+  pub payload-rule : keeps_rule header (header + length f) (behind_header size header count) ≡ true
   payload-rule = inside-rule _ _ _ (record { behind = omega arith; before = omega arith })
 
   pub payload-shown : (m : List ℕ) → length m ≡ header + length f → octets (length f) m header ≡ f
-      → shown header m (behindHeader size header count) ≡ f
-  payload-shown m n e = shown-field header m f (behindHeader size header count) (rw n payload-rule) (rw whole e)
+      → shown header m (behind_header size header count) ≡ f
+  payload-shown m n e = shown-field header m f (behind_header size header count) (rw n payload-rule) (rw whole e)
 
 -- two's complement, there and back
 pub signed_back : SignedBack
@@ -104,8 +104,8 @@ signed_back (negsuc n) f =
 
 -- what the reader of a signed number hands back of a message in which one was written
 pub signed-shown : (least : ℕ) (m : List ℕ) (at : ℕ) (z : ℤ) → least ≤ length m → le 4 m at ≡ unsigned32 z → mag z < 2147483648
-    → signedIn least m at ≡ z
-unfolding signedIn
+    → signed_in least m at ≡ z
+unfolding signed_in
 signed-shown least m at z h e r = simp (le-leb _ _ h) (ap signed32 e ∙ signed_back z r)
 
 pub unsigned_small : (z : ℤ) → mag z < 2147483648 → unsigned32 z < 4294967296

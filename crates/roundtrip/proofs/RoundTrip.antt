@@ -11,46 +11,46 @@ use lib.Seq.{take_at, drop_at, length-take-le}
 use lib.Dec.{leb, eqb}
 use borrow.Author.Tests.{leb-true, eqb-true}
 use Rattle.octets.proofs.Bools.{which, both}
-use Rattle.message.specs.Layout.{headerOf, padsOf, Head, head_of, size, front, contentOf, vectors_of}
-use Rattle.message.specs.Check.{allKeepRule, firstFailing, FirstFails}
+use Rattle.message.specs.Layout.{header_of, pads_of, Head, head_of, size, front, content_of, vectors_of}
+use Rattle.message.specs.Check.{all_keep_rule, first_failing, FirstFails}
 use Rattle.message.proofs.Tables.{refuses-first}
-use Rattle.message.specs.Show.{idsAt, ids_of, schemesIn}
-use Rattle.token.specs.Token.{passes, nextRows}
+use Rattle.message.specs.Show.{ids_at, ids_of, schemes_in}
+use Rattle.token.specs.Token.{passes, next_rows}
 use Rattle.token.specs.Split.{Message, Numbered, join}
 use Rattle.message.proofs.Shapes.{header-least}
 use Rattle.token.proofs.Splits.{numbered-accepted, stops-refused}
 use Rattle.put.specs.Put.{put, joined}
-use Rattle.elements.specs.Elements.{itemsFit}
+use Rattle.elements.specs.Elements.{items_fit}
 use Rattle.encode.specs.declared.Heading.{Heading}
-use Rattle.encode.specs.Encode.{Whole, Offer, Contents, ofNego, ofExchange, ofVerify, ofAlert, size_of, hasKind, fitsFields, encodable, encoded, written, unwritten, storing}
-use Rattle.roundtrip.specs.ReadBack.{InRange, Sent, shapeFor, contentRead, ordinaryIn, Shows, ReadsBack, Stands, Outgoing, octetsOfAll, InSequence, AllOrdinary, ReadEncode, NegoBegins, WrittenAccepted, CriticalRefused, StoredStands, padsZero, PadsWritten}
+use Rattle.encode.specs.Encode.{Whole, Offer, Contents, of_nego, of_exchange, of_verify, of_alert, size_of, has_kind, fits_fields, encodable, encoded, written, unwritten, storing}
+use Rattle.roundtrip.specs.ReadBack.{InRange, Sent, shape_for, content_read, ordinary_in, Shows, ReadsBack, Stands, Outgoing, octets_of_all, InSequence, AllOrdinary, ReadEncode, NegoBegins, WrittenAccepted, CriticalRefused, StoredStands, pads_zero, PadsWritten}
 use Rattle.roundtrip.proofs.Arrays.{types-fit}
 use Rattle.roundtrip.proofs.Heads.{fitting, stops-encoded, size-encoded, head-encoded, front-encoded, verdict-encoded, passes-encoded}
 use Rattle.roundtrip.proofs.Layouts.{nego-listed, nego-content, nego-pads, nego-rules, nego-shows, exchange-content, exchange-pads, exchange-rules, exchange-shows, verify-content, verify-pads, verify-rules, verify-shows, alert-content, alert-pads, alert-rules, alert-shows}
 
 -- what the layouts give, for any contents
 record Laid (h : Heading) (c : Contents) : Type 0 where
-  content : contentOf (shapeFor c) (encoded h c) ≡ contentRead c
-  pads : padsZero (encoded h c) (padsOf (shapeFor c)) ≡ true
-  rules : allKeepRule (headerOf (shapeFor c)) (size_of c) (vectors_of (contentRead c)) ≡ true
+  content : content_of (shape_for c) (encoded h c) ≡ content_read c
+  pads : pads_zero (encoded h c) (pads_of (shape_for c)) ≡ true
+  rules : all_keep_rule (header_of (shape_for c)) (size_of c) (vectors_of (content_read c)) ≡ true
   shows : Shows c (encoded h c)
 
 record NegoFits (o : Offer) : Type 0 where
   ids : length o.schemes % 16 ≡ 0
   count : length o.schemes ≤ 1048560
-  fit : itemsFit o.extensions ≡ true
+  fit : items_fit o.extensions ≡ true
 
-nego-fits : (h : Heading) (o : Offer) → Sent h (ofNego o) → NegoFits o
+nego-fits : (h : Heading) (o : Offer) → Sent h (of_nego o) → NegoFits o
 unfolding encodable
 nego-fits h o s =
-    let a = both (hasKind (ofNego o) h.kind.0) (fitsFields (ofNego o)) s.can in
-    let b = both (eqb (length o.schemes % 16) 0) (leb (length o.schemes) 1048560 && itemsFit o.extensions) a.1 in
-    let f = both (leb (length o.schemes) 1048560) (itemsFit o.extensions) b.1 in
+    let a = both (has_kind (of_nego o) h.kind.0) (fits_fields (of_nego o)) s.can in
+    let b = both (eqb (length o.schemes % 16) 0) (leb (length o.schemes) 1048560 && items_fit o.extensions) a.1 in
+    let f = both (leb (length o.schemes) 1048560) (items_fit o.extensions) b.1 in
     record { ids = eqb-true (length o.schemes % 16) 0 b.0; count = leb-true (length o.schemes) 1048560 f.0; fit = f.1 }
 
 laid : (h : Heading) (c : Contents) → Sent h c → InRange c → Laid h c
 unfolding encodable
-laid h (ofNego o) s range =
+laid h (of_nego o) s range =
     let f = nego-fits h o s in
     record {
       content = nego-content h s.id o s.whole f.ids f.count f.fit (types-fit o.extensions range);
@@ -58,24 +58,24 @@ laid h (ofNego o) s range =
       rules = nego-rules h s.id o s.whole f.ids f.count f.fit (types-fit o.extensions range);
       shows = nego-shows h s.id o s.whole f.ids f.count f.fit (types-fit o.extensions range);
     }
-laid h (ofExchange p) s range =
-    let n = leb-true (length p.value) 4294967231 (both (hasKind (ofExchange p) h.kind.0) (fitsFields (ofExchange p)) s.can).1 in
+laid h (of_exchange p) s range =
+    let n = leb-true (length p.value) 4294967231 (both (has_kind (of_exchange p) h.kind.0) (fits_fields (of_exchange p)) s.can).1 in
     record {
       content = exchange-content h s.id p s.whole n;
       pads = exchange-pads h s.id p s.whole n;
       rules = exchange-rules h s.id p s.whole n;
       shows = exchange-shows h s.id p s.whole n;
     }
-laid h (ofVerify k) s range =
-    let n = leb-true (length k.value) 4294967215 (both (hasKind (ofVerify k) h.kind.0) (fitsFields (ofVerify k)) s.can).1 in
+laid h (of_verify k) s range =
+    let n = leb-true (length k.value) 4294967215 (both (has_kind (of_verify k) h.kind.0) (fits_fields (of_verify k)) s.can).1 in
     record {
       content = verify-content h s.id k s.whole range n;
       pads = verify-pads h s.id k s.whole range n;
       rules = verify-rules h s.id k s.whole range n;
       shows = verify-shows h s.id k s.whole range n;
     }
-laid h (ofAlert p) s range =
-    let f = (both (hasKind (ofAlert p) h.kind.0) (fitsFields (ofAlert p)) s.can).1 in
+laid h (of_alert p) s range =
+    let f = (both (has_kind (of_alert p) h.kind.0) (fits_fields (of_alert p)) s.can).1 in
     record {
       content = alert-content h s.id p s.whole range.0 f (types-fit p.alerts range.1);
       pads = alert-pads h s.id p s.whole range.0 f (types-fit p.alerts range.1);
@@ -104,8 +104,8 @@ read-encode h c s range r =
 pub nego-begins : NegoBegins
 nego-begins h o s r =
     let f = nego-fits h o s in (
-      ap (λ (g : Head). g.kind) (head-encoded h (ofNego o) s r),
-      ap schemesIn (front-encoded h (ofNego o) s r)
+      ap (λ (g : Head). g.kind) (head-encoded h (of_nego o) s r),
+      ap schemes_in (front-encoded h (of_nego o) s r)
           ∙ (nego-listed h s.id o s.whole f.ids f.count f.fit).1,
     )
 
@@ -118,19 +118,19 @@ length_ids : (is : List (List ℕ)) → AllIds is → length (joined is) ≡ 16 
 length_ids [] e = refl
 length_ids (i ∷ is) e = let k = length_ids is e.1 in omega (arith, length-append i (joined is), e.0)
 
-ids_at : (is : List (List ℕ)) → AllIds is → idsAt (length is) (joined is) ≡ is
-unfolding idsAt
-ids_at [] e = refl
-ids_at (i ∷ is) e = rw (take_at i (joined is) 16 e.0, drop_at i (joined is) 16 e.0) (ap (λ (l : List (List ℕ)). i ∷ l) (ids_at is e.1))
+ids_at_lem : (is : List (List ℕ)) → AllIds is → ids_at (length is) (joined is) ≡ is
+unfolding ids_at
+ids_at_lem [] e = refl
+ids_at_lem (i ∷ is) e = rw (take_at i (joined is) 16 e.0, drop_at i (joined is) 16 e.0) (ap (λ (l : List (List ℕ)). i ∷ l) (ids_at_lem is e.1))
 
 pub ids-joined : (is : List (List ℕ)) → AllIds is → ids_of (joined is) ≡ is
 ids-joined is e =
     let k = length_ids is e in
     let n : length (joined is) / 16 ≡ length is = omega arith in
-    rw n (ids_at is e)
+    rw n (ids_at_lem is e)
 
 -- a written message is one message, whole and no more, with its number in its conversation
-pub encoded-message : (h : Heading) (c : Contents) → Sent h c → InRange c → ordinaryIn c ≡ true
+pub encoded-message : (h : Heading) (c : Contents) → Sent h c → InRange c → ordinary_in c ≡ true
     → Message h.sequence h.conversation (encoded h c)
 encoded-message h c s range o =
     let l = laid h c s range in
@@ -140,7 +140,7 @@ encoded-message h c s range o =
       exact = ap size (sym e) ∙ ap (λ (g : Head). g.length) (head-encoded h c s []) ∙ sym (size-encoded h c s);
     }
 
-all-numbered : (q : ℕ) (v : List ℕ) (ms : List Outgoing) → InSequence q v ms → AllOrdinary ms → Numbered q v (octetsOfAll ms)
+all-numbered : (q : ℕ) (v : List ℕ) (ms : List Outgoing) → InSequence q v ms → AllOrdinary ms → Numbered q v (octets_of_all ms)
 all-numbered q v [] e o = tt
 all-numbered q v (m ∷ ms) e o =
     let one = encoded-message m.heading m.contents e.0.0 e.0.1 o.0 in (
@@ -152,9 +152,9 @@ all-numbered q v (m ∷ ms) e o =
 -- A token of written messages, numbered in sequence and of one conversation, is accepted, and its list is those messages.
 pub written-accepted : WrittenAccepted
 written-accepted q v m ms e o w =
-    numbered-accepted q v (encoded m.heading m.contents) (octetsOfAll ms) (all-numbered q v (m ∷ ms) e o) w
+    numbered-accepted q v (encoded m.heading m.contents) (octets_of_all ms) (all-numbered q v (m ∷ ms) e o) w
 
-count-all : (ms : List Outgoing) → length (octetsOfAll ms) ≡ length ms
+count-all : (ms : List Outgoing) → length (octets_of_all ms) ≡ length ms
 count-all [] = refl
 count-all (m ∷ ms) = ap suc (count-all ms)
 
@@ -170,39 +170,39 @@ begins-with q v m ms r e =
     record { number = ap (λ (g : Head). g.sequence) k ∙ e.1.0; conversation = ap (λ (g : Head). g.conversation) k ∙ e.1.1.0 }
 
 begins : (q : ℕ) (v : List ℕ) (ms : List Outgoing) (m : Outgoing) (r : List ℕ) → InSequence q v ms → InSequence (q + length ms) v (m ∷ [])
-    → Begins q v (join (octetsOfAll ms) ++ (encoded m.heading m.contents ++ r))
+    → Begins q v (join (octets_of_all ms) ++ (encoded m.heading m.contents ++ r))
 begins q v [] m r e f = let b = begins-with (q + 0) v m [] r f in record { number = omega (arith, b.number); conversation = b.conversation }
 begins q v (x ∷ xs) m r e f =
-    rw (append_assoc (encoded x.heading x.contents) (join (octetsOfAll xs)) (encoded m.heading m.contents ++ r))
+    rw (append_assoc (encoded x.heading x.contents) (join (octets_of_all xs)) (encoded m.heading m.contents ++ r))
     (begins-with q v x xs _ e)
 
 -- a written message with a critical extension fails by 12
-pub critical-stops : (h : Heading) (c : Contents) → Sent h c → InRange c → ordinaryIn c ≡ false → (r : List ℕ)
+pub critical-stops : (h : Heading) (c : Contents) → Sent h c → InRange c → ordinary_in c ≡ false → (r : List ℕ)
     → (passes (encoded h c ++ r) h.sequence h.conversation ≡ false)
-    × (firstFailing (nextRows (encoded h c ++ r) h.sequence h.conversation) ≡ 12)
+    × (first_failing (next_rows (encoded h c ++ r) h.sequence h.conversation) ≡ 12)
 critical-stops h c s range o r = let l = laid h c s range in stops-encoded h c s r l.content l.rules o
 
 pub some-octets : (h : Heading) (c : Contents) → Sent h c → (r : List ℕ) → 0 < length (encoded h c ++ r)
 some-octets h c s r =
     let k = (fitting h c s.can).header in
-    omega (arith, size-encoded h c s, length-append (encoded h c) r, header-least (shapeFor c))
+    omega (arith, size-encoded h c s, length-append (encoded h c) r, header-least (shape_for c))
 
 -- It stops its token there with 12, whatever follows it.
 pub critical-refused : CriticalRefused
 critical-refused q v ms m r e f o c w =
     let h = m.heading in
     let t = encoded h m.contents ++ r in
-    let s = join (octetsOfAll ms) ++ t in
+    let s = join (octets_of_all ms) ++ t in
     let b = begins q v ms m r e f in
     let stop = critical-stops h m.contents f.0.0 f.0.1 c r in
-    let first : FirstFails 12 (nextRows t h.sequence h.conversation) =
-    subst (λ (j : ℕ). FirstFails j (nextRows t h.sequence h.conversation)) stop.1
-    (refuses-first (nextRows t h.sequence h.conversation) stop.0) in
-    let j : h.sequence ≡ (head_of s).sequence + length (octetsOfAll ms) = omega (arith, f.1.0, b.number, count-all ms) in
+    let first : FirstFails 12 (next_rows t h.sequence h.conversation) =
+    subst (λ (j : ℕ). FirstFails j (next_rows t h.sequence h.conversation)) stop.1
+    (refuses-first (next_rows t h.sequence h.conversation) stop.0) in
+    let j : h.sequence ≡ (head_of s).sequence + length (octets_of_all ms) = omega (arith, f.1.0, b.number, count-all ms) in
     let d : h.conversation ≡ (head_of s).conversation = f.1.1.0 ∙ sym b.conversation in
-    stops-refused s 12 (length (join (octetsOfAll ms)))
+    stops-refused s 12 (length (join (octets_of_all ms)))
     (inr (inr (
-      octetsOfAll ms,
+      octets_of_all ms,
       (
         t,
         record {
@@ -210,12 +210,12 @@ critical-refused q v ms m r e f o c w =
           some = some-octets h m.contents f.0.0 r;
           joins = refl;
           numbered =
-              subst (λ (i : ℕ). Numbered i (head_of s).conversation (octetsOfAll ms)) (sym b.number)
-              (subst (λ (i : List ℕ). Numbered q i (octetsOfAll ms)) (sym b.conversation) (all-numbered q v ms e o));
+              subst (λ (i : ℕ). Numbered i (head_of s).conversation (octets_of_all ms)) (sym b.number)
+              (subst (λ (i : List ℕ). Numbered q i (octets_of_all ms)) (sym b.conversation) (all-numbered q v ms e o));
           place = refl;
           first =
-              subst (λ (i : ℕ). FirstFails 12 (nextRows t i (head_of s).conversation)) j
-              (subst (λ (i : List ℕ). FirstFails 12 (nextRows t h.sequence i)) d first);
+              subst (λ (i : ℕ). FirstFails 12 (next_rows t i (head_of s).conversation)) j
+              (subst (λ (i : List ℕ). FirstFails 12 (next_rows t h.sequence i)) d first);
         },
       ),
     )))

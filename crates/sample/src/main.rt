@@ -2,7 +2,7 @@
 // Then the offer is read as a token alone.
 ghost use Rattle.std.specs.Prelude.{◌≡◌, ◌/◌, length};
 ghost use Rattle.vector.specs.Vector.{shown};
-ghost use Rattle.message.specs.Layout.{schemeVector};
+ghost use Rattle.message.specs.Layout.{scheme_vector};
 
 use libc::STDOUT_FILENO;
 use negoex::{
@@ -37,7 +37,7 @@ fn say_choice(a: Answer) {
 
 // How many schemes a NEGO lists; the contract is one over the library's definitions.
 fn listed(m: &[u8]) -> usize
-    ensures { result ≡ length (shown 96 m.now (schemeVector m.now)) / 16 }
+    ensures { result ≡ length (shown 96 m.now (scheme_vector m.now)) / 16 }
 {
     schemes(m).len() / 16
 }

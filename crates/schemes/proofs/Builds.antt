@@ -10,16 +10,16 @@ use lib.ListN.{length, get_or, take, drop, length-drop, drop_of_length-le}
 use lib.Seq.{drop-cons}
 use lib.Pow.{pow_mono}
 use Rattle.octets.specs.Octets.{octets}
-use Rattle.message.specs.Show.{idsAt, ids_of}
+use Rattle.message.specs.Show.{ids_at, ids_of}
 use Rattle.message.proofs.Ids.{length_ids}
 use Rattle.schemes.specs.Lists.{Id, mem, bit}
-use Rattle.schemes.specs.Sets.{setOf, commonSet}
-use Rattle.schemes.specs.Answers.{markedAt}
+use Rattle.schemes.specs.Sets.{set_of, common_set}
+use Rattle.schemes.specs.Answers.{marked_at}
 use Rattle.schemes.proofs.Ids.{rest, rest-start, rest-step}
 use Rattle.schemes.proofs.Places.{set-bound}
 
 -- One more place in front, in the words of the code: the list l' is x and then l, and b says whether x has p.
-module _ {A : Type 0} (p : A → Bool) (l : List A) (set : ℕ) (inv : set ≡ setOf p l) where
+module _ {A : Type 0} (p : A → Bool) (l : List A) (set : ℕ) (inv : set ≡ set_of p l) where
   -- a set of at most 15 places has room for one more
   set_room : length l ≤ 15 → set * 2 + 1 < 65536
   set_room h =
@@ -28,14 +28,14 @@ module _ {A : Type 0} (p : A → Bool) (l : List A) (set : ℕ) (inv : set ≡ s
       omega arith
 
   module _ (x : A) (l' : List A) (l'-is : l' ≡ x ∷ l) (b : Bool) (b-is : b ≡ p x) where
-    set-step : setOf p l' ≡ cond b 1 0 + 2 * set
-    unfolding setOf
+    set-step : set_of p l' ≡ cond b 1 0 + 2 * set
+    unfolding set_of
     set-step = rw (l'-is, ← b-is, ← inv)
 
-    set-hit : b ≡ true → set * 2 + 1 ≡ setOf p l'
+    set-hit : b ≡ true → set * 2 + 1 ≡ set_of p l'
     set-hit t = sym (set-step ∙ rw t (omega arith))
 
-    set-miss : b ≡ false → set * 2 ≡ setOf p l'
+    set-miss : b ≡ false → set * 2 ≡ set_of p l'
     set-miss t = sym (set-step ∙ rw t (omega arith))
 
 -- the common set, by the own list's places
@@ -43,12 +43,12 @@ module _ (own : List ℕ) (n : ℕ) (peer : List ℕ) where
   abbrev listed : Id → Bool
   listed x = mem x (ids_of peer)
 
-  pub common-start : 0 ≡ commonSet (rest n own n) (ids_of peer)
-  unfolding setOf idsAt
+  pub common-start : 0 ≡ common_set (rest n own n) (ids_of peer)
+  unfolding set_of ids_at
   common-start = rw sub_self
 
-  module _ (k set : ℕ) (inv : set ≡ commonSet (rest n own k) (ids_of peer)) where
-    pub common-end : k ≤ 0 → set ≡ commonSet (idsAt n own) (ids_of peer)
+  module _ (k set : ℕ) (inv : set ≡ common_set (rest n own k) (ids_of peer)) where
+    pub common-end : k ≤ 0 → set ≡ common_set (ids_at n own) (ids_of peer)
     common-end h = let e : k ≡ 0 = omega arith in (rw e at inv) ∙ rw (← rest-start n own)
 
     module _ (more : 0 < k) (inside : k ≤ n) where
@@ -58,37 +58,37 @@ module _ (own : List ℕ) (n : ℕ) (peer : List ℕ) where
       pub common-half : n ≤ 16 → set * 2 < 65536
       common-half few = omega (arith, common-room few)
 
-      module _ (b : Bool) (b-is : b ≡ mem (take ((k - 1) * 16 + 16 - (k - 1) * 16) (drop ((k - 1) * 16) own)) (idsAt (length peer / 16) peer)) where
+      module _ (b : Bool) (b-is : b ≡ mem (take ((k - 1) * 16 + 16 - (k - 1) * 16) (drop ((k - 1) * 16) own)) (ids_at (length peer / 16) peer)) where
         next-is : rest n own (k - 1) ≡ octets 16 own ((k - 1) * 16) ∷ rest n own k
         next-is = let e : k - 1 + 1 ≡ k = omega arith in rest-step n own (k - 1) (omega arith) ∙ rw e
 
         test-is : b ≡ listed (octets 16 own ((k - 1) * 16))
         test-is = rw add-sub_cancel_left at b-is
 
-        pub common-hit : b ≡ true → set * 2 + 1 ≡ commonSet (rest n own (k - 1)) (ids_of peer)
+        pub common-hit : b ≡ true → set * 2 + 1 ≡ common_set (rest n own (k - 1)) (ids_of peer)
         common-hit = set-hit listed (rest n own k) set inv _ (rest n own (k - 1)) next-is b test-is
 
-        pub common-miss : b ≡ false → set * 2 ≡ commonSet (rest n own (k - 1)) (ids_of peer)
+        pub common-miss : b ≡ false → set * 2 ≡ common_set (rest n own (k - 1)) (ids_of peer)
         common-miss = set-miss listed (rest n own k) set inv _ (rest n own (k - 1)) next-is b test-is
 
 pub ruleset commons = (common-start, common-end, common-room, common-half, common-hit, common-miss)
 
 -- the marks, by the kept places
 module _ (kept : List ℕ) (sized : length kept ≡ 16) (marks : ℕ) where
-  abbrev isMarked : ℕ → Bool
-  isMarked k = bit marks k
+  abbrev is_marked : ℕ → Bool
+  is_marked k = bit marks k
 
-  pub marks-start : 0 ≡ markedAt (drop 16 kept) marks
-  unfolding setOf
+  pub marks-start : 0 ≡ marked_at (drop 16 kept) marks
+  unfolding set_of
   marks-start = let h : length kept ≤ 16 = omega arith in rw (drop_of_length-le kept h)
 
-  module _ (k set : ℕ) (inv : set ≡ markedAt (drop k kept) marks) where
-    pub marks-end : k ≤ 0 → set ≡ markedAt kept marks
+  module _ (k set : ℕ) (inv : set ≡ marked_at (drop k kept) marks) where
+    pub marks-end : k ≤ 0 → set ≡ marked_at kept marks
     marks-end h = let e : k ≡ 0 = omega arith in rw e at inv
 
     module _ (more : 0 < k) (inside : k ≤ 16) where
       pub marks-room : set * 2 + 1 < 65536
-      marks-room = set_room isMarked (drop k kept) set inv (simp length-drop (omega arith))
+      marks-room = set_room is_marked (drop k kept) set inv (simp length-drop (omega arith))
 
       pub marks-half : set * 2 < 65536
       marks-half = omega (arith, marks-room)
@@ -97,10 +97,10 @@ module _ (kept : List ℕ) (sized : length kept ≡ 16) (marks : ℕ) where
         kept-is : drop (k - 1) kept ≡ get_or kept (k - 1) 0 ∷ drop k kept
         kept-is = let e : suc (k - 1) ≡ k = omega arith in drop-cons kept (k - 1) 0 (omega arith) ∙ rw e
 
-        pub marks-hit : b ≡ true → set * 2 + 1 ≡ markedAt (drop (k - 1) kept) marks
-        marks-hit = set-hit isMarked (drop k kept) set inv _ (drop (k - 1) kept) kept-is b b-is
+        pub marks-hit : b ≡ true → set * 2 + 1 ≡ marked_at (drop (k - 1) kept) marks
+        marks-hit = set-hit is_marked (drop k kept) set inv _ (drop (k - 1) kept) kept-is b b-is
 
-        pub marks-miss : b ≡ false → set * 2 ≡ markedAt (drop (k - 1) kept) marks
-        marks-miss = set-miss isMarked (drop k kept) set inv _ (drop (k - 1) kept) kept-is b b-is
+        pub marks-miss : b ≡ false → set * 2 ≡ marked_at (drop (k - 1) kept) marks
+        marks-miss = set-miss is_marked (drop k kept) set inv _ (drop (k - 1) kept) kept-is b b-is
 
 pub ruleset markings = (marks-start, marks-end, marks-room, marks-half, marks-hit, marks-miss)

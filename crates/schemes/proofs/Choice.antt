@@ -8,9 +8,9 @@ use mathlib.Core.List.{List, [], ◌∷◌}
 use mathlib.Core.Option.{some}
 use native.Mathlib.Omega.{arith}
 use Rattle.octets.proofs.Bools.{which, no_true, and_l, and_r, and_i}
-use Rattle.octets.specs.Octets.{sameOctets}
+use Rattle.octets.specs.Octets.{same_octets}
 use Rattle.octets.proofs.Same.{same_refl, same-eq}
-use Rattle.schemes.specs.Lists.{Id, mem, place, distinct, keep, first, marked, usable, leftOver, rule2, replyOf}
+use Rattle.schemes.specs.Lists.{Id, mem, place, distinct, keep, first, marked, usable, left_over, rule2, reply_of}
 use Rattle.schemes.specs.Longer.{Within, none_left, kept, gained, Longer, SameMarks, NoLater, LongerOffer}
 
 -- keep
@@ -21,12 +21,12 @@ mem-head x l = rw (same_refl x)
 
 pub mem-tail : (s x : Id) (l : List Id) → mem s l ≡ true → mem s (x ∷ l) ≡ true
 unfolding mem
-mem-tail s x l m = elim (which (sameOctets s x)) [ inl e ↦ rw e | inr e ↦ rw e m ]
+mem-tail s x l m = elim (which (same_octets s x)) [ inl e ↦ rw e | inr e ↦ rw e m ]
 
 pub keep-mem : (p : Id → Bool) (l : List Id) (s : Id) → p s ≡ true → mem s l ≡ true → mem s (keep p l) ≡ true
 unfolding mem
 keep-mem p [] s h m = m
-keep-mem p (x ∷ l) s h m = elim (which (sameOctets s x)) [
+keep-mem p (x ∷ l) s h m = elim (which (same_octets s x)) [
   | inl e ↦ let f : p x ≡ true = rw (same-eq s x e) at h in rw (f, e)
   | inr e ↦ elim (which (p x)) [
     | inl f ↦ rw (f, e) (keep-mem p l s h (rw e at m))
@@ -38,7 +38,7 @@ pub mem-keep : (p : Id → Bool) (l : List Id) (s : Id) → mem s (keep p l) ≡
 unfolding mem
 mem-keep p [] s m = no_true m
 mem-keep p (x ∷ l) s m = elim (which (p x)) [
-  | inl f ↦ elim (which (sameOctets s x)) [
+  | inl f ↦ elim (which (same_octets s x)) [
     | inl e ↦ (rw (same-eq s x e) f, rw e)
     | inr e ↦ let r : (p s ≡ true) × (mem s l ≡ true) = mem-keep p l s (rw (f, e) at m) in (r.0, rw e r.1)
   ]
@@ -83,8 +83,8 @@ keep-distinct p (x ∷ l) d =
       | inr e ↦ rw e i
     ]
 
-pub not-mem-same : (s x : Id) (l : List Id) → mem s l ≡ true → not (mem x l) ≡ true → sameOctets s x ≡ false
-not-mem-same s x l m n = elim (which (sameOctets s x)) [
+pub not-mem-same : (s x : Id) (l : List Id) → mem s l ≡ true → not (mem x l) ≡ true → same_octets s x ≡ false
+not-mem-same s x l m n = elim (which (same_octets s x)) [
   | inl e ↦ no_true (let q : mem x l ≡ true = rw (same-eq s x e) at m in rw q at n)
   | inr e ↦ e
 ]
@@ -97,9 +97,9 @@ unfolding mem place
 first-place p [] c d e h m = no_true m
 first-place p (x ∷ l) c d e h m = elim (which (p x)) [
   | inl f ↦ let q : c ≡ x = (let e' : some x ≡ some c = rw f at e in cc) in rw (q, same_refl x) (omega arith)
-  | inr f ↦ elim (which (sameOctets d x)) [
+  | inr f ↦ elim (which (same_octets d x)) [
     | inl g ↦ no_true (sym f ∙ (ap p (sym (same-eq d x g)) ∙ h))
-    | inr g ↦ elim (which (sameOctets c x)) [
+    | inr g ↦ elim (which (same_octets c x)) [
       | inl k ↦ rw (k, g) (omega arith)
       | inr k ↦ rw (k, g) (let i : place l c ≤ place l d = first-place p l c d (rw f at e) h (rw g at m) in omega arith)
     ]
@@ -110,12 +110,12 @@ first-place p (x ∷ l) c d e h m = elim (which (p x)) [
 pub place-inj : (l : List Id) (c d : Id) → mem c l ≡ true → mem d l ≡ true → place l c ≡ place l d → c ≡ d
 unfolding mem place
 place-inj [] c d m n e = no_true m
-place-inj (x ∷ l) c d m n e = elim (which (sameOctets c x)) [
-  | inl f ↦ elim (which (sameOctets d x)) [
+place-inj (x ∷ l) c d m n e = elim (which (same_octets c x)) [
+  | inl f ↦ elim (which (same_octets d x)) [
     | inl g ↦ same-eq c x f ∙ sym (same-eq d x g)
     | inr g ↦ absurd (let z : 0 ≡ suc (place l d) = rw (f, g) at e in omega arith)
   ]
-  | inr f ↦ elim (which (sameOctets d x)) [
+  | inr f ↦ elim (which (same_octets d x)) [
     | inl g ↦ absurd (let z : suc (place l c) ≡ 0 = rw (f, g) at e in omega arith)
     | inr g ↦ place-inj l c d (rw f at m) (rw g at n) (let z : suc (place l c) ≡ suc (place l d) = rw (f, g) at e in omega arith)
   ]
@@ -126,8 +126,8 @@ place-inj (x ∷ l) c d m n e = elim (which (sameOctets c x)) [
 pub within-mem : {l k : List Id} → Within l k → (s : Id) → mem s l ≡ true → mem s k ≡ true
 unfolding mem
 within-mem none_left s m = m
-within-mem (kept {x = x} w) s m = elim (which (sameOctets s x)) [ inl e ↦ rw e | inr e ↦ rw e (within-mem w s (rw e at m)) ]
-within-mem (gained {x = x} w) s m = elim (which (sameOctets s x)) [ inl e ↦ rw e | inr e ↦ rw e (within-mem w s m) ]
+within-mem (kept {x = x} w) s m = elim (which (same_octets s x)) [ inl e ↦ rw e | inr e ↦ rw e (within-mem w s (rw e at m)) ]
+within-mem (gained {x = x} w) s m = elim (which (same_octets s x)) [ inl e ↦ rw e | inr e ↦ rw e (within-mem w s m) ]
 
 -- the wider list, cut down to the narrower one's schemes, is the narrower one
 pub within-keep : {l k : List Id} → Within l k → distinct k ≡ true → keep (λ s. mem s l) k ≡ l
@@ -152,7 +152,7 @@ within-keep (gained {x = x} {l = l} {k = k} w) d =
 module _ (acc ini acc' ini' : List Id) (up : Longer acc ini acc' ini') (d : distinct acc' ≡ true) (ma mi : ℕ) (c : Id)
     (before : rule2 acc ini ma mi ≡ some c) where
   chosen : (usable acc ini ma mi c ≡ true) × (mem c acc ≡ true)
-  chosen = mem-keep (usable acc ini ma mi) acc c (first-mem (leftOver acc ini ma mi) c before)
+  chosen = mem-keep (usable acc ini ma mi) acc c (first-mem (left_over acc ini ma mi) c before)
 
   -- a scheme that both listed and neither marked before is so still
   carried : (ma' mi' : ℕ) → SameMarks acc ini acc ma acc' ma' → SameMarks acc ini ini mi ini' mi'
@@ -163,7 +163,7 @@ module _ (acc ini acc' ini' : List Id) (up : Longer acc ini acc' ini') (d : dist
   listed = and_l (mem c ini) (not (marked acc ma c)) (and_l (mem c ini && not (marked acc ma c)) (not (marked ini mi c)) chosen.0)
 
   pub still-usable : (ma' mi' : ℕ) → SameMarks acc ini acc ma acc' ma' → SameMarks acc ini ini mi ini' mi'
-      → mem c (leftOver acc' ini' ma' mi') ≡ true
+      → mem c (left_over acc' ini' ma' mi') ≡ true
   still-usable ma' mi' sa si =
       keep-mem (usable acc' ini' ma' mi') acc' c
       (carried ma' mi' sa si c chosen.1 listed ∙ chosen.0)
@@ -171,7 +171,7 @@ module _ (acc ini acc' ini' : List Id) (up : Longer acc ini acc' ini') (d : dist
 
   -- the acceptor's reply is not empty
   pub still-common : (ma' : ℕ) → SameMarks acc ini acc ma acc' ma'
-      → mem c (replyOf acc' ini' ma') ≡ true
+      → mem c (reply_of acc' ini' ma') ≡ true
   still-common ma' sa =
       keep-mem (λ s. mem s ini' && not (marked acc' ma' s)) acc' c
       (rw (sa c chosen.1 listed, up.gains c listed)
@@ -190,7 +190,7 @@ module _ (acc ini acc' ini' : List Id) (up : Longer acc ini acc' ini') (d : dist
       let e : keep v acc' ≡ keep (usable acc ini ma mi) acc =
       sym (keep-keep (usable acc ini ma mi) (λ s. mem s acc) acc') ∙ ap (keep (usable acc ini ma mi)) (within-keep up.in_order d) in
       record {
-        no-later = le;
+        no_later = le;
         new = λ ne a i.
             let ge : place acc' c ≤ place acc' c' =
             first-place v acc' c c' (ap first e ∙ before) (and_i (mem c' acc) (usable acc ini ma mi c') a (sym (carried ma' mi' sa si c' a i) ∙ h.0))

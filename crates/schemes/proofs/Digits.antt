@@ -13,7 +13,7 @@ use borrow.Author.Tests.{ltb-true, ltb-false, eqb-true, eqb-false, eq-eqb, ne_eq
 use Rattle.octets.proofs.Bools.{which}
 use Rattle.schemes.specs.Lists.{bit}
 use Rattle.schemes.specs.Sets.{ones, below}
-use Rattle.schemes.specs.Answers.{withBit}
+use Rattle.schemes.specs.Answers.{with_bit}
 
 pub bit-shift : (m k : ℕ) → eqb (m / 2 ^ k % 2) 1 ≡ bit m k
 bit-shift m zero = rw div-one
@@ -85,8 +85,8 @@ bit-room (suc n) m (suc k) h g e =
     omega (arith, bit-room n (m / 2) k (omega arith) (omega arith) e)
 
 module _ (m k : ℕ) (b : Bool) (b-is : b ≡ bit m k) where
-  pub with-old : b ≡ true → m ≡ withBit m k
-  unfolding withBit
+  pub with-old : b ≡ true → m ≡ with_bit m k
+  unfolding with_bit
   with-old t = rw (← b-is, t)
 
   module _ (low : k < 16) (small : m < 2 ^ 16) (t : b ≡ false) where
@@ -96,8 +96,8 @@ module _ (m k : ℕ) (b : Bool) (b-is : b ≡ bit m k) where
     pub with-fits : m + 1 * 2 ^ k % 65536 < 65536
     with-fits = rw one_bit (bit-room 16 m k small low (sym b-is ∙ t))
 
-    pub with-new : m + 1 * 2 ^ k % 65536 ≡ withBit m k
-    unfolding withBit
+    pub with-new : m + 1 * 2 ^ k % 65536 ≡ with_bit m k
+    unfolding with_bit
     with-new = rw (one_bit, ← b-is, t)
 
 pub ruleset additions = (with-old, with-fits, with-new)
@@ -106,8 +106,8 @@ pub ruleset additions = (with-old, with-fits, with-new)
 pub ones_below : (k : ℕ) → below k (ones k) ≡ true
 ones_below k = lt-ltb (ones k) (2 ^ k) (omega (arith, ones-pow k))
 
-pub with-below : (n m k : ℕ) → below n m ≡ true → k < n → below n (withBit m k) ≡ true
-unfolding withBit
+pub with-below : (n m k : ℕ) → below n m ≡ true → k < n → below n (with_bit m k) ≡ true
+unfolding with_bit
 with-below n m k h low = go (bit m k) refl where
   go : (b : Bool) → bit m k ≡ b → below n (cond b m (m + 2 ^ k)) ≡ true
   go true e = h
@@ -133,8 +133,8 @@ bit-plus m (suc k) (suc j) e =
     let q : (m + 2 ^ suc k) / 2 ≡ m / 2 + 2 ^ k = omega arith in
     rw (q, eqb-suc-suc) (bit-plus (m / 2) k j e)
 
-pub bit-with : (m k j : ℕ) → bit (withBit m k) j ≡ (eqb j k || bit m j)
-unfolding withBit
+pub bit-with : (m k j : ℕ) → bit (with_bit m k) j ≡ (eqb j k || bit m j)
+unfolding with_bit
 bit-with m k j = go (bit m k) refl where
   same : (b : Bool) → eqb j k ≡ b → bit m k ≡ true → bit m j ≡ (b || bit m j)
   same true f e = let q : j ≡ k = eqb-true j k f in rw q e

@@ -13,68 +13,68 @@ use lib.Dec.{eqb, ltb, leb-suc-suc}
 use borrow.Author.Tests.{eqb-true, eqb-false, eq-eqb, ne_eqb, le-leb, lt-leb, lt-ltb, le-ltb}
 use Rattle.octets.proofs.Bools.{which}
 use Rattle.octets.proofs.Slices.{tail_all}
-use Rattle.octets.specs.Octets.{octets, sameOctets, sameId}
+use Rattle.octets.specs.Octets.{octets, same_octets, same_id}
 use Rattle.octets.proofs.Same.{same-eq, first-no-id, ids-start}
-use Rattle.message.specs.Show.{idsAt}
+use Rattle.message.specs.Show.{ids_at}
 use Rattle.message.proofs.Ids.{length_ids}
-use Rattle.schemes.specs.Lists.{Id, mem, place, distinct, listOk}
+use Rattle.schemes.specs.Lists.{Id, mem, place, distinct, list_ok}
 
 -- beside an id of 16 octets, being the same id is having the same octets
-pub same-as : (a b : List ℕ) → length b ≡ 16 → sameId a b ≡ sameOctets a b
+pub same-as : (a b : List ℕ) → length b ≡ 16 → same_id a b ≡ same_octets a b
 same-as a b h = go (which (eqb (length a) 16)) where
-  other : (length a ≡ 16 → ⊥) → (sameOctets a b ≡ true) ⊎ (sameOctets a b ≡ false) → false ≡ sameOctets a b
+  other : (length a ≡ 16 → ⊥) → (same_octets a b ≡ true) ⊎ (same_octets a b ≡ false) → false ≡ same_octets a b
   other u (inl e) = absurd (u (ap length (same-eq a b e) ∙ h))
   other u (inr e) = sym e
 
-  go : (eqb (length a) 16 ≡ true) ⊎ (eqb (length a) 16 ≡ false) → sameId a b ≡ sameOctets a b
+  go : (eqb (length a) 16 ≡ true) ⊎ (eqb (length a) 16 ≡ false) → same_id a b ≡ same_octets a b
   go (inl e) = ids-start a b (eqb-true _ _ e)
   go (inr e) =
       let u : length a ≡ 16 → ⊥ = eqb-false _ _ e in
-      sym (first-no-id a b u) ∙ other u (which (sameOctets a b))
+      sym (first-no-id a b u) ∙ other u (which (same_octets a b))
 
 -- ---- what is left of the n ids of s from place k on
 abbrev pub rest : ℕ → List ℕ → ℕ → List Id
-rest n s k = idsAt (n - k) (drop (k * 16) s)
+rest n s k = ids_at (n - k) (drop (k * 16) s)
 
-pub rest-start : (n : ℕ) (s : List ℕ) → idsAt n s ≡ rest n s 0
+pub rest-start : (n : ℕ) (s : List ℕ) → ids_at n s ≡ rest n s 0
 rest-start n s = rw sub-zero
 
 pub rest-step : (n : ℕ) (s : List ℕ) (k : ℕ) → k < n → rest n s k ≡ octets 16 s (k * 16) ∷ rest n s (k + 1)
-unfolding idsAt
+unfolding ids_at
 rest-step n s k h =
     let e : n - k ≡ suc (n - (k + 1)) = omega arith in
     let f : k * 16 + 16 ≡ (k + 1) * 16 = omega arith in
     simp (e, drop-drop, f)
 
 pub rest_end : (n : ℕ) (s : List ℕ) (k : ℕ) → n ≤ k → rest n s k ≡ []
-unfolding idsAt
+unfolding ids_at
 rest_end n s k h = let e : n - k ≡ 0 = omega arith in rw e
 
 -- ---- a scheme stands in a list where its place lies inside
 pub mem-place : (s : Id) (l : List Id) → mem s l ≡ ltb (place l s) (length l)
 unfolding mem place
 mem-place s [] = refl
-mem-place s (x ∷ l) = go (sameOctets s x) (mem-place s l) where
+mem-place s (x ∷ l) = go (same_octets s x) (mem-place s l) where
   go : (b : Bool) → mem s l ≡ ltb (place l s) (length l) → cond b true (mem s l) ≡ ltb (cond b 0 (suc (place l s))) (suc (length l))
   go true e = sym (lt-ltb 0 (suc (length l)) (omega arith))
   go false e = e ∙ sym (leb-suc-suc (suc (place l s)) (length l))
 
-module _ (id s : List ℕ) (n p : ℕ) (p-is : p ≡ place (idsAt n s) id) where
-  listed : mem id (idsAt n s) ≡ ltb p n
-  listed = mem-place id (idsAt n s) ∙ rw (length_ids, p-is)
+module _ (id s : List ℕ) (n p : ℕ) (p-is : p ≡ place (ids_at n s) id) where
+  listed : mem id (ids_at n s) ≡ ltb p n
+  listed = mem-place id (ids_at n s) ∙ rw (length_ids, p-is)
 
-  pub has-it : p < n → true ≡ mem id (idsAt n s)
+  pub has-it : p < n → true ≡ mem id (ids_at n s)
   has-it h = sym (listed ∙ lt-ltb _ _ h)
 
-  pub has-not : n ≤ p → false ≡ mem id (idsAt n s)
+  pub has-not : n ≤ p → false ≡ mem id (ids_at n s)
   has-not h = sym (listed ∙ le-ltb _ _ h)
 
-  pub has-test : ltb p n ≡ mem id (idsAt n s)
+  pub has-test : ltb p n ≡ mem id (ids_at n s)
   has-test = sym listed
 
 -- ---- one turn of the search: x is what the loop began with
 module _ (s id : List ℕ) (n : ℕ) where
-  pub find-start : place (idsAt n s) id ≡ 0 + place (rest n s 0) id
+  pub find-start : place (ids_at n s) id ≡ 0 + place (rest n s 0) id
   find-start = rw (rest-start n s) (omega arith)
 
   module _ (k x : ℕ) (inv : x ≡ k + place (rest n s k) id) where
@@ -82,8 +82,8 @@ module _ (s id : List ℕ) (n : ℕ) where
     unfolding place
     find-end g h = sym (inv ∙ rw (rest_end n s k h) (omega arith))
 
-    module _ (room : n * 16 ≤ length s) (more : k < n) (b : Bool) (b-is : b ≡ sameId id (take (k * 16 + 16 - k * 16) (drop (k * 16) s))) where
-      same : sameOctets id (octets 16 s (k * 16)) ≡ b
+    module _ (room : n * 16 ≤ length s) (more : k < n) (b : Bool) (b-is : b ≡ same_id id (take (k * 16 + 16 - k * 16) (drop (k * 16) s))) where
+      same : same_octets id (octets 16 s (k * 16)) ≡ b
       same =
           let l : length (octets 16 s (k * 16)) ≡ 16 = simp (length-take, length-drop) (omega arith) in
           sym ((rw add-sub_cancel_left at b-is) ∙ same-as id (octets 16 s (k * 16)) l)
@@ -98,7 +98,7 @@ module _ (s id : List ℕ) (n : ℕ) where
 
 -- ---- one turn of the test for repeats
 module _ (s : List ℕ) (n : ℕ) where
-  pub distinct-start : distinct (idsAt n s) ≡ distinct (rest n s 0)
+  pub distinct-start : distinct (ids_at n s) ≡ distinct (rest n s 0)
   distinct-start = rw (rest-start n s)
 
   module _ (k : ℕ) (x : Bool) (inv : x ≡ distinct (rest n s k)) where
@@ -108,7 +108,7 @@ module _ (s : List ℕ) (n : ℕ) where
 
     module _ (more : k < n) (b : Bool)
         (b-is : b ≡ mem (take (k * 16 + 16 - k * 16) (drop (k * 16) s))
-        (idsAt (n - (k + 1)) (take (length s - (k * 16 + 16)) (drop (k * 16 + 16) s))))
+        (ids_at (n - (k + 1)) (take (length s - (k * 16 + 16)) (drop (k * 16 + 16) s))))
       where
         known : mem (octets 16 s (k * 16)) (rest n s (k + 1)) ≡ b
         known =
@@ -125,22 +125,22 @@ module _ (s : List ℕ) (n : ℕ) where
 
 -- ---- the answers about an own list
 module _ (own : List ℕ) where
-  pub list-uneven : (length own % 16 ≡ 0 → ⊥) → false ≡ listOk own
-  unfolding listOk
+  pub list-uneven : (length own % 16 ≡ 0 → ⊥) → false ≡ list_ok own
+  unfolding list_ok
   list-uneven h = rw (ne_eqb _ _ h)
 
   module _ (even : length own % 16 ≡ 0) where
-    pub list-empty : length own / 16 < 1 → false ≡ listOk own
-    unfolding listOk
+    pub list-empty : length own / 16 < 1 → false ≡ list_ok own
+    unfolding list_ok
     list-empty h = simp (eq-eqb _ _ even, length_ids, lt-leb _ _ h)
 
     module _ (some : 1 ≤ length own / 16) where
-      pub list-long : 16 < length own / 16 → false ≡ listOk own
-      unfolding listOk
+      pub list-long : 16 < length own / 16 → false ≡ list_ok own
+      unfolding list_ok
       list-long h = simp (eq-eqb _ _ even, length_ids, le-leb _ _ some, lt-leb _ _ h)
 
-      pub list-judged : length own / 16 ≤ 16 → (b : Bool) → b ≡ distinct (idsAt (length own / 16) own) → b ≡ listOk own
-      unfolding listOk
+      pub list-judged : length own / 16 ≤ 16 → (b : Bool) → b ≡ distinct (ids_at (length own / 16) own) → b ≡ list_ok own
+      unfolding list_ok
       list-judged h b e = e ∙ simp (eq-eqb _ _ even, length_ids, le-leb _ _ some, le-leb _ _ h)
 
 pub ruleset searches = (find-start, find-end, find-hit, find-miss, has-it, has-not, has-test)

@@ -13,8 +13,8 @@ use lib.Dec.{ltb}
 use borrow.Author.Tests.{eq-eqb, ne_eqb, lt-ltb, ltb-true}
 use Rattle.octets.proofs.Bools.{both}
 use Rattle.schemes.specs.Lists.{Id, place, bit}
-use Rattle.schemes.specs.Sets.{has, noted, mentions, keptPlaces, openPlaces, keptBelow, padTo}
-use Rattle.schemes.specs.Answers.{placesFrom, leftPlaces, left_of}
+use Rattle.schemes.specs.Sets.{has, noted, mentions, kept_places, open_places, kept_below, pad_to}
+use Rattle.schemes.specs.Answers.{places_from, left_places, left_of}
 
 module _ (p m n : ℕ) where
   pub asked : m % 2 ≡ 1 → ltb p n ≡ (not (bit m 0) || ltb p n)
@@ -23,20 +23,20 @@ module _ (p m n : ℕ) where
   pub unasked : (m % 2 ≡ 1 → ⊥) → true ≡ (not (bit m 0) || ltb p n)
   unasked h = rw (ne_eqb (m % 2) 1 h)
 
-module _ (ks : List ℕ) (sized : length ks ≡ 16) (n k m : ℕ) (x : Bool) (inv : x ≡ keptBelow n (drop k ks) m) where
+module _ (ks : List ℕ) (sized : length ks ≡ 16) (n k m : ℕ) (x : Bool) (inv : x ≡ kept_below n (drop k ks) m) where
   pub below_end : 16 ≤ k → true ≡ x
-  unfolding keptBelow
+  unfolding kept_below
   below_end h = let g : length ks ≤ k = omega arith in sym (inv ∙ rw (drop_of_length-le ks g))
 
   module _ (more : k < 16) (b : Bool) (b-is : b ≡ (not (bit m 0) || ltb (get_or ks k 0) n)) where
-    step : x ≡ b && keptBelow n (drop (k + 1) ks) (m / 2)
-    unfolding keptBelow
+    step : x ≡ b && kept_below n (drop (k + 1) ks) (m / 2)
+    unfolding kept_below
     step = let g : k < length ks = omega arith in inv ∙ rw (drop-cons ks k 0 g, ← b-is, add-one)
 
     pub below-stop : b ≡ false → false ≡ x
     below-stop t = sym (step ∙ rw t)
 
-    pub below-pass : b ≡ true → x ≡ keptBelow n (drop (k + 1) ks) (m / 2)
+    pub below-pass : b ≡ true → x ≡ kept_below n (drop (k + 1) ks) (m / 2)
     below-pass t = step ∙ rw t
 
 pub ruleset limits = (asked, unasked, below_end, below-stop, below-pass)
@@ -62,61 +62,61 @@ unfolding mentions
 mentions-below own [] ps a = a
 mentions-below own (y ∷ ys) ps a = mentions-below own ys (noted (length own) (place own y) ps) (noted-below (length own) (place own y) ps a)
 
-none-asked : (n : ℕ) (zs : List ℕ) → keptBelow n zs 0 ≡ true
-unfolding keptBelow
+none-asked : (n : ℕ) (zs : List ℕ) → kept_below n zs 0 ≡ true
+unfolding kept_below
 none-asked n [] = refl
 none-asked n (z ∷ zs) = none-asked n zs
 
-all-kept : (n : ℕ) (ks zs : List ℕ) (c : ℕ) → AllBelow n ks → c < 2 ^ length ks → keptBelow n (ks ++ zs) c ≡ true
-unfolding keptBelow
+all-kept : (n : ℕ) (ks zs : List ℕ) (c : ℕ) → AllBelow n ks → c < 2 ^ length ks → kept_below n (ks ++ zs) c ≡ true
+unfolding kept_below
 all-kept n [] zs c a h = let e : c ≡ 0 = omega arith in rw e (none-asked n zs)
 all-kept n (k ∷ ks) zs c a h =
     let p : 2 ^ suc (length ks) ≡ 2 ^ length ks * 2 = pow-suc 2 (length ks) in
     rw (lt-ltb k n a.0) (go (not (bit c 0)) (all-kept n ks zs (c / 2) a.1 (omega arith)))
   where
-    go : (b : Bool) → keptBelow n (ks ++ zs) (c / 2) ≡ true → (b || true) && keptBelow n (ks ++ zs) (c / 2) ≡ true
+    go : (b : Bool) → kept_below n (ks ++ zs) (c / 2) ≡ true → (b || true) && kept_below n (ks ++ zs) (c / 2) ≡ true
     go true e = e
     go false e = e
 
-pub kept-below : (own reply : List Id) (c : ℕ) → c < 2 ^ length (keptPlaces own reply)
-    → keptBelow (length own) (padTo 16 (keptPlaces own reply)) c ≡ true
-kept-below own reply c h = all-kept (length own) (keptPlaces own reply) _ c (mentions-below own reply [] tt) h
+pub kept-below : (own reply : List Id) (c : ℕ) → c < 2 ^ length (kept_places own reply)
+    → kept_below (length own) (pad_to 16 (kept_places own reply)) c ≡ true
+kept-below own reply c h = all-kept (length own) (kept_places own reply) _ c (mentions-below own reply [] tt) h
 
 -- ---- for callers: a place that is chosen lies inside the list
-pub open-below : (n : ℕ) (ks : List ℕ) (c m : ℕ) → keptBelow n ks c ≡ true → ((left_of (openPlaces ks c m)).left ≡ 0 → ⊥)
-    → (left_of (openPlaces ks c m)).place < n
-unfolding keptBelow openPlaces left_of
+pub open-below : (n : ℕ) (ks : List ℕ) (c m : ℕ) → kept_below n ks c ≡ true → ((left_of (open_places ks c m)).left ≡ 0 → ⊥)
+    → (left_of (open_places ks c m)).place < n
+unfolding kept_below open_places left_of
 open-below n [] c m h g = absurd (g refl)
 open-below n (k ∷ ks) c m h g =
-    let (u, v) = both (not (bit c 0) || ltb k n) (keptBelow n ks (c / 2)) h in
+    let (u, v) = both (not (bit c 0) || ltb k n) (kept_below n ks (c / 2)) h in
     go (bit c 0) (bit m k) u (open-below n ks (c / 2) m v) g
   where
-    go : (x y : Bool) → (not x || ltb k n) ≡ true → ((length (openPlaces ks (c / 2) m) ≡ 0 → ⊥) → get_or (openPlaces ks (c / 2) m) 0 0 < n)
-        → (length (cond (x && not y) (k ∷ openPlaces ks (c / 2) m) (openPlaces ks (c / 2) m)) ≡ 0 → ⊥)
-        → get_or (cond (x && not y) (k ∷ openPlaces ks (c / 2) m) (openPlaces ks (c / 2) m)) 0 0 < n
+    go : (x y : Bool) → (not x || ltb k n) ≡ true → ((length (open_places ks (c / 2) m) ≡ 0 → ⊥) → get_or (open_places ks (c / 2) m) 0 0 < n)
+        → (length (cond (x && not y) (k ∷ open_places ks (c / 2) m) (open_places ks (c / 2) m)) ≡ 0 → ⊥)
+        → get_or (cond (x && not y) (k ∷ open_places ks (c / 2) m) (open_places ks (c / 2) m)) 0 0 < n
     go true true u i f = i f
     go true false u i f = ltb-true k n u
     go false y u i f = i f
 
-pub places-below : (n k j c : ℕ) → c < 2 ^ (n - k) → keptBelow n (placesFrom k j) c ≡ true
-unfolding keptBelow placesFrom
+pub places-below : (n k j c : ℕ) → c < 2 ^ (n - k) → kept_below n (places_from k j) c ≡ true
+unfolding kept_below places_from
 places-below n k zero c h = refl
 places-below n k (suc j) c h = go (n - k) refl (places-below n (suc k) j (c / 2)) where
-  go : (d : ℕ) → n - k ≡ d → (c / 2 < 2 ^ (n - suc k) → keptBelow n (placesFrom (suc k) j) (c / 2) ≡ true)
-      → (not (bit c 0) || ltb k n) && keptBelow n (placesFrom (suc k) j) (c / 2) ≡ true
+  go : (d : ℕ) → n - k ≡ d → (c / 2 < 2 ^ (n - suc k) → kept_below n (places_from (suc k) j) (c / 2) ≡ true)
+      → (not (bit c 0) || ltb k n) && kept_below n (places_from (suc k) j) (c / 2) ≡ true
   go zero e i =
       let q : c < 2 ^ 0 = rw e at h in
       let z : c ≡ 0 = omega arith in
-      rw z (none-asked n (placesFrom (suc k) j))
+      rw z (none-asked n (places_from (suc k) j))
   go (suc d) e i =
       let f : n - suc k ≡ d = omega arith in
       let p : 2 ^ suc d ≡ 2 ^ d * 2 = pow-suc 2 d in
       let q : c < 2 ^ suc d = rw e at h in
       rw (lt-ltb k n (omega arith)) (over (not (bit c 0)) (i (rw f (omega arith))))
     where
-      over : (b : Bool) → keptBelow n (placesFrom (suc k) j) (c / 2) ≡ true → (b || true) && keptBelow n (placesFrom (suc k) j) (c / 2) ≡ true
+      over : (b : Bool) → kept_below n (places_from (suc k) j) (c / 2) ≡ true → (b || true) && kept_below n (places_from (suc k) j) (c / 2) ≡ true
       over true r = r
       over false r = r
 
-pub own_below : (n c m : ℕ) → c < 2 ^ n → ((left_of (leftPlaces 16 c m)).left ≡ 0 → ⊥) → (left_of (leftPlaces 16 c m)).place < n
-own_below n c m h g = open-below n (placesFrom 0 16) c m (places-below n 0 16 c (rw sub-zero h)) g
+pub own_below : (n c m : ℕ) → c < 2 ^ n → ((left_of (left_places 16 c m)).left ≡ 0 → ⊥) → (left_of (left_places 16 c m)).place < n
+own_below n c m h g = open-below n (places_from 0 16) c m (places-below n 0 16 c (rw sub-zero h)) g

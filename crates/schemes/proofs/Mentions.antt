@@ -13,12 +13,12 @@ use lib.Arith.{lt_of_le-ne}
 use lib.Dec.{eqb, ltb}
 use borrow.Author.Tests.{eq-eqb, ne_eqb, lt-ltb, le-ltb, eqb-true, eqb-false, ltb-true}
 use Rattle.octets.specs.Octets.{octets}
-use Rattle.message.specs.Show.{idsAt, ids_of}
+use Rattle.message.specs.Show.{ids_at, ids_of}
 use Rattle.message.proofs.Ids.{length_ids}
 use Rattle.schemes.specs.declared.Kept.{Kept}
 use Rattle.schemes.specs.Lists.{Id, place}
-use Rattle.schemes.specs.Sets.{has, noted, mentions, keptPlaces, padTo}
-use Rattle.schemes.specs.Answers.{keptOf, placesIn, Noting}
+use Rattle.schemes.specs.Sets.{has, noted, mentions, kept_places, pad_to}
+use Rattle.schemes.specs.Answers.{kept_of, places_in, Noting}
 use Rattle.schemes.proofs.Pads.{pad-more}
 use Rattle.schemes.proofs.Replies.{has-append}
 
@@ -92,15 +92,15 @@ unfolding has
 free-none zero = refl
 free-none (suc n) = rw (free-none n) (omega arith)
 
-kept-sized : (own reply : List Id) → Sized (length own) (keptPlaces own reply)
+kept-sized : (own reply : List Id) → Sized (length own) (kept_places own reply)
 kept-sized own reply = mentions-sized own reply [] (omega (arith, free-none (length own)))
 
 -- an end keeps no more places than it has
-pub kept-few : (own reply : List Id) → length (keptPlaces own reply) ≤ length own
+pub kept-few : (own reply : List Id) → length (kept_places own reply) ≤ length own
 kept-few own reply = omega (arith, kept-sized own reply)
 
-pub kept_more : (own reply : List Id) (p : ℕ) → p < length own → has p (keptPlaces own reply) ≡ false → length (keptPlaces own reply) < length own
-kept_more own reply p h f = omega (arith, kept-sized own reply, free-less (length own) p (keptPlaces own reply) h f)
+pub kept_more : (own reply : List Id) (p : ℕ) → p < length own → has p (kept_places own reply) ≡ false → length (kept_places own reply) < length own
+kept_more own reply p h f = omega (arith, kept-sized own reply, free-less (length own) p (kept_places own reply) h f)
 
 -- ---- one id more
 mentions-snoc : (own xs : List Id) (y : Id) (ps : List ℕ) → mentions own (xs ++ (y ∷ [])) ps ≡ noted (length own) (place own y) (mentions own xs ps)
@@ -108,36 +108,36 @@ unfolding mentions
 mentions-snoc own [] y ps = refl
 mentions-snoc own (x ∷ xs) y ps = mentions-snoc own xs y (noted (length own) (place own x) ps)
 
-pub ids-snoc : (j : ℕ) (s : List ℕ) → idsAt (suc j) s ≡ idsAt j s ++ (octets 16 s (j * 16) ∷ [])
-unfolding idsAt
+pub ids-snoc : (j : ℕ) (s : List ℕ) → ids_at (suc j) s ≡ ids_at j s ++ (octets 16 s (j * 16) ∷ [])
+unfolding ids_at
 ids-snoc zero s = refl
 ids-snoc (suc j) s =
     let e : 16 + j * 16 ≡ suc j * 16 = omega arith in
     ap (λ (l : List Id). take 16 s ∷ l) (ids-snoc j (drop 16 s) ∙ simp (drop-drop, e))
 
 -- ---- the places as the record keeps them
-pub in_kept : (ps : List ℕ) → placesIn (keptOf ps) ≡ ps
-unfolding keptOf
+pub in_kept : (ps : List ℕ) → places_in (kept_of ps) ≡ ps
+unfolding kept_of
 in_kept ps = take-append_seam ps (replicate (16 - length ps) 0)
 
 -- what notes a place, in the words of the code
 module _ (k : Kept) (p n : ℕ) (pre : Noting k p n) where
-  pub counted : k.count ≡ length (placesIn k)
-  unfolding keptOf
+  pub counted : k.count ≡ length (places_in k)
+  unfolding kept_of
   counted = ap (λ (x : Kept). x.count) pre.whole
 
-  padded : k.places ≡ padTo 16 (placesIn k)
-  unfolding keptOf
+  padded : k.places ≡ pad_to 16 (places_in k)
+  unfolding kept_of
   padded = ap (λ (x : Kept). x.places) pre.whole
 
   pub note-inside : k.count ≤ length k.places
   note-inside = omega (arith, counted, length-take k.count k.places)
 
-  pub note-beyond : n ≤ p → k ≡ keptOf (noted n p (placesIn k))
+  pub note-beyond : n ≤ p → k ≡ kept_of (noted n p (places_in k))
   note-beyond h = pre.whole ∙ rw (le-ltb p n h)
 
-  module _ (low : p < n) (b : Bool) (b-is : b ≡ has p (placesIn k)) where
-    pub note-known : b ≡ true → k ≡ keptOf (noted n p (placesIn k))
+  module _ (low : p < n) (b : Bool) (b-is : b ≡ has p (places_in k)) where
+    pub note-known : b ≡ true → k ≡ kept_of (noted n p (places_in k))
     note-known t = pre.whole ∙ rw (lt-ltb p n low, ← b-is, t)
 
     pub note-room : b ≡ false → k.count < 16
@@ -147,11 +147,11 @@ module _ (k : Kept) (p n : ℕ) (pre : Noting k p n) where
     note-fits t = omega (arith, note-room t)
 
     pub note-new : b ≡ false
-        → ◌≡◌ {A = Kept} (record { places = set k.places k.count p; count = k.count + 1 }) (keptOf (noted n p (placesIn k)))
-    unfolding keptOf
+        → ◌≡◌ {A = Kept} (record { places = set k.places k.count p; count = k.count + 1 }) (kept_of (noted n p (places_in k)))
+    unfolding kept_of
     note-new t =
-        let ps : List ℕ = placesIn k in
-        let a : set k.places k.count p ≡ padTo 16 (ps ++ (p ∷ [])) =
+        let ps : List ℕ = places_in k in
+        let a : set k.places k.count p ≡ pad_to 16 (ps ++ (p ∷ [])) =
         ap (λ (l : List ℕ). set l k.count p) padded ∙ pad-more 16 ps p k.count (sym counted) (note-room t) in
         let e : k.count + 1 ≡ length (ps ++ (p ∷ [])) = simp length-append (omega (arith, counted)) in
         rw (lt-ltb p n low, ← b-is, t, a, e)
@@ -160,38 +160,38 @@ pub ruleset notes = (counted, note-inside, note-beyond, note-known, note-room, n
 
 -- ---- one turn of the loop over the peer's ids
 module _ (own : List ℕ) (n : ℕ) (peer : List ℕ) where
-  pub kept-start : ◌≡◌ {A = Kept} (record { places = replicate 16 0; count = 0 }) (keptOf (keptPlaces (idsAt n own) (idsAt 0 peer)))
-  unfolding keptOf mentions idsAt
+  pub kept-start : ◌≡◌ {A = Kept} (record { places = replicate 16 0; count = 0 }) (kept_of (kept_places (ids_at n own) (ids_at 0 peer)))
+  unfolding kept_of mentions ids_at
   kept-start = refl
 
-  module _ (j : ℕ) (k : Kept) (inv : k ≡ keptOf (keptPlaces (idsAt n own) (idsAt j peer))) where
-    kept_in : placesIn k ≡ keptPlaces (idsAt n own) (idsAt j peer)
-    kept_in = rw inv (in_kept (keptPlaces (idsAt n own) (idsAt j peer)))
+  module _ (j : ℕ) (k : Kept) (inv : k ≡ kept_of (kept_places (ids_at n own) (ids_at j peer))) where
+    kept_in : places_in k ≡ kept_places (ids_at n own) (ids_at j peer)
+    kept_in = rw inv (in_kept (kept_places (ids_at n own) (ids_at j peer)))
 
     pub kept-noting : (p : ℕ) → n ≤ 16 → Noting k p n
-    unfolding keptOf
+    unfolding kept_of
     kept-noting p few = record {
       few = few;
-      whole = inv ∙ ap keptOf (sym kept_in);
+      whole = inv ∙ ap kept_of (sym kept_in);
       room = λ low free.
-          let e : k.count ≡ length (keptPlaces (idsAt n own) (idsAt j peer)) = ap (λ (x : Kept). x.count) inv in
-          let l : length (idsAt n own) ≡ n = length_ids n own in
-          let f : has p (keptPlaces (idsAt n own) (idsAt j peer)) ≡ false = rw kept_in at free in
-          let h : p < length (idsAt n own) = rw l low in
-          let m = kept_more (idsAt n own) (idsAt j peer) p h f in
+          let e : k.count ≡ length (kept_places (ids_at n own) (ids_at j peer)) = ap (λ (x : Kept). x.count) inv in
+          let l : length (ids_at n own) ≡ n = length_ids n own in
+          let f : has p (kept_places (ids_at n own) (ids_at j peer)) ≡ false = rw kept_in at free in
+          let h : p < length (ids_at n own) = rw l low in
+          let m = kept_more (ids_at n own) (ids_at j peer) p h f in
           omega arith;
     }
 
-    pub kept-turn : (p : ℕ) → p ≡ place (idsAt n own) (take (j * 16 + 16 - j * 16) (drop (j * 16) peer)) → (r : Kept)
-        → r ≡ keptOf (noted n p (placesIn k)) → r ≡ keptOf (keptPlaces (idsAt n own) (idsAt (j + 1) peer))
+    pub kept-turn : (p : ℕ) → p ≡ place (ids_at n own) (take (j * 16 + 16 - j * 16) (drop (j * 16) peer)) → (r : Kept)
+        → r ≡ kept_of (noted n p (places_in k)) → r ≡ kept_of (kept_places (ids_at n own) (ids_at (j + 1) peer))
     kept-turn p p-is r r-is =
-        let e : p ≡ place (idsAt n own) (octets 16 peer (j * 16)) = rw add-sub_cancel_left at p-is in
-        let m = mentions-snoc (idsAt n own) (idsAt j peer) (octets 16 peer (j * 16)) [] in
-        let q : noted n p (placesIn k) ≡ mentions (idsAt n own) (idsAt j peer ++ (octets 16 peer (j * 16) ∷ [])) [] =
+        let e : p ≡ place (ids_at n own) (octets 16 peer (j * 16)) = rw add-sub_cancel_left at p-is in
+        let m = mentions-snoc (ids_at n own) (ids_at j peer) (octets 16 peer (j * 16)) [] in
+        let q : noted n p (places_in k) ≡ mentions (ids_at n own) (ids_at j peer ++ (octets 16 peer (j * 16) ∷ [])) [] =
         rw (kept_in, e) (sym (rw length_ids at m)) in
-        r-is ∙ ap keptOf (q ∙ ap (λ (l : List Id). mentions (idsAt n own) l []) (sym (rw add-one (ids-snoc j peer))))
+        r-is ∙ ap kept_of (q ∙ ap (λ (l : List Id). mentions (ids_at n own) l []) (sym (rw add-one (ids-snoc j peer))))
 
-    pub kept-done : j ≤ length peer / 16 → length peer / 16 ≤ j → k ≡ keptOf (keptPlaces (idsAt n own) (ids_of peer))
+    pub kept-done : j ≤ length peer / 16 → length peer / 16 ≤ j → k ≡ kept_of (kept_places (ids_at n own) (ids_of peer))
     kept-done g h = let e : j ≡ length peer / 16 = omega arith in rw e at inv
 
 pub ruleset keepings = (kept-start, kept-noting, kept-turn, kept-done)

@@ -8,20 +8,20 @@ use native.Mathlib.Omega.{arith}
 use lib.ListN.{length, get_or, set, take, drop, replicate, length-append, length-take, length-drop}
 use lib.Seq.{set_at, append_snoc, take-suc, get_or-drop, length-take-le}
 use Rattle.octets.specs.Octets.{octets}
-use Rattle.schemes.specs.Sets.{padTo}
+use Rattle.schemes.specs.Sets.{pad_to}
 
-pub pad-more : (n : ℕ) (l : List ℕ) (x j : ℕ) → length l ≡ j → j < n → set (padTo n l) j x ≡ padTo n (l ++ (x ∷ []))
+pub pad-more : (n : ℕ) (l : List ℕ) (x j : ℕ) → length l ≡ j → j < n → set (pad_to n l) j x ≡ pad_to n (l ++ (x ∷ []))
 pad-more n l x j f h =
     let z : List ℕ = replicate (n - length (l ++ (x ∷ []))) 0 in
     let e : n - length l ≡ suc (n - length (l ++ (x ∷ []))) = simp length-append (omega arith) in
     ap (λ (i : ℕ). set (l ++ replicate i 0) j x) e ∙ set_at l 0 z x j f ∙ sym (append_snoc l x z)
 
-pub pad-full : (n : ℕ) (l : List ℕ) → length l ≡ n → padTo n l ≡ l
+pub pad-full : (n : ℕ) (l : List ℕ) → length l ≡ n → pad_to n l ≡ l
 pad-full n l h = let e : n - length l ≡ 0 = omega arith in rw e (append-nil l)
 
 -- ---- one turn of the copy
-module _ (s : List ℕ) (at : ℕ) (inside : at + 16 ≤ length s) (id : List ℕ) (j : ℕ) (inv : id ≡ padTo 16 (take j (drop at s))) where
-  pub id-more : j < 16 → set id j (get_or s (at + j) 0) ≡ padTo 16 (take (j + 1) (drop at s))
+module _ (s : List ℕ) (at : ℕ) (inside : at + 16 ≤ length s) (id : List ℕ) (j : ℕ) (inv : id ≡ pad_to 16 (take j (drop at s))) where
+  pub id-more : j < 16 → set id j (get_or s (at + j) 0) ≡ pad_to 16 (take (j + 1) (drop at s))
   id-more h =
       let v : List ℕ = drop at s in
       let l : length v ≡ length s - at = length-drop at s in

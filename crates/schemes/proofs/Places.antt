@@ -14,8 +14,8 @@ use lib.Bits.{bit_and, and_step, and_le_l}
 use lib.Count.{ones, ones_step, count_trailing_zeros, trailing_le, under}
 use lib.Pow.{shr-shr}
 use Rattle.schemes.specs.Lists.{Id, first, bit}
-use Rattle.schemes.specs.Sets.{setOf, left, openPlaces, named, padTo}
-use Rattle.schemes.specs.Answers.{markedAt, placesFrom, leftPlaces, left_of}
+use Rattle.schemes.specs.Sets.{set_of, left, open_places, named, pad_to}
+use Rattle.schemes.specs.Answers.{marked_at, places_from, left_places, left_of}
 use Rattle.schemes.specs.declared.Left.{Left}
 use Rattle.schemes.proofs.Digits.{bit-shift}
 use Rattle.schemes.proofs.Replies.{open_none}
@@ -60,8 +60,8 @@ odd : (q : ℕ) (b : Bool) → (q * 2 + cond b 1 0) % 2 ≡ cond b 1 0
 odd q b = omega (arith, small b)
 
 -- a set has no bit from the list's length on
-pub set-bound : {A : Type 0} (p : A → Bool) (l : List A) → setOf p l < 2 ^ length l
-unfolding setOf
+pub set-bound : {A : Type 0} (p : A → Bool) (l : List A) → set_of p l < 2 ^ length l
+unfolding set_of
 set-bound p [] = omega arith
 set-bound p (x ∷ l) =
     let w : 2 ^ suc (length l) ≡ 2 ^ length l * 2 = pow-suc 2 (length l) in
@@ -69,18 +69,18 @@ set-bound p (x ∷ l) =
 
 -- the common set less the marks, by the places ks
 abbrev pub opened : List ℕ → ℕ → ℕ → ℕ
-opened ks c m = less (length ks) c (markedAt ks m)
+opened ks c m = less (length ks) c (marked_at ks m)
 
 -- the first place left, or 0 where there is none
-pub first-open : (ks : List ℕ) (c m : ℕ) → get_or (openPlaces ks c m) 0 0 ≡ get_or ks (count_trailing_zeros (length ks) (opened ks c m)) 0
-unfolding openPlaces setOf count_trailing_zeros
+pub first-open : (ks : List ℕ) (c m : ℕ) → get_or (open_places ks c m) 0 0 ≡ get_or ks (count_trailing_zeros (length ks) (opened ks c m)) 0
+unfolding open_places set_of count_trailing_zeros
 first-open [] c m = refl
 first-open (k ∷ ks) c m =
-    rw (less-step (length ks) c (markedAt ks m) (bit m k) (set-bound (λ k. bit m k) ks))
+    rw (less-step (length ks) c (marked_at ks m) (bit m k) (set-bound (λ k. bit m k) ks))
     (go (bit c 0 && not (bit m k)) (first-open ks (c / 2) m))
   where
-    go : (d : Bool) → get_or (openPlaces ks (c / 2) m) 0 0 ≡ get_or ks (count_trailing_zeros (length ks) (opened ks (c / 2) m)) 0
-        → get_or (cond d (k ∷ openPlaces ks (c / 2) m) (openPlaces ks (c / 2) m)) 0 0
+    go : (d : Bool) → get_or (open_places ks (c / 2) m) 0 0 ≡ get_or ks (count_trailing_zeros (length ks) (opened ks (c / 2) m)) 0
+        → get_or (cond d (k ∷ open_places ks (c / 2) m) (open_places ks (c / 2) m)) 0 0
         ≡ get_or (k ∷ ks) (count_trailing_zeros (suc (length ks)) (opened ks (c / 2) m * 2 + cond d 1 0)) 0
     go true e = rw (half (opened ks (c / 2) m) true, odd (opened ks (c / 2) m) true)
     go false e = rw (half (opened ks (c / 2) m) false, odd (opened ks (c / 2) m) false) e
@@ -90,19 +90,19 @@ unfolding ones
 no_ones = refl
 
 -- how many places are left
-pub count-open : (ks : List ℕ) (c m : ℕ) → c < 2 ^ length ks → length (openPlaces ks c m) ≡ ones (opened ks c m)
-unfolding openPlaces setOf
+pub count-open : (ks : List ℕ) (c m : ℕ) → c < 2 ^ length ks → length (open_places ks c m) ≡ ones (opened ks c m)
+unfolding open_places set_of
 count-open [] c m h = let z : c ≡ 0 = omega arith in rw z (no_ones)
 count-open (k ∷ ks) c m h =
     let p : 2 ^ suc (length ks) ≡ 2 ^ length ks * 2 = pow-suc 2 (length ks) in
-    rw (less-step (length ks) c (markedAt ks m) (bit m k) (set-bound (λ k. bit m k) ks))
+    rw (less-step (length ks) c (marked_at ks m) (bit m k) (set-bound (λ k. bit m k) ks))
     (go (bit c 0 && not (bit m k)) (count-open ks (c / 2) m (omega arith)))
   where
-    go : (d : Bool) → length (openPlaces ks (c / 2) m) ≡ ones (opened ks (c / 2) m)
-        → length (cond d (k ∷ openPlaces ks (c / 2) m) (openPlaces ks (c / 2) m)) ≡ ones (opened ks (c / 2) m * 2 + cond d 1 0)
+    go : (d : Bool) → length (open_places ks (c / 2) m) ≡ ones (opened ks (c / 2) m)
+        → length (cond d (k ∷ open_places ks (c / 2) m) (open_places ks (c / 2) m)) ≡ ones (opened ks (c / 2) m * 2 + cond d 1 0)
     go d e = count d e ∙ sym (ones_step (opened ks (c / 2) m * 2 + cond d 1 0) ∙ rw (half (opened ks (c / 2) m) d, odd (opened ks (c / 2) m) d)) where
-      count : (d : Bool) → length (openPlaces ks (c / 2) m) ≡ ones (opened ks (c / 2) m)
-          → length (cond d (k ∷ openPlaces ks (c / 2) m) (openPlaces ks (c / 2) m)) ≡ cond d 1 0 + ones (opened ks (c / 2) m)
+      count : (d : Bool) → length (open_places ks (c / 2) m) ≡ ones (opened ks (c / 2) m)
+          → length (cond d (k ∷ open_places ks (c / 2) m) (open_places ks (c / 2) m)) ≡ cond d 1 0 + ones (opened ks (c / 2) m)
       count true e = omega arith
       count false e = omega arith
 
@@ -122,12 +122,12 @@ zeros-below (suc n) w h g =
     go (suc r) e i = omega arith
 
 -- ---- the initiator's answer, in the words of the code
-module _ (ks : List ℕ) (c m : ℕ) (sized : length ks ≡ 16) (fits : c < 65536) (w : ℕ) (w-is : w ≡ markedAt ks m) where
+module _ (ks : List ℕ) (c m : ℕ) (sized : length ks ≡ 16) (fits : c < 65536) (w : ℕ) (w-is : w ≡ marked_at ks m) where
   number : opened ks c m ≡ bit_and c (65535 - w)
   number = rw (sized, w-is)
 
   pub choice-some : ◌≡◌ {A = Left} (record { place = get_or ks (count_trailing_zeros 16 (bit_and c (65535 - w))) 0; left = ones (bit_and c (65535 - w)) })
-      (left_of (openPlaces ks c m))
+      (left_of (open_places ks c m))
   unfolding left_of
   choice-some =
       let h : c < 2 ^ length ks = rw sized fits in
@@ -135,7 +135,7 @@ module _ (ks : List ℕ) (c m : ℕ) (sized : length ks ≡ 16) (fits : c < 6553
       let b = count-open ks c m h in
       rw (a, b, number, sized)
 
-  pub choice-none : bit_and c (65535 - w) ≡ 0 → ◌≡◌ {A = Left} (record { place = 0; left = 0 }) (left_of (openPlaces ks c m))
+  pub choice-none : bit_and c (65535 - w) ≡ 0 → ◌≡◌ {A = Left} (record { place = 0; left = 0 }) (left_of (open_places ks c m))
   unfolding ones count_trailing_zeros
   choice-none e = zeros ∙ (rw e at choice-some) where
     zeros : ◌≡◌ {A = Left} (record { place = 0; left = 0 }) (record { place = get_or ks (count_trailing_zeros 16 0) 0; left = ones 0 })
@@ -145,13 +145,13 @@ module _ (ks : List ℕ) (c m : ℕ) (sized : length ks ≡ 16) (fits : c < 6553
   choice-inside g = zeros-below 16 (bit_and c (65535 - w)) (lt_of_le_of_lt (and_le_l c (65535 - w)) fits) g
 
 -- ---- the places from k on
-pub length-places : (k n : ℕ) → length (placesFrom k n) ≡ n
-unfolding placesFrom
+pub length-places : (k n : ℕ) → length (places_from k n) ≡ n
+unfolding places_from
 length-places k zero = refl
 length-places k (suc n) = ap suc (length-places (suc k) n)
 
-pub places-at : (k n j : ℕ) → j < n → get_or (placesFrom k n) j 0 ≡ k + j
-unfolding placesFrom
+pub places-at : (k n j : ℕ) → j < n → get_or (places_from k n) j 0 ≡ k + j
+unfolding places_from
 places-at k zero j h = absurd (omega arith)
 places-at k (suc n) zero h = omega arith
 places-at k (suc n) (suc j) h = places-at (suc k) n j (omega arith) ∙ omega arith
@@ -160,31 +160,31 @@ halved : (m k : ℕ) → m / 2 ^ suc k ≡ m / 2 ^ k / 2
 halved m k = sym (rw add-one at (shr-shr m k 1))
 
 -- by these places the marks are what they are
-pub marked-places : (k n m : ℕ) → m / 2 ^ k < 2 ^ n → markedAt (placesFrom k n) m ≡ m / 2 ^ k
-unfolding setOf placesFrom
+pub marked-places : (k n m : ℕ) → m / 2 ^ k < 2 ^ n → marked_at (places_from k n) m ≡ m / 2 ^ k
+unfolding set_of places_from
 marked-places k zero m h = omega arith
 marked-places k (suc n) m h =
     let p : 2 ^ suc n ≡ 2 ^ n * 2 = pow-suc 2 n in
     let e : m / 2 ^ suc k ≡ m / 2 ^ k / 2 = halved m k in
-    let i : markedAt (placesFrom (suc k) n) m ≡ m / 2 ^ k / 2 = marked-places (suc k) n m (rw e (omega arith)) ∙ e in
+    let i : marked_at (places_from (suc k) n) m ≡ m / 2 ^ k / 2 = marked-places (suc k) n m (rw e (omega arith)) ∙ e in
     let l : m / 2 ^ k % 2 ≡ cond (bit m k) 1 0 = lowest (m / 2 ^ k) ∙ rw (bit-shift m k) in
     rw (i, ← l) (omega arith)
 
 -- ---- the acceptor's answer, in the words of the code
 module _ (c m : ℕ) (fits : c < 65536) (marks : m < 65536) where
-  own-marks : m ≡ markedAt (placesFrom 0 16) m
+  own-marks : m ≡ marked_at (places_from 0 16) m
   own-marks = sym (marked-places 0 16 m (rw div-one marks) ∙ div-one m)
 
-  pub own-none : bit_and c (65535 - m) ≡ 0 → ◌≡◌ {A = Left} (record { place = 0; left = 0 }) (left_of (leftPlaces 16 c m))
-  own-none e = choice-none (placesFrom 0 16) c m (length-places 0 16) fits m own-marks e
+  pub own-none : bit_and c (65535 - m) ≡ 0 → ◌≡◌ {A = Left} (record { place = 0; left = 0 }) (left_of (left_places 16 c m))
+  own-none e = choice-none (places_from 0 16) c m (length-places 0 16) fits m own-marks e
 
   pub own-some : (bit_and c (65535 - m) ≡ 0 → ⊥)
-      → ◌≡◌ {A = Left} (record { place = count_trailing_zeros 16 (bit_and c (65535 - m)); left = ones (bit_and c (65535 - m)) }) (left_of (leftPlaces 16 c m))
+      → ◌≡◌ {A = Left} (record { place = count_trailing_zeros 16 (bit_and c (65535 - m)); left = ones (bit_and c (65535 - m)) }) (left_of (left_places 16 c m))
   own-some g =
       let k : ℕ = count_trailing_zeros 16 (bit_and c (65535 - m)) in
-      let h : k < 16 = choice-inside (placesFrom 0 16) c m (length-places 0 16) fits m own-marks g in
-      let e : get_or (placesFrom 0 16) k 0 ≡ k = places-at 0 16 k h ∙ omega arith in
-      rw e at (choice-some (placesFrom 0 16) c m (length-places 0 16) fits m own-marks)
+      let h : k < 16 = choice-inside (places_from 0 16) c m (length-places 0 16) fits m own-marks g in
+      let e : get_or (places_from 0 16) k 0 ≡ k = places-at 0 16 k h ∙ omega arith in
+      rw e at (choice-some (places_from 0 16) c m (length-places 0 16) fits m own-marks)
 
 pub zeros-fit : (w : ℕ) → count_trailing_zeros 16 w < 18446744073709551616
 zeros-fit w = omega (arith, trailing_le 16 w)
@@ -192,40 +192,40 @@ zeros-fit w = omega (arith, trailing_le 16 w)
 pub ruleset choices = (zeros-fit, choice-none, choice-some, choice-inside, own-none, own-some)
 
 -- ---- for callers: what a set without bits beyond some places leaves, it leaves among them
-pub open-append : (ks zs : List ℕ) (c m : ℕ) → c < 2 ^ length ks → openPlaces (ks ++ zs) c m ≡ openPlaces ks c m
-unfolding openPlaces
+pub open-append : (ks zs : List ℕ) (c m : ℕ) → c < 2 ^ length ks → open_places (ks ++ zs) c m ≡ open_places ks c m
+unfolding open_places
 open-append [] zs c m h = let z : c ≡ 0 = omega arith in rw z (open_none zs m)
 open-append (k ∷ ks) zs c m h =
     let p : 2 ^ suc (length ks) ≡ 2 ^ length ks * 2 = pow-suc 2 (length ks) in
     rw (open-append ks zs (c / 2) m (omega arith))
 
-pub open-padded : (ks : List ℕ) (c m : ℕ) → c < 2 ^ length ks → openPlaces (padTo 16 ks) c m ≡ openPlaces ks c m
+pub open-padded : (ks : List ℕ) (c m : ℕ) → c < 2 ^ length ks → open_places (pad_to 16 ks) c m ≡ open_places ks c m
 open-padded ks c m h = open-append ks _ c m h
 
-places-append : (k n j : ℕ) → placesFrom k (n + j) ≡ placesFrom k n ++ placesFrom (k + n) j
-unfolding placesFrom
+places-append : (k n j : ℕ) → places_from k (n + j) ≡ places_from k n ++ places_from (k + n) j
+unfolding places_from
 places-append k zero j = simp (zero-add, add-zero)
 places-append k (suc n) j =
     let e : suc n + j ≡ suc (n + j) = omega arith in
     let f : k + suc n ≡ suc k + n = omega arith in
     rw (e, f) (ap (λ (l : List ℕ). k ∷ l) (places-append (suc k) n j))
 
-pub left_below : (n c m : ℕ) → n ≤ 16 → c < 2 ^ n → leftPlaces 16 c m ≡ leftPlaces n c m
+pub left_below : (n c m : ℕ) → n ≤ 16 → c < 2 ^ n → left_places 16 c m ≡ left_places n c m
 left_below n c m h g =
     let e : 16 ≡ n + (16 - n) = omega arith in
-    let f : c < 2 ^ length (placesFrom 0 n) = rw length-places g in
-    ap (λ (k : ℕ). openPlaces (placesFrom 0 k) c m) e ∙ ap (λ (l : List ℕ). openPlaces l c m) (places-append 0 n (16 - n))
-    ∙ open-append (placesFrom 0 n) _ c m f
+    let f : c < 2 ^ length (places_from 0 n) = rw length-places g in
+    ap (λ (k : ℕ). open_places (places_from 0 k) c m) e ∙ ap (λ (l : List ℕ). open_places l c m) (places-append 0 n (16 - n))
+    ∙ open-append (places_from 0 n) _ c m f
 
 -- ---- for callers: the schemes at the acceptor's places left are the own list's schemes left
 named-from : (own : List Id) (k : ℕ) (l : List Id) (c m : ℕ) → drop k own ≡ l
-    → named own (openPlaces (placesFrom k (length l)) c m) ≡ left l c (m / 2 ^ k)
-unfolding openPlaces placesFrom left
+    → named own (open_places (places_from k (length l)) c m) ≡ left l c (m / 2 ^ k)
+unfolding open_places places_from left
 named-from own k [] c m e = refl
 named-from own k (x ∷ l) c m e =
     let (u, v) = split own k e in
     let b : bit (m / 2 ^ k) 0 ≡ bit m k = bit-shift m k in
-    let i : named own (openPlaces (placesFrom (suc k) (length l)) (c / 2) m) ≡ left l (c / 2) (m / 2 ^ k / 2) =
+    let i : named own (open_places (places_from (suc k) (length l)) (c / 2) m) ≡ left l (c / 2) (m / 2 ^ k / 2) =
     named-from own (suc k) l (c / 2) m v ∙ rw (halved m k) in
     rw b (go (bit c 0 && not (bit m k)) u i)
   where
@@ -235,13 +235,13 @@ named-from own k (x ∷ l) c m e =
     split (y ∷ s) zero f = (cc, cc)
     split (y ∷ s) (suc j) f = split s j f
 
-    go : (d : Bool) → get_or own k [] ≡ x → named own (openPlaces (placesFrom (suc k) (length l)) (c / 2) m) ≡ left l (c / 2) (m / 2 ^ k / 2)
-        → named own (cond d (k ∷ openPlaces (placesFrom (suc k) (length l)) (c / 2) m) (openPlaces (placesFrom (suc k) (length l)) (c / 2) m))
+    go : (d : Bool) → get_or own k [] ≡ x → named own (open_places (places_from (suc k) (length l)) (c / 2) m) ≡ left l (c / 2) (m / 2 ^ k / 2)
+        → named own (cond d (k ∷ open_places (places_from (suc k) (length l)) (c / 2) m) (open_places (places_from (suc k) (length l)) (c / 2) m))
         ≡ cond d (x ∷ left l (c / 2) (m / 2 ^ k / 2)) (left l (c / 2) (m / 2 ^ k / 2))
     go true u i = rw (u, i)
     go false u i = i
 
-pub named-left : (own : List Id) (c m : ℕ) → named own (leftPlaces (length own) c m) ≡ left own c m
+pub named-left : (own : List Id) (c m : ℕ) → named own (left_places (length own) c m) ≡ left own c m
 named-left own c m = named-from own 0 own c m refl ∙ rw div-one
 
 -- ---- for callers: the first scheme at the places left, and their number

@@ -10,10 +10,10 @@ use lib.ListN.{length, get_or, replicate}
 use lib.Dec.{eqb}
 use borrow.Author.Tests.{eq-eqb, ne_eqb, lt-ltb}
 use Rattle.octets.proofs.Bools.{which, no_true, and_l, and_r}
-use Rattle.octets.specs.Octets.{sameOctets}
+use Rattle.octets.specs.Octets.{same_octets}
 use Rattle.octets.proofs.Same.{same_refl, same-eq}
-use Rattle.schemes.specs.Lists.{Id, mem, place, distinct, keep, bit, marked, leftOver, replyOf}
-use Rattle.schemes.specs.Sets.{setOf, commonSet, left, has, noted, mentions, keptPlaces, ones, openPlaces, named, leftIn, AcceptorLeft, InitiatorLeft}
+use Rattle.schemes.specs.Lists.{Id, mem, place, distinct, keep, bit, marked, left_over, reply_of}
+use Rattle.schemes.specs.Sets.{set_of, common_set, left, has, noted, mentions, kept_places, ones, open_places, named, left_in, AcceptorLeft, InitiatorLeft}
 use Rattle.schemes.proofs.Choice.{mem-head, mem-tail, keep-ext, keep-keep, keep-distinct, mem-keep, not-mem-same, place-inj}
 
 even-bit : (n : ℕ) → (bit (0 + 2 * n) 0 ≡ false) × ((0 + 2 * n) / 2 ≡ n)
@@ -24,15 +24,15 @@ odd-bit n = (eq-eqb ((1 + 2 * n) % 2) 1 (omega arith), omega arith)
 
 -- the acceptor: the common schemes less its marks, in its own order
 pub left-keep : AcceptorLeft
-unfolding left setOf distinct place
+unfolding left set_of distinct place
 left-keep [] peer m d = refl
 left-keep (x ∷ l) peer m d =
     let n : not (mem x l) ≡ true = and_l (not (mem x l)) (distinct l) d in
-    let i : left l (commonSet l peer) (m / 2) ≡ keep (λ s. mem s peer && not (marked l (m / 2) s)) l =
+    let i : left l (common_set l peer) (m / 2) ≡ keep (λ s. mem s peer && not (marked l (m / 2) s)) l =
     left-keep l peer (m / 2) (and_r (not (mem x l)) (distinct l) d) in
     let j : keep (λ s. mem s peer && not (marked (x ∷ l) m s)) l ≡ keep (λ s. mem s peer && not (marked l (m / 2) s)) l =
     keep-ext (λ s. mem s peer && not (marked (x ∷ l) m s)) (λ s. mem s peer && not (marked l (m / 2) s)) l (λ s h. rw (not-mem-same s x l h n)) in
-    let c : ℕ = commonSet l peer in
+    let c : ℕ = common_set l peer in
     elim (which (mem x peer)) [
       | inl e ↦ rw (e, (odd-bit c).0, (odd-bit c).1, same_refl x, j, i)
       | inr e ↦ rw (e, (even-bit c).0, (even-bit c).1, j, i)
@@ -41,17 +41,17 @@ left-keep (x ∷ l) peer m d =
 pub place-below : (l : List Id) (s : Id) → mem s l ≡ true → place l s < length l
 unfolding mem place
 place-below [] s m = no_true m
-place-below (x ∷ l) s m = elim (which (sameOctets s x)) [
+place-below (x ∷ l) s m = elim (which (same_octets s x)) [
   | inl e ↦ rw e (omega arith)
   | inr e ↦ rw e (let i = place-below l s (rw e at m) in omega arith)
 ]
 
-pub getD-place : (own : List Id) (s : Id) → mem s own ≡ true → get_or own (place own s) [] ≡ s
+pub get_or-place : (own : List Id) (s : Id) → mem s own ≡ true → get_or own (place own s) [] ≡ s
 unfolding mem place
-getD-place [] s m = no_true m
-getD-place (x ∷ l) s m = elim (which (sameOctets s x)) [
+get_or-place [] s m = no_true m
+get_or-place (x ∷ l) s m = elim (which (same_octets s x)) [
   | inl e ↦ rw e (sym (same-eq s x e))
-  | inr e ↦ rw e (getD-place l s (rw e at m))
+  | inr e ↦ rw e (get_or-place l s (rw e at m))
 ]
 
 -- places of different own schemes are all noted, in order
@@ -83,22 +83,22 @@ mentions-all own (x ∷ l) ps d h f =
     ∙ append_assoc ps (p ∷ []) (map (place own) l))
 
 -- what is open of kept places, with anything behind them whose bit is not set
-pub open_none : (ks : List ℕ) (m : ℕ) → openPlaces ks 0 m ≡ []
-unfolding openPlaces
+pub open_none : (ks : List ℕ) (m : ℕ) → open_places ks 0 m ≡ []
+unfolding open_places
 open_none [] m = refl
 open_none (k ∷ ks) m = open_none ks m
 
 pub open-names : (own l : List Id) (zs : List ℕ) (m : ℕ) → ((s : Id) → mem s l ≡ true → mem s own ≡ true)
-    → named own (openPlaces (map (place own) l ++ zs) (ones (length l)) m) ≡ keep (λ s. not (marked own m s)) l
-unfolding openPlaces ones
+    → named own (open_places (map (place own) l ++ zs) (ones (length l)) m) ≡ keep (λ s. not (marked own m s)) l
+unfolding open_places ones
 open-names own [] zs m h = rw (open_none zs m)
 open-names own (x ∷ l) zs m h =
-    let i : named own (openPlaces (map (place own) l ++ zs) (ones (length l)) m) ≡ keep (λ s. not (marked own m s)) l =
+    let i : named own (open_places (map (place own) l ++ zs) (ones (length l)) m) ≡ keep (λ s. not (marked own m s)) l =
     open-names own l zs m (λ s e. h s (mem-tail s x l e)) in
     let c : ℕ = ones (length l) in
     elim (which (bit m (place own x))) [
       | inl e ↦ rw ((odd-bit c).0, (odd-bit c).1, e) i
-      | inr e ↦ rw ((odd-bit c).0, (odd-bit c).1, e) (rw (getD-place own x (h x (mem-head x l)), i))
+      | inr e ↦ rw ((odd-bit c).0, (odd-bit c).1, e) (rw (get_or-place own x (h x (mem-head x l)), i))
     ]
 
 length-map-place : (own l : List Id) → length (map (place own) l) ≡ length l
@@ -107,17 +107,17 @@ length-map-place own (x ∷ l) = ap suc (length-map-place own l)
 
 -- what the initiator has left of such a reply is what rule 2 has left
 module _ (acc ini : List Id) (ma : ℕ) (d : distinct acc ≡ true) where
-  in-ini : (s : Id) → mem s (replyOf acc ini ma) ≡ true → mem s ini ≡ true
+  in-ini : (s : Id) → mem s (reply_of acc ini ma) ≡ true → mem s ini ≡ true
   in-ini s m = and_l (mem s ini) (not (marked acc ma s)) (mem-keep (λ s. mem s ini && not (marked acc ma s)) acc s m).0
 
-  kept-reply : keptPlaces ini (replyOf acc ini ma) ≡ map (place ini) (replyOf acc ini ma)
+  kept-reply : kept_places ini (reply_of acc ini ma) ≡ map (place ini) (reply_of acc ini ma)
   unfolding has
-  kept-reply = mentions-all ini (replyOf acc ini ma) [] (keep-distinct (λ s. mem s ini && not (marked acc ma s)) acc d) in-ini (λ s m. refl)
+  kept-reply = mentions-all ini (reply_of acc ini ma) [] (keep-distinct (λ s. mem s ini && not (marked acc ma s)) acc d) in-ini (λ s m. refl)
 
-  left-then : (mi : ℕ) → leftIn ini (replyOf acc ini ma) mi ≡ leftOver acc ini ma mi
+  left-then : (mi : ℕ) → left_in ini (reply_of acc ini ma) mi ≡ left_over acc ini ma mi
   left-then mi =
-      rw (kept-reply, length-map-place ini (replyOf acc ini ma))
-      (open-names ini (replyOf acc ini ma) (replicate (16 - length (replyOf acc ini ma)) 0) mi in-ini
+      rw (kept-reply, length-map-place ini (reply_of acc ini ma))
+      (open-names ini (reply_of acc ini ma) (replicate (16 - length (reply_of acc ini ma)) 0) mi in-ini
       ∙ keep-keep (λ s. not (marked ini mi s)) (λ s. mem s ini && not (marked acc ma s)) acc)
 
 pub left-of-reply : InitiatorLeft

@@ -24,7 +24,7 @@ SameMarks acceptor initiator own m own' m' =
     (s : Id) → mem s acceptor ≡ true → mem s initiator ≡ true → marked own' m' s ≡ marked own m s
 
 pub record NoLater (acceptor initiator acceptor' : List Id) (c c' : Id) : Type 0 where
-  pub no-later : place acceptor' c' ≤ place acceptor' c
+  pub no_later : place acceptor' c' ≤ place acceptor' c
   pub new : (c' ≡ c → ⊥) → mem c' acceptor ≡ true → mem c' initiator ≡ true → ⊥
 
 -- demand 3, "A longer offer never loses a choice", where both conversations have one

@@ -1,31 +1,31 @@
 -- The two sets of 16 bits and the initiator's kept places. Document 01, "Who may send what, and when".
 --
 -- Glossary
---   setOf p l           the set of the places of l with p
---   commonSet own peer  the acceptor's common schemes: bit k for place k of the own list
+--   set_of p l           the set of the places of l with p
+--   common_set own peer  the acceptor's common schemes: bit k for place k of the own list
 --   left own c m        the own schemes at the bits of c less those of m, in the own order
 --   has p ps            the place p is one of ps; noted n p ps: ps, with p behind them where it is one of n and not there yet
 --   mentions own l ps   ps, with the own places of the ids of l noted in order
---   keptPlaces own l    the own places of the reply's different own schemes, in the order of their first mention
+--   kept_places own l    the own places of the reply's different own schemes, in the order of their first mention
 --   ones n              the lowest n bits
---   openPlaces ks c m   the kept places at the bits of c, less those whose own place m marks
+--   open_places ks c m   the kept places at the bits of c, less those whose own place m marks
 --   named own ks        the schemes at places of the own list
 --   below n m           the set m has no bit from n on; keptBelow: no kept place at a bit of c is n or more
---   padTo n l           l with zeros behind it, n numbers in all
---   leftIn own l m      of the reply l, what the initiator has left by its own list and marks, by way of kept places and sets
+--   pad_to n l           l with zeros behind it, n numbers in all
+--   left_in own l m      of the reply l, what the initiator has left by its own list and marks, by way of kept places and sets
 --   AcceptorLeft        what the acceptor has left by its sets is the reply's list
 --   InitiatorLeft       what the initiator has left of that reply by its sets is what rule 2 has left
 use Rattle.std.specs.Prelude.{ℕ, zero, suc, ◌+◌, ◌*◌, ◌-◌, ◌/◌, ◌^◌, ◌≡◌, Bool, true, false, cond, not, ◌&&◌, ◌||◌, List, [], ◌∷◌, ◌++◌, map, length, get_or, replicate, eqb, ltb}
-use Rattle.schemes.specs.Lists.{Id, mem, place, distinct, bit, leftOver, replyOf}
+use Rattle.schemes.specs.Lists.{Id, mem, place, distinct, bit, left_over, reply_of}
 
 -- bit k for the k-th of a list, where it has p
-unfoldable pub setOf : {A : Type 0} → (A → Bool) → List A → ℕ
-setOf p [] = 0
-setOf p (x ∷ l) = cond (p x) 1 0 + 2 * setOf p l
+unfoldable pub set_of : {A : Type 0} → (A → Bool) → List A → ℕ
+set_of p [] = 0
+set_of p (x ∷ l) = cond (p x) 1 0 + 2 * set_of p l
 
 -- "and the common schemes: at the acceptor by the same places"
-abbrev pub commonSet : List Id → List Id → ℕ
-commonSet own peer = setOf (λ x. mem x peer) own
+abbrev pub common_set : List Id → List Id → ℕ
+common_set own peer = set_of (λ x. mem x peer) own
 
 unfoldable pub left : List Id → ℕ → ℕ → List Id
 left [] c m = []
@@ -47,16 +47,16 @@ mentions own (y ∷ ys) ps = mentions own ys (noted (length own) (place own y) p
 
 -- "at the initiator bit k for the k-th different own scheme of the reply, whose own places the record keeps in that order"; "A peer's list may be of
 -- any length and may repeat a scheme; the first mention counts."
-abbrev pub keptPlaces : List Id → List Id → List ℕ
-keptPlaces own reply = mentions own reply []
+abbrev pub kept_places : List Id → List Id → List ℕ
+kept_places own reply = mentions own reply []
 
 unfoldable pub ones : ℕ → ℕ
 ones zero = 0
 ones (suc n) = 1 + 2 * ones n
 
-unfoldable pub openPlaces : List ℕ → ℕ → ℕ → List ℕ
-openPlaces [] c m = []
-openPlaces (k ∷ ks) c m = cond (bit c 0 && not (bit m k)) (k ∷ openPlaces ks (c / 2) m) (openPlaces ks (c / 2) m)
+unfoldable pub open_places : List ℕ → ℕ → ℕ → List ℕ
+open_places [] c m = []
+open_places (k ∷ ks) c m = cond (bit c 0 && not (bit m k)) (k ∷ open_places ks (c / 2) m) (open_places ks (c / 2) m)
 
 abbrev pub named : List Id → List ℕ → List Id
 named own ks = map (λ k. get_or own k []) ks
@@ -65,24 +65,24 @@ named own ks = map (λ k. get_or own k []) ks
 abbrev pub below : ℕ → ℕ → Bool
 below n m = ltb m (2 ^ n)
 
-unfoldable pub keptBelow : ℕ → List ℕ → ℕ → Bool
-keptBelow n [] c = true
-keptBelow n (k ∷ ks) c = (not (bit c 0) || ltb k n) && keptBelow n ks (c / 2)
+unfoldable pub kept_below : ℕ → List ℕ → ℕ → Bool
+kept_below n [] c = true
+kept_below n (k ∷ ks) c = (not (bit c 0) || ltb k n) && kept_below n ks (c / 2)
 
-abbrev pub padTo : ℕ → List ℕ → List ℕ
-padTo n l = l ++ replicate (n - length l) 0
+abbrev pub pad_to : ℕ → List ℕ → List ℕ
+pad_to n l = l ++ replicate (n - length l) 0
 
-abbrev pub leftIn : List Id → List Id → ℕ → List Id
-leftIn own reply m = named own (openPlaces (padTo 16 (keptPlaces own reply)) (ones (length (keptPlaces own reply))) m)
+abbrev pub left_in : List Id → List Id → ℕ → List Id
+left_in own reply m = named own (open_places (pad_to 16 (kept_places own reply)) (ones (length (kept_places own reply))) m)
 
 -- "the acceptor into its own the common schemes less its marks, in its own order"
 abbrev pub AcceptorLeft : Type 0
 AcceptorLeft =
     (acceptor initiator : List Id) (m : ℕ) → distinct acceptor ≡ true
-    → left acceptor (commonSet acceptor initiator) m ≡ replyOf acceptor initiator m
+    → left acceptor (common_set acceptor initiator) m ≡ reply_of acceptor initiator m
 
 -- "The initiator, given its marks, chooses the first scheme of the reply that it lists and hasn't marked."
 abbrev pub InitiatorLeft : Type 0
 InitiatorLeft =
     (acceptor initiator : List Id) (ma : ℕ) → distinct acceptor ≡ true
-    → (mi : ℕ) → leftIn initiator (replyOf acceptor initiator ma) mi ≡ leftOver acceptor initiator ma mi
+    → (mi : ℕ) → left_in initiator (reply_of acceptor initiator ma) mi ≡ left_over acceptor initiator ma mi

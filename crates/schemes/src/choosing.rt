@@ -1,14 +1,14 @@
 // The choice at both ends: the lowest scheme left, and how many are left.
 ghost use Rattle.std.specs.Prelude.{◌≡◌};
-ghost use Rattle.schemes.specs.Sets.{openPlaces};
-ghost use Rattle.schemes.specs.Answers.{markedAt, leftPlaces, left_of};
+ghost use Rattle.schemes.specs.Sets.{open_places};
+ghost use Rattle.schemes.specs.Answers.{marked_at, left_places, left_of};
 
 use super::Left;
 use super::set::bit_of;
 
 // The acceptor's choice: the common places less the marks.
 pub fn choose_own(common: u16, marks: u16) -> Left
-    ensures { result ≡ left_of (leftPlaces 16 common marks) }
+    ensures { result ≡ left_of (left_places 16 common marks) }
 {
     let unmarked = common & !marks;
     if unmarked == 0 {
@@ -22,7 +22,7 @@ pub fn choose_own(common: u16, marks: u16) -> Left
 
 // The set of the k whose kept place is marked.
 fn marked_kept(kept: [u8; 16], marks: u16) -> u16
-    ensures { result ≡ markedAt kept marks }
+    ensures { result ≡ marked_at kept marks }
 {
     let mut set: u16 = 0;
     let mut k: usize = 16;
@@ -39,7 +39,7 @@ fn marked_kept(kept: [u8; 16], marks: u16) -> u16
 
 // The initiator's choice: the reply's places less those whose own place is marked.
 pub fn choose_kept(kept: [u8; 16], common: u16, marks: u16) -> Left
-    ensures { result ≡ left_of (openPlaces kept common marks) }
+    ensures { result ≡ left_of (open_places kept common marks) }
 {
     let marked = marked_kept(kept, marks);
     let open = common & !marked;

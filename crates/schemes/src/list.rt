@@ -1,8 +1,8 @@
 // Lists of schemes in octets, 16 a scheme.
 ghost use Rattle.std.specs.Prelude.{◌≡◌, ◌+◌, ◌*◌, ◌≤◌, ◌<◌, length};
 ghost use Rattle.octets.specs.Octets.{octets};
-ghost use Rattle.message.specs.Show.{idsAt};
-ghost use Rattle.schemes.specs.Lists.{mem, place, distinct, listOk};
+ghost use Rattle.message.specs.Show.{ids_at};
+ghost use Rattle.schemes.specs.Lists.{mem, place, distinct, list_ok};
 
 use super::MOST;
 use message::field;
@@ -11,7 +11,7 @@ use octets::same_id;
 // The place of the first of the n ids of a list that is `id`, or n where none is.
 pub fn find(list: &[u8], n: usize, id: &[u8]) -> usize
     requires { n * 16 ≤ length list.now }
-    ensures { result ≡ place (idsAt n list.now) id.now }
+    ensures { result ≡ place (ids_at n list.now) id.now }
 {
     let mut k: usize = 0;
     while k < n {
@@ -28,7 +28,7 @@ pub fn find(list: &[u8], n: usize, id: &[u8]) -> usize
 // Whether `id` is one of the n ids of a list.
 pub fn has_id(list: &[u8], n: usize, id: &[u8]) -> bool
     requires { n * 16 ≤ length list.now }
-    ensures { result ≡ mem id.now (idsAt n list.now) }
+    ensures { result ≡ mem id.now (ids_at n list.now) }
 {
     find(list, n, id) < n
 }
@@ -36,7 +36,7 @@ pub fn has_id(list: &[u8], n: usize, id: &[u8]) -> bool
 // Whether the n ids of a list are all different.
 pub fn distinct_ids(list: &[u8], n: usize) -> bool
     requires { n * 16 ≤ length list.now }
-    ensures { result ≡ distinct (idsAt n list.now) }
+    ensures { result ≡ distinct (ids_at n list.now) }
 {
     let mut k: usize = 0;
     while k < n {
@@ -53,7 +53,7 @@ pub fn distinct_ids(list: &[u8], n: usize) -> bool
 
 // Whether octets are an own list: what 19 asks of them.
 pub fn list_ok(own: &[u8]) -> bool
-    ensures { result ≡ listOk own.now }
+    ensures { result ≡ list_ok own.now }
 {
     let count = own.len() / field::ID;
     if own.len() % field::ID != 0 {

@@ -1,9 +1,9 @@
 // The schemes that a NEGO lists: those of the own list at the bits of a set.
 ghost use Rattle.std.specs.Prelude.{◌≡◌, ◌+◌, ◌*◌, ◌≤◌, ◌<◌};
 ghost use Rattle.std.proofs.Math.Seq.{paste};
-ghost use Rattle.message.specs.Show.{idsAt};
+ghost use Rattle.message.specs.Show.{ids_at};
 ghost use Rattle.schemes.specs.Sets.{left};
-ghost use Rattle.schemes.specs.Answers.{schemesOf};
+ghost use Rattle.schemes.specs.Answers.{schemes_of};
 
 use super::Schemes;
 use super::list::id_of;
@@ -31,7 +31,7 @@ fn with_id(s: Schemes, id: [u8; 16]) -> Schemes
 // The own schemes at the bits of a set, in the own order.
 pub fn gather(list: [u8; 256], n: usize, set: u16) -> Schemes
     requires { n ≤ 16 }
-    ensures { result ≡ schemesOf (left (idsAt n list) set 0) }
+    ensures { result ≡ schemes_of (left (ids_at n list) set 0) }
 {
     let mut schemes = Schemes {
         octets: [0u8; 256],

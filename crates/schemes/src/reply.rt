@@ -1,9 +1,9 @@
 // The own places that the initiator keeps of a reply.
 ghost use Rattle.std.specs.Prelude.{◌≡◌, not, ◌||◌, ◌*◌, ◌≤◌, length, ltb};
-ghost use Rattle.message.specs.Show.{idsAt, ids_of};
+ghost use Rattle.message.specs.Show.{ids_at, ids_of};
 ghost use Rattle.schemes.specs.Lists.{bit};
-ghost use Rattle.schemes.specs.Sets.{has, noted, keptPlaces, keptBelow};
-ghost use Rattle.schemes.specs.Answers.{keptOf, placesIn, Noting};
+ghost use Rattle.schemes.specs.Sets.{has, noted, kept_places, kept_below};
+ghost use Rattle.schemes.specs.Answers.{kept_of, places_in, Noting};
 
 use super::Kept;
 use super::list::find;
@@ -26,7 +26,7 @@ fn has_place(places: &[u8], p: u8) -> bool
 // The kept places with p behind them, where p is one of n places and not there yet.
 fn note(k: Kept, p: usize, n: usize) -> Kept
     requires { Noting k p n }
-    ensures { result ≡ keptOf (noted n p (placesIn k)) }
+    ensures { result ≡ kept_of (noted n p (places_in k)) }
 {
     if n <= p {
         return k;
@@ -46,7 +46,7 @@ fn note(k: Kept, p: usize, n: usize) -> Kept
 // The own places of the peer's different own schemes, in the order of their first mention.
 pub fn kept_places(own: &[u8], n: usize, peer: &[u8]) -> Kept
     requires { (n * 16 ≤ length own.now) × (n ≤ 16) }
-    ensures { result ≡ keptOf (keptPlaces (idsAt n own.now) (ids_of peer.now)) }
+    ensures { result ≡ kept_of (kept_places (ids_at n own.now) (ids_of peer.now)) }
 {
     let count = peer.len() / field::ID;
     let mut kept = Kept {
@@ -76,7 +76,7 @@ fn place_within(p: u8, set: u16, n: u32) -> bool
 
 // Whether every kept place at a bit of the set is one of n.
 pub fn kept_within(kept: [u8; 16], common: u16, n: u32) -> bool
-    ensures { result ≡ keptBelow n kept common }
+    ensures { result ≡ kept_below n kept common }
 {
     let mut set = common;
     let mut k: usize = 0;

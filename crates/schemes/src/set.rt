@@ -1,9 +1,9 @@
 // Sets of 16 bits, bit k for place k.
 ghost use Rattle.std.specs.Prelude.{◌≡◌, ◌*◌, ◌≤◌, ◌<◌, length};
-ghost use Rattle.message.specs.Show.{idsAt, ids_of};
+ghost use Rattle.message.specs.Show.{ids_at, ids_of};
 ghost use Rattle.schemes.specs.Lists.{bit};
-ghost use Rattle.schemes.specs.Sets.{commonSet, ones, below};
-ghost use Rattle.schemes.specs.Answers.{withBit};
+ghost use Rattle.schemes.specs.Sets.{common_set, ones, below};
+ghost use Rattle.schemes.specs.Answers.{with_bit};
 
 use super::list::has_id;
 use message::field;
@@ -39,7 +39,7 @@ pub fn within(set: u16, n: u32) -> bool
 // A set with bit k set.
 pub fn with_bit(set: u16, k: u32) -> u16
     requires { k < 16 }
-    ensures { result ≡ withBit set k }
+    ensures { result ≡ with_bit set k }
 {
     if bit_of(set, k) {
         return set;
@@ -50,7 +50,7 @@ pub fn with_bit(set: u16, k: u32) -> u16
 // The set of the n own places whose scheme the peer lists.
 pub fn common_set(own: &[u8], n: usize, peer: &[u8]) -> u16
     requires { (n * 16 ≤ length own.now) × (n ≤ 16) }
-    ensures { result ≡ commonSet (idsAt n own.now) (ids_of peer.now) }
+    ensures { result ≡ common_set (ids_at n own.now) (ids_of peer.now) }
 {
     let count = peer.len() / field::ID;
     let mut set: u16 = 0;

@@ -12,10 +12,10 @@ use lib.Dec.{eqb, ltb, leb-suc-suc}
 use borrow.Author.Tests.{ltb-true, ltb-false, lt-ltb, le-ltb}
 use Rattle.octets.proofs.Bools.{which}
 use Rattle.bytes.specs.Bytes.{index_of, index_after, slice}
-use Rattle.octets.specs.Octets.{sameOctets}
+use Rattle.octets.specs.Octets.{same_octets}
 use Rattle.fields.specs.Fields.{part}
-use Rattle.script.specs.Grammar.{longer, fields_of, first, others, only, placeFrom, place_of}
-use Rattle.script.specs.Places.{fieldsFrom}
+use Rattle.script.specs.Grammar.{longer, fields_of, first, others, only, place_from, place_of}
+use Rattle.script.specs.Places.{fields_from}
 use Rattle.script.specs.Steps.{end_of}
 
 pub end-past : (s : List ℕ) (from : ℕ) → length s < from → length s ≡ end_of s from
@@ -27,41 +27,41 @@ unfolding end_of
 end-found s from r h e = rw (le-ltb _ _ h) e
 
 -- the fields behind the first one, whose end is k
-abbrev behindEnd : List ℕ → ℕ → List (List ℕ)
-behindEnd t k = cond (ltb k (length t)) (fields_of (drop (suc k) t)) []
+abbrev behind_end : List ℕ → ℕ → List (List ℕ)
+behind_end t k = cond (ltb k (length t)) (fields_of (drop (suc k) t)) []
 
 -- the first field ends before the first space
-split_at : (c : ℕ) (t : List ℕ) (k : ℕ) (b : Bool) → fields_of t ≡ take k t ∷ behindEnd t k
-    → cond b ([] ∷ fields_of t) (longer c (fields_of t)) ≡ take (index_after b k) (c ∷ t) ∷ behindEnd (c ∷ t) (index_after b k)
+split_at : (c : ℕ) (t : List ℕ) (k : ℕ) (b : Bool) → fields_of t ≡ take k t ∷ behind_end t k
+    → cond b ([] ∷ fields_of t) (longer c (fields_of t)) ≡ take (index_after b k) (c ∷ t) ∷ behind_end (c ∷ t) (index_after b k)
 unfolding index_after
 split_at c t k true e = rw (lt-ltb 0 (suc (length t)) (omega arith))
 split_at c t k false e = rw (leb-suc-suc (suc k) (length t)) (ap (longer c) e)
 
-split : (t : List ℕ) → fields_of t ≡ take (index_of 32 t) t ∷ behindEnd t (index_of 32 t)
+split : (t : List ℕ) → fields_of t ≡ take (index_of 32 t) t ∷ behind_end t (index_of 32 t)
 unfolding fields_of index_of
 split [] = refl
 split (c ∷ t) = split_at c t (index_of 32 t) (eqb c 32) (split t)
 
 module _ (s : List ℕ) (from : ℕ) where
   module _ (outside : length s < from) where
-    pub past-none : fieldsFrom s from ≡ []
-    unfolding fieldsFrom
+    pub past-none : fields_from s from ≡ []
+    unfolding fields_from
     past-none = rw (lt-ltb _ _ outside)
 
   module _ (inside : from ≤ length s) where
-    tail_of : slice from (length s) s ≡ drop from s
+    tail_of_lem : slice from (length s) s ≡ drop from s
     unfolding slice
-    tail_of = rw (take-length s)
+    tail_of_lem = rw (take-length s)
 
     end-at : end_of s from ≡ from + index_of 32 (drop from s)
     unfolding end_of
-    end-at = rw (le-ltb _ _ inside, tail_of)
+    end-at = rw (le-ltb _ _ inside, tail_of_lem)
 
     front : part s from (end_of s from) ≡ take (index_of 32 (drop from s)) (drop from s)
     front = let w : end_of s from - from ≡ index_of 32 (drop from s) = omega (arith, end-at) in rw w
 
-    back : fieldsFrom s (end_of s from + 1) ≡ behindEnd (drop from s) (index_of 32 (drop from s))
-    unfolding fieldsFrom
+    back : fields_from s (end_of s from + 1) ≡ behind_end (drop from s) (index_of 32 (drop from s))
+    unfolding fields_from
     back =
         let k = index_of 32 (drop from s) in
         let l : length (drop from s) ≡ length s - from = length-drop from s in
@@ -75,15 +75,15 @@ module _ (s : List ℕ) (from : ℕ) where
         rw (n, e, lt-ltb (length s) (from + suc k) (omega arith)))
         (which (ltb k (length (drop from s))))
 
-    opened : fieldsFrom s from ≡ fields_of (drop from s)
-    unfolding fieldsFrom
+    opened : fields_from s from ≡ fields_of (drop from s)
+    unfolding fields_from
     opened = rw (le-ltb _ _ inside)
 
-    fields_at : fieldsFrom s from ≡ part s from (end_of s from) ∷ fieldsFrom s (end_of s from + 1)
+    fields_at : fields_from s from ≡ part s from (end_of s from) ∷ fields_from s (end_of s from + 1)
     fields_at = opened ∙ split (drop from s) ∙ sym (rw (front, back))
 
   at_place : (P : List (List ℕ) → Type 0) → (length s < from → P [])
-      → (from ≤ length s → P (part s from (end_of s from) ∷ fieldsFrom s (end_of s from + 1))) → P (fieldsFrom s from)
+      → (from ≤ length s → P (part s from (end_of s from) ∷ fields_from s (end_of s from + 1))) → P (fields_from s from)
   at_place P f g =
       ⊎_elim
       (λ e. let h : length s < from = ltb-true _ _ e in subst P (sym (past-none h)) (f h))
@@ -94,23 +94,23 @@ module _ (s : List ℕ) (from end : ℕ) (end_is : end ≡ end_of s from) where
   outside-end : length s < from → part s from end ≡ []
   outside-end h = let w : length s ≤ from = omega arith in rw (drop_of_length-le s w) (take-nil (end - from))
 
-  pub first-is : (x : List ℕ) → x ≡ part s from end → x ≡ first (fieldsFrom s from)
+  pub first-is : (x : List ℕ) → x ≡ part s from end → x ≡ first (fields_from s from)
   first-is x e = at_place s from (λ (fs : List (List ℕ)). x ≡ first fs) (λ h. e ∙ outside-end h) (λ h. e ∙ ap (part s from) end_is)
 
-  pub others-are : fieldsFrom s (end + 1) ≡ others (fieldsFrom s from)
+  pub others-are : fields_from s (end + 1) ≡ others (fields_from s from)
   others-are =
-      at_place s from (λ (fs : List (List ℕ)). fieldsFrom s (end + 1) ≡ others fs)
+      at_place s from (λ (fs : List (List ℕ)). fields_from s (end + 1) ≡ others fs)
       (λ h. past-none s (end + 1) (let w = end-past s from h in omega arith))
-      (λ h. ap (λ (k : ℕ). fieldsFrom s (k + 1)) end_is)
+      (λ h. ap (λ (k : ℕ). fields_from s (k + 1)) end_is)
 
-  pub only_none : end < length s → take 0 s ≡ only (fieldsFrom s from)
+  pub only_none : end < length s → take 0 s ≡ only (fields_from s from)
   only_none h =
       at_place s from (λ (fs : List (List ℕ)). [] ≡ only fs) (λ g. refl)
       (λ g.
       let k : end_of s from + 1 ≤ length s = omega arith in
       ap (λ (fs : List (List ℕ)). only (part s from (end_of s from) ∷ fs)) (sym (fields_at s (end_of s from + 1) k)))
 
-  pub only-is : length s ≤ end → (x : List ℕ) → x ≡ part s from end → x ≡ only (fieldsFrom s from)
+  pub only-is : length s ≤ end → (x : List ℕ) → x ≡ part s from end → x ≡ only (fields_from s from)
   only-is h x e =
       at_place s from (λ (fs : List (List ℕ)). x ≡ only fs) (λ g. e ∙ outside-end g)
       (λ g.
@@ -120,31 +120,31 @@ module _ (s : List ℕ) (from end : ℕ) (end_is : end ≡ end_of s from) where
 pub ruleset parts = (end-past, end-found, first-is, only_none, only-is)
 
 -- all fields stand from the start on
-pub from_start : (s : List ℕ) → fieldsFrom s 0 ≡ fields_of s
+pub from_start : (s : List ℕ) → fields_from s 0 ≡ fields_of s
 from_start s = opened s 0 (omega arith)
 
 -- a field stands at every place of the line, and none behind its end
-pub field-there : (s : List ℕ) (from : ℕ) → from ≤ length s → fieldsFrom s from ≡ first (fieldsFrom s from) ∷ others (fieldsFrom s from)
+pub field-there : (s : List ℕ) (from : ℕ) → from ≤ length s → fields_from s from ≡ first (fields_from s from) ∷ others (fields_from s from)
 field-there s from h = at_place s from (λ (fs : List (List ℕ)). fs ≡ first fs ∷ others fs) (λ g. absurd (omega arith)) (λ g. refl)
 
 -- looking a word up among the fields of a text
-pub place-start : (w text : List ℕ) → place_of w (fields_of text) ≡ placeFrom 1 w (fieldsFrom text 0)
-place-start w text = ap (placeFrom 1 w) (sym (from_start text))
+pub place-start : (w text : List ℕ) → place_of w (fields_of text) ≡ place_from 1 w (fields_from text 0)
+place-start w text = ap (place_from 1 w) (sym (from_start text))
 
-module _ (w text : List ℕ) (k at p : ℕ) (inv : p ≡ placeFrom k w (fieldsFrom text at)) where
+module _ (w text : List ℕ) (k at p : ℕ) (inv : p ≡ place_from k w (fields_from text at)) where
   pub place_none : length text < at → 0 ≡ p
-  unfolding placeFrom
+  unfolding place_from
   place_none h = sym (inv ∙ rw (past-none text at h))
 
-  module _ (more : at ≤ length text) (x : List ℕ) (x-is : x ≡ first (fieldsFrom text at)) (b : Bool) (b-is : b ≡ sameOctets w x) where
-    there : p ≡ cond b k (placeFrom (k + 1) w (others (fieldsFrom text at)))
-    unfolding placeFrom
-    there = inv ∙ ap (placeFrom k w) (field-there text at more) ∙ rw (← x-is, ← b-is)
+  module _ (more : at ≤ length text) (x : List ℕ) (x-is : x ≡ first (fields_from text at)) (b : Bool) (b-is : b ≡ same_octets w x) where
+    there : p ≡ cond b k (place_from (k + 1) w (others (fields_from text at)))
+    unfolding place_from
+    there = inv ∙ ap (place_from k w) (field-there text at more) ∙ rw (← x-is, ← b-is)
 
     pub place_found : b ≡ true → k ≡ p
     place_found h = sym (there ∙ rw h)
 
-    pub place-more : b ≡ false → (r : ℕ) → fieldsFrom text r ≡ others (fieldsFrom text at) → p ≡ placeFrom (k + 1) w (fieldsFrom text r)
+    pub place-more : b ≡ false → (r : ℕ) → fields_from text r ≡ others (fields_from text at) → p ≡ place_from (k + 1) w (fields_from text r)
     place-more h r e = there ∙ rw (h, ← e)
 
 pub ruleset places = (place-start, place_none, place_found, place-more)

@@ -13,30 +13,30 @@
 --   ends, verbs       the words; speeches: those behind `choose MARKS`; place_of w ws: the place of the word w among ws, from 1, or 0 where it is none of them;
 --                     placeFrom: from another number
 --                     on
---   verbOf v fs       the verb of a word, where the fields fs stand behind it; speechVerb: that of a place among speeches
+--   verb_of v fs       the verb of a word, where the fields fs stand behind it; speechVerb: that of a place among speeches
 --   ids_of fs          the ids of the fields fs, one behind the other; both joins octets, where none of them is bad
 --   number_in          what the number says; idIn: the id; restIn: the rest of the line, where it is octets alone; nothingIn: nothing is left
---   hasId             an id stands there; past b fs: the fields behind one that is read, or not
+--   has_id             an id stands there; past b fs: the fields behind one that is read, or not
 --   Items             extensions or alerts, or that a field is bad; these: so many; item_of s: the one of the field s; typed: of a type and a value;
---                     items_in fs: those of the fields fs, in order; bothItems joins them, where none of them is bad
---   elementsOf xs     the number, types and sizes of the items xs, as the library takes them: a type and a size for each of the first eight, zeros
+--                     items_in fs: those of the fields fs, in order; both_items joins them, where none of them is bad
+--   elements_of xs     the number, types and sizes of the items xs, as the library takes them: a type and a size for each of the first eight, zeros
 --                     behind them; filled k ns: the first k of ns; size_of n: a size as a number of 32 bits
---   testIn fs         the word `test` stands in front of the first of the EXT
+--   test_in fs         the word `test` stands in front of the first of the EXT
 --   Line              a command, and the octets that it is given; line builds one; badLine: that of a bad line
---   lineAs c d        the same of an answer, whose octets stand at the front of the slice d
---   numberThen        the line, where a number is good; octetsThen: an id or RANDOM; frontThen: octets at the front of the lent slice; itemsThen: items,
+--   line_as c d        the same of an answer, whose octets stand at the front of the slice d
+--   number_then        the line, where a number is good; octetsThen: an id or RANDOM; frontThen: octets at the front of the lent slice; itemsThen: items,
 --                     whose values stand behind the octets o; a bad line where it is not
---   fromNumber        the line from its number on; fromId: from its id on; fromRest: from its rest on; fromRandom: from RANDOM on
+--   from_number        the line from its number on; fromId: from its id on; fromRest: from its rest on; fromRandom: from RANDOM on
 --   called            the line of a verb at an end, with the marks of a choice; chosen: that of `choose`, from MARKS on; fieldsLine: that of its fields
---   commandOf s room  what the line s says, where a slice of `room` octets is lent
+--   command_of s room  what the line s says, where a slice of `room` octets is lent
 use Rattle.std.specs.Prelude.{ℕ, zero, suc, ◌+◌, min, Bool, true, false, cond, not, ◌&&◌, ◌||◌, List, [], ◌∷◌, ◌++◌, map, length, take, get_or, replicate, eqb}
-use Rattle.octets.specs.Octets.{sameOctets}
+use Rattle.octets.specs.Octets.{same_octets}
 use Rattle.put.specs.Put.{joined}
 use Rattle.text.specs.Text.{quoted}
 use Rattle.elements.specs.declared.Elements.{Elements}
-use Rattle.elements.specs.Elements.{Item, itemValues, noElements}
+use Rattle.elements.specs.Elements.{Item, item_values, no_elements}
 use Rattle.script.specs.declared.Command.{Command}
-use Rattle.fields.specs.Fields.{part, Numeral, is, nothing, hexadecimalOf, roomOf, Octets, of, none, Front, front, bad, fit, octetsOf, randomOf, id_of, behindAll}
+use Rattle.fields.specs.Fields.{part, Numeral, is, nothing, hexadecimal_of, room_of, Octets, of, none, Front, front, bad, fit, octets_of, random_of, id_of, behind_all}
 
 abbrev pub longer : ℕ → List (List ℕ) → List (List ℕ)
 longer c [] = []
@@ -164,12 +164,12 @@ forms =
 unfoldable pub form_of : ℕ → Form
 form_of verb = get_or forms verb (form NONE NONE NONE)
 
-unfoldable pub placeFrom : ℕ → List ℕ → List (List ℕ) → ℕ
-placeFrom k w [] = 0
-placeFrom k w (x ∷ ws) = cond (sameOctets w x) k (placeFrom (k + 1) w ws)
+unfoldable pub place_from : ℕ → List ℕ → List (List ℕ) → ℕ
+place_from k w [] = 0
+place_from k w (x ∷ ws) = cond (same_octets w x) k (place_from (k + 1) w ws)
 
 abbrev pub place_of : List ℕ → List (List ℕ) → ℕ
-place_of w ws = placeFrom 1 w ws
+place_of w ws = place_from 1 w ws
 
 -- "E is `i` or `a`."
 abbrev pub ends : List (List ℕ)
@@ -182,16 +182,16 @@ verbs = fields_of (quoted "offer reply metadata exchange verify alert read choos
 abbrev pub speeches : List (List ℕ)
 speeches = fields_of (quoted "exchange verify alert")
 
-abbrev pub speechVerb : ℕ → ℕ
-speechVerb place = cond (eqb place 1) CHOOSE-EXCHANGE (cond (eqb place 2) CHOOSE-VERIFY (cond (eqb place 3) CHOOSE-ALERT BAD))
+abbrev pub speech_verb : ℕ → ℕ
+speech_verb place = cond (eqb place 1) CHOOSE-EXCHANGE (cond (eqb place 2) CHOOSE-VERIFY (cond (eqb place 3) CHOOSE-ALERT BAD))
 
 -- "reads a copy of the other end's turn so far"
-unfoldable pub verbOf : ℕ → List (List ℕ) → ℕ
-verbOf verb [] = cond (eqb verb READ) TURN verb
-verbOf verb (f ∷ fs) = verb
+unfoldable pub verb_of : ℕ → List (List ℕ) → ℕ
+verb_of verb [] = cond (eqb verb READ) TURN verb
+verb_of verb (f ∷ fs) = verb
 
 abbrev pub both : Octets → Octets → Octets
-both (of o) x = behindAll o x
+both (of o) x = behind_all o x
 both none x = none
 
 -- "any number of ids"
@@ -203,51 +203,51 @@ ids_of (f ∷ fs) = both (id_of f) (ids_of fs)
 unfoldable pub number_in : ℕ → List (List ℕ) → Numeral
 number_in kind fs =
     cond (eqb kind NONE) (is 0)
-    (cond (eqb kind ROOM) (roomOf (first fs))
-    (cond (eqb kind MARKS) (hexadecimalOf 4 65535 (first fs)) (hexadecimalOf 8 4294967295 (first fs))))
+    (cond (eqb kind ROOM) (room_of (first fs))
+    (cond (eqb kind MARKS) (hexadecimal_of 4 65535 (first fs)) (hexadecimal_of 8 4294967295 (first fs))))
 
 -- an initiator has a CONVERSATION, and an acceptor none
-abbrev pub hasId : ℕ → Bool → Bool
-hasId kind acceptor = eqb kind ID || (eqb kind CONVERSATION && not acceptor)
+abbrev pub has_id : ℕ → Bool → Bool
+has_id kind acceptor = eqb kind ID || (eqb kind CONVERSATION && not acceptor)
 
-unfoldable pub idIn : Bool → List (List ℕ) → Octets
-idIn true fs = id_of (first fs)
-idIn false fs = of (replicate 16 0)
+unfoldable pub id_in : Bool → List (List ℕ) → Octets
+id_in true fs = id_of (first fs)
+id_in false fs = of (replicate 16 0)
 
 -- the fields behind one that is read, or not
 abbrev pub past : Bool → List (List ℕ) → List (List ℕ)
 past true fs = others fs
 past false fs = fs
 
-abbrev pub nothingIn : List (List ℕ) → Octets
-nothingIn [] = of []
-nothingIn (f ∷ fs) = none
+abbrev pub nothing_in : List (List ℕ) → Octets
+nothing_in [] = of []
+nothing_in (f ∷ fs) = none
 
-unfoldable pub restIn : ℕ → List (List ℕ) → Octets
-restIn kind fs = cond (eqb kind IDS) (ids_of fs) (cond (eqb kind OCTETS) (octetsOf (only fs)) (nothingIn fs))
+unfoldable pub rest_in : ℕ → List (List ℕ) → Octets
+rest_in kind fs = cond (eqb kind IDS) (ids_of fs) (cond (eqb kind OCTETS) (octets_of (only fs)) (nothing_in fs))
 
 pub data Items : Type 0 where
   these : List Item → Items
-  noItems : Items
+  no_items : Items
 
-abbrev pub bothItems : Items → Items → Items
-bothItems (these xs) (these ys) = these (xs ++ ys)
-bothItems (these xs) noItems = noItems
-bothItems noItems y = noItems
+abbrev pub both_items : Items → Items → Items
+both_items (these xs) (these ys) = these (xs ++ ys)
+both_items (these xs) no_items = no_items
+both_items no_items y = no_items
 
 abbrev pub typed : Numeral → Octets → Items
 typed (is t) (of v) = these (record { type = t; value = v } ∷ [])
-typed (is t) none = noItems
-typed nothing o = noItems
+typed (is t) none = no_items
+typed nothing o = no_items
 
 -- "EXT and ALERT are TYPE:OCTETS"
 unfoldable pub item_of : List ℕ → Items
-item_of s = cond (eqb (get_or s 8 0) 58) (typed (hexadecimalOf 8 4294967295 (part s 0 8)) (octetsOf (part s 9 (length s)))) noItems
+item_of s = cond (eqb (get_or s 8 0) 58) (typed (hexadecimal_of 8 4294967295 (part s 0 8)) (octets_of (part s 9 (length s)))) no_items
 
 -- "any number of them"
 unfoldable pub items_in : List (List ℕ) → Items
 items_in [] = these []
-items_in (f ∷ fs) = bothItems (item_of f) (items_in fs)
+items_in (f ∷ fs) = both_items (item_of f) (items_in fs)
 
 -- the first k of ns, and zeros where there are fewer
 abbrev pub filled : ℕ → List ℕ → List ℕ
@@ -259,22 +259,22 @@ filled (suc k) (n ∷ ns) = n ∷ filled k ns
 abbrev pub size_of : ℕ → ℕ
 size_of n = min n 4294967295
 
-unfoldable pub elementsOf : List Item → Elements
-elementsOf xs =
+unfoldable pub elements_of : List Item → Elements
+elements_of xs =
     record { count = length xs; types = filled 8 (map (λ x. x.type) xs); sizes = filled 8 (map (λ x. size_of (length x.value)) xs) }
 
 -- "the word `test` in front of the first EXT"
-abbrev pub testIn : List (List ℕ) → Bool
-testIn [] = false
-testIn (f ∷ []) = false
-testIn (f ∷ g ∷ fs) = sameOctets f (quoted "test")
+abbrev pub test_in : List (List ℕ) → Bool
+test_in [] = false
+test_in (f ∷ []) = false
+test_in (f ∷ g ∷ fs) = same_octets f (quoted "test")
 
 pub record Line : Type 0 where
   pub command : Command
   pub octets : List ℕ
 
-abbrev pub lineAs : Command → List ℕ → Line
-lineAs c d = record { command = c; octets = take c.length d }
+abbrev pub line_as : Command → List ℕ → Line
+line_as c d = record { command = c; octets = take c.length d }
 
 abbrev pub line : ℕ → Bool → ℕ → ℕ → List ℕ → Bool → Elements → ℕ → List ℕ → Line
 line verb acceptor marks number id test elements length octets =
@@ -284,68 +284,68 @@ line verb acceptor marks number id test elements length octets =
       octets = octets;
     }
 
-abbrev pub badLine : Line
-badLine = line BAD false 0 0 (replicate 16 0) false noElements 0 []
+abbrev pub bad_line : Line
+bad_line = line BAD false 0 0 (replicate 16 0) false no_elements 0 []
 
-abbrev pub numberThen : Numeral → (ℕ → Line) → Line
-numberThen (is n) f = f n
-numberThen nothing f = badLine
+abbrev pub number_then : Numeral → (ℕ → Line) → Line
+number_then (is n) f = f n
+number_then nothing f = bad_line
 
-abbrev pub octetsThen : Octets → (List ℕ → Line) → Line
-octetsThen (of o) f = f o
-octetsThen none f = badLine
+abbrev pub octets_then : Octets → (List ℕ → Line) → Line
+octets_then (of o) f = f o
+octets_then none f = bad_line
 
-abbrev pub frontThen : Front → (ℕ → List ℕ → Line) → Line
-frontThen (front k o) f = f k o
-frontThen bad f = badLine
+abbrev pub front_then : Front → (ℕ → List ℕ → Line) → Line
+front_then (front k o) f = f k o
+front_then bad f = bad_line
 
-abbrev pub itemsThen : ℕ → List ℕ → Items → (Elements → ℕ → List ℕ → Line) → Line
-itemsThen room o (these xs) f = frontThen (fit room (of (o ++ joined (itemValues xs)))) (f (elementsOf xs))
-itemsThen room o noItems f = badLine
+abbrev pub items_then : ℕ → List ℕ → Items → (Elements → ℕ → List ℕ → Line) → Line
+items_then room o (these xs) f = front_then (fit room (of (o ++ joined (item_values xs)))) (f (elements_of xs))
+items_then room o no_items f = bad_line
 
 -- "RANDOM EXT EXT .."
-unfoldable pub fromRandom : List (List ℕ) → ℕ → (Bool → Elements → ℕ → List ℕ → Line) → Line
-fromRandom fs room f =
-    octetsThen (randomOf (first fs))
-    (λ o. itemsThen room o (items_in (past (testIn (others fs)) (others fs))) (f (testIn (others fs))))
+unfoldable pub from_random : List (List ℕ) → ℕ → (Bool → Elements → ℕ → List ℕ → Line) → Line
+from_random fs room f =
+    octets_then (random_of (first fs))
+    (λ o. items_then room o (items_in (past (test_in (others fs)) (others fs))) (f (test_in (others fs))))
 
 -- the rest of the line
-unfoldable pub fromRest : ℕ → Bool → ℕ → ℕ → List ℕ → List (List ℕ) → ℕ → Line
-fromRest verb acceptor marks n i fs room =
-    cond (eqb (form_of verb).rest EXTENSIONS) (fromRandom fs room (line verb acceptor marks n i))
-    (cond (eqb (form_of verb).rest ALERTS) (itemsThen room [] (items_in fs) (line verb acceptor marks n i false))
-    (frontThen (fit room (restIn (form_of verb).rest fs)) (line verb acceptor marks n i false noElements)))
+unfoldable pub from_rest : ℕ → Bool → ℕ → ℕ → List ℕ → List (List ℕ) → ℕ → Line
+from_rest verb acceptor marks n i fs room =
+    cond (eqb (form_of verb).rest EXTENSIONS) (from_random fs room (line verb acceptor marks n i))
+    (cond (eqb (form_of verb).rest ALERTS) (items_then room [] (items_in fs) (line verb acceptor marks n i false))
+    (front_then (fit room (rest_in (form_of verb).rest fs)) (line verb acceptor marks n i false no_elements)))
 
 -- the id, and what is behind it
-unfoldable pub fromId : ℕ → Bool → ℕ → ℕ → List (List ℕ) → ℕ → Line
-fromId verb acceptor marks n fs room =
-    octetsThen (idIn (hasId (form_of verb).id acceptor) fs)
-    (λ i. fromRest verb acceptor marks n i (past (hasId (form_of verb).id acceptor) fs) room)
+unfoldable pub from_id : ℕ → Bool → ℕ → ℕ → List (List ℕ) → ℕ → Line
+from_id verb acceptor marks n fs room =
+    octets_then (id_in (has_id (form_of verb).id acceptor) fs)
+    (λ i. from_rest verb acceptor marks n i (past (has_id (form_of verb).id acceptor) fs) room)
 
 -- the number, and what is behind it
-unfoldable pub fromNumber : ℕ → Bool → ℕ → List (List ℕ) → ℕ → Line
-fromNumber verb acceptor marks fs room =
-    numberThen (number_in (form_of verb).number fs)
-    (λ n. fromId verb acceptor marks n (past (not (eqb (form_of verb).number NONE)) fs) room)
+unfoldable pub from_number : ℕ → Bool → ℕ → List (List ℕ) → ℕ → Line
+from_number verb acceptor marks fs room =
+    number_then (number_in (form_of verb).number fs)
+    (λ n. from_id verb acceptor marks n (past (not (eqb (form_of verb).number NONE)) fs) room)
 
 -- a verb and an end, which both have to be some
 unfoldable pub called : ℕ → ℕ → ℕ → List (List ℕ) → ℕ → Line
-called verb end marks fs room = cond (eqb end 0) badLine (cond (eqb verb BAD) badLine (fromNumber verb (eqb end 2) marks fs room))
+called verb end marks fs room = cond (eqb end 0) bad_line (cond (eqb verb BAD) bad_line (from_number verb (eqb end 2) marks fs room))
 
 -- "E choose MARKS exchange OCTETS", "E choose MARKS verify TYPE OCTETS", "E choose MARKS alert CODE ALERT ALERT .."
 unfoldable pub chosen : ℕ → List (List ℕ) → ℕ → Line
 chosen end fs room =
-    numberThen (number_in MARKS fs)
-    (λ marks. called (speechVerb (place_of (first (others fs)) speeches)) end marks (others (others fs)) room)
+    number_then (number_in MARKS fs)
+    (λ marks. called (speech_verb (place_of (first (others fs)) speeches)) end marks (others (others fs)) room)
 
 -- "open i ..", "open a ..", "E offer .." to "E read ..", and "E choose .."
-unfoldable pub fieldsLine : List (List ℕ) → ℕ → Line
-fieldsLine [] room = badLine
-fieldsLine (w ∷ []) room = badLine
-fieldsLine (w ∷ x ∷ fs) room =
-    cond (sameOctets w (quoted "open")) (called OPEN (place_of x ends) 0 fs room)
-    (cond (eqb (verbOf (place_of x verbs) fs) CHOOSE) (chosen (place_of w ends) fs room)
-    (called (verbOf (place_of x verbs) fs) (place_of w ends) 0 fs room))
+unfoldable pub fields_line : List (List ℕ) → ℕ → Line
+fields_line [] room = bad_line
+fields_line (w ∷ []) room = bad_line
+fields_line (w ∷ x ∷ fs) room =
+    cond (same_octets w (quoted "open")) (called OPEN (place_of x ends) 0 fs room)
+    (cond (eqb (verb_of (place_of x verbs) fs) CHOOSE) (chosen (place_of w ends) fs room)
+    (called (verb_of (place_of x verbs) fs) (place_of w ends) 0 fs room))
 
-unfoldable pub commandOf : List ℕ → ℕ → Line
-commandOf s room = fieldsLine (fields_of s) room
+unfoldable pub command_of : List ℕ → ℕ → Line
+command_of s room = fields_line (fields_of s) room

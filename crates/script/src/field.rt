@@ -2,7 +2,7 @@
 // none.
 ghost use Rattle.std.specs.Prelude.{◌≡◌};
 ghost use Rattle.script.specs.Grammar.{fields_of, first, only, place_of, past as Grammar·past};
-ghost use Rattle.script.specs.Places.{fieldsFrom, Behind};
+ghost use Rattle.script.specs.Places.{fields_from, Behind};
 ghost use Rattle.script.specs.Steps.{FieldEnd};
 
 use bytes::scan::find;
@@ -20,7 +20,7 @@ fn field_end(s: &[u8], from: usize) -> usize
 
 // The field that starts at `from`.
 pub fn field(s: &[u8], from: usize) -> &[u8]
-    ensures { result.now ≡ first (fieldsFrom s.now from) }
+    ensures { result.now ≡ first (fields_from s.now from) }
 {
     let end = field_end(s, from);
     part(s, from, end)
@@ -28,7 +28,7 @@ pub fn field(s: &[u8], from: usize) -> &[u8]
 
 // The field that starts at `from`, where it is the line's last; else nothing.
 pub(crate) fn last(s: &[u8], from: usize) -> &[u8]
-    ensures { result.now ≡ only (fieldsFrom s.now from) }
+    ensures { result.now ≡ only (fields_from s.now from) }
 {
     let end = field_end(s, from);
     if end < s.len() {
@@ -46,7 +46,7 @@ pub fn behind(s: &[u8], from: usize) -> usize
 
 // Where the next field starts, once the one at `from` is read or not.
 pub(crate) fn past(s: &[u8], from: usize, read: bool) -> usize
-    ensures { fieldsFrom s.now result ≡ Grammar·past read (fieldsFrom s.now from) }
+    ensures { fields_from s.now result ≡ Grammar·past read (fields_from s.now from) }
 {
     if read {
         return behind(s, from);

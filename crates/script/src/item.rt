@@ -1,8 +1,8 @@
 // Extensions and alerts in a line: TYPE:OCTETS, and the word `test` in front of the first one.
 ghost use Rattle.std.specs.Prelude.{◌≡◌, ◌<◌};
-ghost use Rattle.script.specs.Grammar.{size_of, testIn};
-ghost use Rattle.script.specs.Places.{fieldsFrom};
-ghost use Rattle.script.specs.Steps.{ItemRead, oneMore};
+ghost use Rattle.script.specs.Grammar.{size_of, test_in};
+ghost use Rattle.script.specs.Places.{fields_from};
+ghost use Rattle.script.specs.Steps.{ItemRead, one_more};
 
 use super::field::{behind, field};
 use elements::Elements;
@@ -55,7 +55,7 @@ fn size_of(n: usize) -> u32
 // Elements with one more behind them, whose value has n octets. Only the first eight have a place.
 pub(crate) fn added(e: Elements, kind: u32, n: usize) -> Elements
     requires { e.count < 9223372036854775808 }
-    ensures { result ≡ oneMore e kind n }
+    ensures { result ≡ one_more e kind n }
 {
     let i = e.count;
     let mut next = e;
@@ -69,7 +69,7 @@ pub(crate) fn added(e: Elements, kind: u32, n: usize) -> Elements
 
 // Whether the word `test` stands at `from`, with another field behind it.
 pub(crate) fn is_test(line: &[u8], from: usize) -> bool
-    ensures { result ≡ testIn (fieldsFrom line.now from) }
+    ensures { result ≡ test_in (fields_from line.now from) }
 {
     if line.len() < behind(line, from) {
         return false;

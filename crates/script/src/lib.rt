@@ -1,7 +1,7 @@
 // The text of a script: a line read into one command.
 ghost use Rattle.std.specs.Prelude.{◌≡◌, ◌≤◌, length, take};
-ghost use Rattle.script.specs.Places.{fieldsFrom};
-ghost use Rattle.script.specs.Grammar.{verbs, ends, speeches, place_of, verbOf, speechVerb, hasId, items_in, lineAs, line as Grammar·line, badLine, itemsThen, fromRandom, fromRest, fromId, fromNumber, called, chosen, commandOf};
+ghost use Rattle.script.specs.Places.{fields_from};
+ghost use Rattle.script.specs.Grammar.{verbs, ends, speeches, place_of, verb_of, speech_verb, has_id, items_in, line_as, line as Grammar·line, bad_line, items_then, from_random, from_rest, from_id, from_number, called, chosen, command_of};
 
 use elements::Elements;
 use field::{behind, field as field_at, past, place};
@@ -112,7 +112,7 @@ const RESTS: [u8; 14] = [
 
 // A line that is none of the calls.
 fn bad() -> Command
-    ensures { result ≡ badLine.command }
+    ensures { result ≡ bad_line.command }
 {
     let elements = Elements::none();
     Command {
@@ -130,8 +130,8 @@ fn bad() -> Command
 // A command with extensions or alerts, whose values are put one behind the other, from `start` on.
 fn with_items(c: Command, line: &[u8], from: usize, start: usize, lent: &mut [u8]) -> Command
     requires { start ≤ length lent.old }
-    ensures { lineAs result lent.new ≡ itemsThen (length lent.old) (take start lent.old)
-        (items_in (fieldsFrom line.now from)) (Grammar·line c.verb c.acceptor c.marks c.number c.id c.test) }
+    ensures { line_as result lent.new ≡ items_then (length lent.old) (take start lent.old)
+        (items_in (fields_from line.now from)) (Grammar·line c.verb c.acceptor c.marks c.number c.id c.test) }
 {
     let mut elements = Elements::none();
     let mut at = from;
@@ -153,7 +153,7 @@ fn with_items(c: Command, line: &[u8], from: usize, start: usize, lent: &mut [u8
 
 // A command with RANDOM and extensions.
 fn with_random(c: Command, line: &[u8], from: usize, lent: &mut [u8]) -> Command
-    ensures { lineAs result lent.new ≡ fromRandom (fieldsFrom line.now from) (length lent.old)
+    ensures { line_as result lent.new ≡ from_random (fields_from line.now from) (length lent.old)
         (Grammar·line c.verb c.acceptor c.marks c.number c.id) }
 {
     let value = random(field_at(line, from), lent);
@@ -169,8 +169,8 @@ fn with_random(c: Command, line: &[u8], from: usize, lent: &mut [u8]) -> Command
 
 // A command with the rest of its line.
 fn with_rest(c: Command, line: &[u8], from: usize, lent: &mut [u8]) -> Command
-    ensures { lineAs result lent.new ≡ fromRest c.verb c.acceptor c.marks c.number c.id
-        (fieldsFrom line.now from)
+    ensures { line_as result lent.new ≡ from_rest c.verb c.acceptor c.marks c.number c.id
+        (fields_from line.now from)
         (length lent.old) }
 {
     let kind = octet(&RESTS, c.verb);
@@ -194,7 +194,7 @@ fn with_rest(c: Command, line: &[u8], from: usize, lent: &mut [u8]) -> Command
 
 // Whether a call at an end has an id: an initiator alone has a CONVERSATION.
 fn has_id(kind: u8, acceptor: bool) -> bool
-    ensures { result ≡ hasId kind acceptor }
+    ensures { result ≡ has_id kind acceptor }
 {
     if kind == ID {
         return true;
@@ -207,7 +207,7 @@ fn has_id(kind: u8, acceptor: bool) -> bool
 
 // A command with its id, and what is behind it.
 fn with_id(c: Command, line: &[u8], from: usize, lent: &mut [u8]) -> Command
-    ensures { lineAs result lent.new ≡ fromId c.verb c.acceptor c.marks c.number (fieldsFrom line.now from)
+    ensures { line_as result lent.new ≡ from_id c.verb c.acceptor c.marks c.number (fields_from line.now from)
         (length lent.old) }
 {
     let some = has_id(octet(&NAMES, c.verb), c.acceptor);
@@ -230,7 +230,7 @@ fn with_number(
     from: usize,
     lent: &mut [u8],
 ) -> Command
-    ensures { lineAs result lent.new ≡ fromNumber verb acceptor marks (fieldsFrom line.now from)
+    ensures { line_as result lent.new ≡ from_number verb acceptor marks (fields_from line.now from)
         (length lent.old) }
 {
     let kind = octet(&NUMBERS, verb);
@@ -254,7 +254,7 @@ fn with_number(
 
 // A command of a verb at an end, by their places: 0 is none, and the acceptor is 2.
 fn call(verb: usize, end: usize, marks: u32, line: &[u8], from: usize, lent: &mut [u8]) -> Command
-    ensures { lineAs result lent.new ≡ called verb end marks (fieldsFrom line.now from) (length lent.old) }
+    ensures { line_as result lent.new ≡ called verb end marks (fields_from line.now from) (length lent.old) }
 {
     if end == 0 {
         return bad();
@@ -267,7 +267,7 @@ fn call(verb: usize, end: usize, marks: u32, line: &[u8], from: usize, lent: &mu
 
 // The verb of a word behind which the fields from `from` on stand.
 fn verb(word: &[u8], line: &[u8], from: usize) -> usize
-    ensures { result ≡ verbOf (place_of word.now verbs) (fieldsFrom line.now from) }
+    ensures { result ≡ verb_of (place_of word.now verbs) (fields_from line.now from) }
 {
     let named = place(
         word,
@@ -291,7 +291,7 @@ fn end_place(word: &[u8]) -> usize
 
 // The verb of a word behind `choose MARKS`.
 fn speech(word: &[u8]) -> usize
-    ensures { result ≡ speechVerb (place_of word.now speeches) }
+    ensures { result ≡ speech_verb (place_of word.now speeches) }
 {
     let named = place(word, b"exchange verify alert");
     if named == 1 {
@@ -308,7 +308,7 @@ fn speech(word: &[u8]) -> usize
 
 // A command that chooses, at an end, from its MARKS on.
 fn choice(end: usize, line: &[u8], from: usize, lent: &mut [u8]) -> Command
-    ensures { lineAs result lent.new ≡ chosen end (fieldsFrom line.now from) (length lent.old) }
+    ensures { line_as result lent.new ≡ chosen end (fields_from line.now from) (length lent.old) }
 {
     let numeral = number_in(line, from, MARKS);
     let Number::Is(marks) = numeral else {
@@ -321,7 +321,7 @@ fn choice(end: usize, line: &[u8], from: usize, lent: &mut [u8]) -> Command
 
 // The command of a line. Its octets are put at the front of the lent slice; what then stands behind them, or in the slice of a bad line, is left open.
 pub fn read_command(line: &[u8], lent: &mut [u8]) -> Command
-    ensures { lineAs result lent.new ≡ commandOf line.now (length lent.old) }
+    ensures { line_as result lent.new ≡ command_of line.now (length lent.old) }
 {
     let word = field_at(line, 0);
     let at = behind(line, 0);

@@ -1,8 +1,8 @@
 // What the fields of a call say: its number, its id, and the rest of its line.
 ghost use Rattle.std.specs.Prelude.{◌≡◌, length};
-ghost use Rattle.fields.specs.Fields.{number_of, fit, decodedAs, idAs};
-ghost use Rattle.script.specs.Grammar.{ids_of, number_in, idIn, restIn};
-ghost use Rattle.script.specs.Places.{fieldsFrom};
+ghost use Rattle.fields.specs.Fields.{number_of, fit, decoded_as, id_as};
+ghost use Rattle.script.specs.Grammar.{ids_of, number_in, id_in, rest_in};
+ghost use Rattle.script.specs.Places.{fields_from};
 
 use super::field::{behind, field, last};
 use super::{IDS, MARKS, NONE, OCTETS, ROOM};
@@ -12,7 +12,7 @@ use put::put_octets;
 
 // A line's number, in the field that starts at `from`.
 pub fn number_in(line: &[u8], from: usize, kind: u8) -> Number
-    ensures { number_of result ≡ number_in kind (fieldsFrom line.now from) }
+    ensures { number_of result ≡ number_in kind (fields_from line.now from) }
 {
     if kind == NONE {
         return Number::Is(0);
@@ -29,7 +29,7 @@ pub fn number_in(line: &[u8], from: usize, kind: u8) -> Number
 
 // A line's id, in the field that starts at `from`, where there is one.
 pub(crate) fn id_in(line: &[u8], from: usize, some: bool) -> IdText
-    ensures { idAs result ≡ idIn some (fieldsFrom line.now from) }
+    ensures { id_as result ≡ id_in some (fields_from line.now from) }
 {
     if some {
         return id(field(line, from));
@@ -42,7 +42,7 @@ pub(crate) fn id_in(line: &[u8], from: usize, some: bool) -> IdText
 
 // The ids of the fields from `from` on, one behind the other at the front of d.
 fn ids(line: &[u8], from: usize, d: &mut [u8]) -> Decoded
-    ensures { decodedAs result d.new ≡ fit (length d.old) (ids_of (fieldsFrom line.now from)) }
+    ensures { decoded_as result d.new ≡ fit (length d.old) (ids_of (fields_from line.now from)) }
 {
     let mut at = from;
     let mut filled = 0;
@@ -63,7 +63,7 @@ fn ids(line: &[u8], from: usize, d: &mut [u8]) -> Decoded
 
 // The rest of a line that is octets alone, from the field that starts at `from`: they are put at the front of d.
 pub fn rest_in(line: &[u8], from: usize, kind: u8, d: &mut [u8]) -> Decoded
-    ensures { decodedAs result d.new ≡ fit (length d.old) (restIn kind (fieldsFrom line.now from)) }
+    ensures { decoded_as result d.new ≡ fit (length d.old) (rest_in kind (fields_from line.now from)) }
 {
     if kind == IDS {
         return ids(line, from, d);

@@ -1,10 +1,10 @@
 // ALERT.
 ghost use Rattle.std.specs.Prelude.{◌≡◌, true};
-ghost use Rattle.elements.specs.Elements.{items_of, elementsFit};
-ghost use Rattle.encode.specs.Encode.{alertOf};
+ghost use Rattle.elements.specs.Elements.{items_of, elements_fit};
+ghost use Rattle.encode.specs.Encode.{alert_of};
 ghost use Rattle.conversation.specs.Turns.{ALERT};
 ghost use Rattle.conversation.specs.Outcomes.{leaving};
-ghost use Rattle.conversation.specs.Writing.{alarm, speaking, alertContent};
+ghost use Rattle.conversation.specs.Writing.{alarm, speaking, alert_content};
 ghost use Rattle.conversation.specs.Choosing.{choosing};
 ghost use Rattle.calls.specs.Calls.{Ready, Appended};
 
@@ -30,8 +30,8 @@ fn append_alert(
     alerts: Elements,
     values: &[u8],
 ) -> Record
-    requires { (elementsFit alerts values.now ≡ true) × Ready r transcript.old ALERT (alertOf id code (items_of alerts values.now)) }
-    ensures { Appended r transcript.old ALERT (alertOf id code (items_of alerts values.now))
+    requires { (elements_fit alerts values.now ≡ true) × Ready r transcript.old ALERT (alert_of id code (items_of alerts values.now)) }
+    ensures { Appended r transcript.old ALERT (alert_of id code (items_of alerts values.now))
         transcript.new result }
 {
     let heading = heading_of(r, Class::ALERT);
@@ -49,7 +49,7 @@ pub fn write_alert(
     values: &[u8],
 ) -> Answer
     ensures { leaving result transcript.new ≡ speaking r transcript.old
-        (alarm (alertContent code alerts values.now)) }
+        (alarm (alert_content code alerts values.now)) }
 {
     let fit = fits(alerts, values);
     let size = size_of(alerts, values);
@@ -72,7 +72,7 @@ pub fn choose_alert(
     values: &[u8],
 ) -> Answer
     ensures { leaving result transcript.new ≡ choosing r transcript.old marks
-        (alarm (alertContent code alerts values.now)) }
+        (alarm (alert_content code alerts values.now)) }
 {
     let fit = fits(alerts, values);
     let number = choice_refusal(r, Class::ALERT, marks, fit);

@@ -6,32 +6,32 @@ use mathlib.Core.Bool.{true}
 use mathlib.Core.List.{List}
 use lib.ListN.{length}
 use borrow.Author.Tests.{ne_eqb}
-use Rattle.encode.specs.Encode.{Contents, ofExchange}
+use Rattle.encode.specs.Encode.{Contents, of_exchange}
 use Rattle.conversation.specs.declared.Record.{Record}
 use Rattle.conversation.specs.declared.Answer.{Answer}
-use Rattle.conversation.specs.State.{schemeAt}
+use Rattle.conversation.specs.State.{scheme_at}
 use Rattle.conversation.specs.Turns.{type_of, writing}
 use Rattle.conversation.specs.Outcomes.{Outcome, answered}
-use Rattle.conversation.specs.Writing.{schemeNow, namedRows, request, requestedBy, speaking}
-use Rattle.calls.specs.Calls.{writeRefusal, Ready, Appended}
+use Rattle.conversation.specs.Writing.{scheme_now, named_rows, request, requested_by, speaking}
+use Rattle.calls.specs.Calls.{write_refusal, Ready, Appended}
 use Rattle.conversation.specs.Claims.{Arrays}
 use Rattle.calls.proofs.Writes.{changed, write-ready}
 use Rattle.sending.proofs.Named.{named-refused, named-written}
 
 module _ (r : Record) (t : ℕ) (t-is : t ≡ writing r.acceptor r.stage) where
-  pub requested-first : t ≡ 0 → 0 ≡ requestedBy r
+  pub requested-first : t ≡ 0 → 0 ≡ requested_by r
   requested-first e = rw (← t-is, e)
 
-  pub requested-later : (t ≡ 0 → ⊥) → r.requested ≡ requestedBy r
+  pub requested-later : (t ≡ 0 → ⊥) → r.requested ≡ requested_by r
   requested-later e = rw (← t-is, ne_eqb _ _ e)
 
 pub ruleset requesteds = (requested-first, requested-later)
 
 -- ---- the call, by its refusal
 module _ (r : Record) (arrays : Arrays r) (d value : List ℕ) (n : ℕ)
-    (n-is : n ≡ writeRefusal r 3 (namedRows r true) (64 + length value) (length d)) where
+    (n-is : n ≡ write_refusal r 3 (named_rows r true) (64 + length value) (length d)) where
   abbrev exchange : List ℕ → Contents
-  exchange s = ofExchange (record { scheme = s; value = value })
+  exchange s = of_exchange (record { scheme = s; value = value })
 
   pub exchange-refused : (n ≡ 0 → ⊥) → (a : Answer) → a ≡ answered n 0 r
       → ◌≡◌ {A = Outcome} (record { answer = a; transcript = d }) (speaking r d (request value))
@@ -41,14 +41,14 @@ module _ (r : Record) (arrays : Arrays r) (d value : List ℕ) (n : ℕ)
   module _ (z : n ≡ 0) where
     pub exchange-ready : (s : List ℕ) → Ready r d 3 (exchange s)
     unfolding type_of
-    exchange-ready s = write-ready r d 3 (namedRows r true) (64 + length value) n n-is z refl (exchange s) refl tt refl refl
+    exchange-ready s = write-ready r d 3 (named_rows r true) (64 + length value) n n-is z refl (exchange s) refl tt refl refl
 
-    module _ (s : List ℕ) (s-is : s ≡ schemeAt r (schemeNow r)) where
-      pub exchange-written : (k : ℕ) → k ≡ requestedBy r → (d' : List ℕ) (next : Record) → Appended r d 3 (exchange s) d' next → (a : Answer)
+    module _ (s : List ℕ) (s-is : s ≡ scheme_at r (scheme_now r)) where
+      pub exchange-written : (k : ℕ) → k ≡ requested_by r → (d' : List ℕ) (next : Record) → Appended r d 3 (exchange s) d' next → (a : Answer)
           → a ≡ answered 0 0 (changed next (record { marks = next.marks; metadata = next.metadata; requested = k; attested = next.attested }))
           → ◌≡◌ {A = Outcome} (record { answer = a; transcript = d' }) (speaking r d (request value))
       unfolding speaking
       exchange-written k k-is d' next y a a-is =
           named-written r arrays d 3 true exchange (λ s l. l) (64 + length value) (λ t. refl) n n-is z
-          (λ q. record { marks = q.marks; metadata = q.metadata; requested = requestedBy r; attested = q.attested }) s s-is
+          (λ q. record { marks = q.marks; metadata = q.metadata; requested = requested_by r; attested = q.attested }) s s-is
           (exchange s) refl d' next y a (a-is ∙ rw k-is)

@@ -8,22 +8,22 @@ use native.Mathlib.Omega.{arith}
 use lib.ListN.{length}
 use lib.Dec.{ltb}
 use borrow.Author.Tests.{le-leb, lt-leb}
-use Rattle.octets.specs.Octets.{sameOctets}
-use Rattle.message.specs.Check.{firstFailing}
+use Rattle.octets.specs.Octets.{same_octets}
+use Rattle.message.specs.Check.{first_failing}
 use Rattle.message.proofs.Tables.{AllTrue}
 use Rattle.message.proofs.Ids.{length_ids}
-use Rattle.encode.specs.Encode.{Whole, Contents, ofExchange, size_of}
+use Rattle.encode.specs.Encode.{Whole, Contents, of_exchange, size_of}
 use Rattle.schemes.specs.Lists.{Id, mem, place, bit}
-use Rattle.schemes.specs.Answers.{withBit}
+use Rattle.schemes.specs.Answers.{with_bit}
 use Rattle.schemes.proofs.Ids.{mem-place}
 use Rattle.conversation.specs.declared.Record.{Record}
 use Rattle.conversation.specs.declared.Answer.{Answer}
 use Rattle.conversation.specs.State.{own_of, replied}
 use Rattle.conversation.specs.Turns.{type_of}
 use Rattle.conversation.specs.Outcomes.{Outcome, answered, row}
-use Rattle.conversation.specs.Writing.{metadataAllowed, metadataRows, writingMetadata}
+use Rattle.conversation.specs.Writing.{metadata_allowed, metadata_rows, writing_metadata}
 use Rattle.conversation.proofs.Inside.{place-own, allowed-own, allowed-untold}
-use Rattle.calls.specs.Calls.{room_for, stageRefusal, writeRefusal, Inside, Ready, Appended}
+use Rattle.calls.specs.Calls.{room_for, stage_refusal, write_refusal, Inside, Ready, Appended}
 use Rattle.calls.proofs.Refusals.{write-stage, write-on, passed-inside, passed-own}
 use Rattle.conversation.specs.Claims.{Arrays}
 use Rattle.calls.proofs.Writes.{changed, write-refused, write-ready, write-written}
@@ -32,7 +32,7 @@ use Rattle.calls.proofs.Writes.{changed, write-refused, write-ready, write-writt
 pub place-most : (l : List Id) (s : Id) → place l s ≤ length l
 unfolding place
 place-most [] s = omega arith
-place-most (x ∷ l) s = go (sameOctets s x) (place-most l s) where
+place-most (x ∷ l) s = go (same_octets s x) (place-most l s) where
   go : (b : Bool) → place l s ≤ length l → cond b 0 (suc (place l s)) ≤ suc (length l)
   go true h = omega arith
   go false h = omega arith
@@ -51,7 +51,7 @@ module _ (r : Record) (id : Id) (p : ℕ) (p-is : p ≡ place (own_of r) id) whe
   find-few h = omega (arith, p-is, place-most (own_of r) id, length_ids r.count r.list)
 
   module _ (b : Bool) (b-is : b ≡ bit r.metadata p) where
-    pub told-again : b ≡ true → false ≡ metadataAllowed r id
+    pub told-again : b ≡ true → false ≡ metadata_allowed r id
     told-again e =
         let q : bit r.metadata (place (own_of r) id) ≡ true = rw (← p-is) (sym b-is ∙ e) in
         rw q (none (mem id (cond r.acceptor (replied r) (own_of r))))
@@ -60,10 +60,10 @@ module _ (r : Record) (id : Id) (p : ℕ) (p-is : p ≡ place (own_of r) id) whe
       q : bit r.metadata (place (own_of r) id) ≡ false
       q = rw (← p-is) (sym b-is ∙ once)
 
-      pub told-acceptor : r.acceptor ≡ true → (x : Bool) → x ≡ mem id (replied r) → x ≡ metadataAllowed r id
+      pub told-acceptor : r.acceptor ≡ true → (x : Bool) → x ≡ mem id (replied r) → x ≡ metadata_allowed r id
       told-acceptor a x x-is = x-is ∙ rw (q, a) (all (mem id (replied r)))
 
-      pub told-initiator : r.acceptor ≡ false → ltb p r.count ≡ metadataAllowed r id
+      pub told-initiator : r.acceptor ≡ false → ltb p r.count ≡ metadata_allowed r id
       told-initiator a =
           let e : ltb p r.count ≡ mem id (own_of r) = rw p-is (sym (mem-place id (own_of r) ∙ rw length_ids)) in
           e ∙ rw (q, a) (all (mem id (own_of r)))
@@ -71,17 +71,17 @@ module _ (r : Record) (id : Id) (p : ℕ) (p-is : p ≡ place (own_of r) id) whe
 pub ruleset tolds = (told-again, told-acceptor, told-initiator)
 
 -- ---- the refusals
-module _ (r : Record) (id : Id) (v len n : ℕ) (n-is : n ≡ stageRefusal r 2) (z : n ≡ 0) where
+module _ (r : Record) (id : Id) (v len n : ℕ) (n-is : n ≡ stage_refusal r 2) (z : n ≡ 0) where
   abbrev refusal : ℕ
-  refusal = writeRefusal r 2 (metadataRows r id v) (64 + v) len
+  refusal = write_refusal r 2 (metadata_rows r id v) (64 + v) len
 
-  behind : (x : ℕ) → x ≡ firstFailing (metadataRows r id v ++ (row 16 (room_for r.used (64 + v) len) ∷ [])) → x ≡ refusal
-  behind = write-on r 2 (metadataRows r id v) (64 + v) len n n-is z
+  behind : (x : ℕ) → x ≡ first_failing (metadata_rows r id v ++ (row 16 (room_for r.used (64 + v) len) ∷ [])) → x ≡ refusal
+  behind = write-on r 2 (metadata_rows r id v) (64 + v) len n n-is z
 
   pub meta-empty : v < 1 → 19 ≡ refusal
   meta-empty h = behind 19 (rw (lt-leb 1 v h))
 
-  module _ (some : 1 ≤ v) (b : Bool) (b-is : b ≡ metadataAllowed r id) where
+  module _ (some : 1 ≤ v) (b : Bool) (b-is : b ≡ metadata_allowed r id) where
     pub meta-scheme : b ≡ false → 15 ≡ refusal
     meta-scheme e = behind 15 (rw (le-leb 1 v some, ← b-is, e))
 
@@ -95,45 +95,45 @@ module _ (r : Record) (id : Id) (v len n : ℕ) (n-is : n ≡ stageRefusal r 2) 
 pub ruleset metadata-refusals = (write-stage, meta-empty, meta-scheme, meta-crowded, meta-fits)
 
 -- ---- the call, by its refusal
-module _ (r : Record) (id : Id) (v len n : ℕ) (n-is : n ≡ writeRefusal r 2 (metadataRows r id v) (64 + v) len) (z : n ≡ 0) where
+module _ (r : Record) (id : Id) (v len n : ℕ) (n-is : n ≡ write_refusal r 2 (metadata_rows r id v) (64 + v) len) (z : n ≡ 0) where
   pub metadata-inside : Inside r
-  metadata-inside = passed-inside r 2 (metadataRows r id v) (64 + v) len n n-is z refl
+  metadata-inside = passed-inside r 2 (metadata_rows r id v) (64 + v) len n n-is z refl
 
-  allowed : metadataAllowed r id ≡ true
-  allowed = (passed-own r 2 (metadataRows r id v) (64 + v) len n n-is z refl).1.0
+  allowed : metadata_allowed r id ≡ true
+  allowed = (passed-own r 2 (metadata_rows r id v) (64 + v) len n n-is z refl).1.0
 
   pub metadata-place : (p : ℕ) → p ≡ place (own_of r) id → p < 16
   metadata-place p p-is = omega (arith, p-is, place-own r id (allowed-own r id allowed), length_ids r.count r.list, metadata-inside.few)
 
-  metadata-told : (p : ℕ) → p ≡ place (own_of r) id → withBit r.metadata p ≡ r.metadata + 2 ^ place (own_of r) id
-  unfolding withBit
-  metadata-told p p-is = ap (withBit r.metadata) p-is ∙ rw (allowed-untold r id allowed)
+  metadata-told : (p : ℕ) → p ≡ place (own_of r) id → with_bit r.metadata p ≡ r.metadata + 2 ^ place (own_of r) id
+  unfolding with_bit
+  metadata-told p p-is = ap (with_bit r.metadata) p-is ∙ rw (allowed-untold r id allowed)
 
 module _ (r : Record) (arrays : Arrays r) (d : List ℕ) (id : Id) (full : length id ≡ 16) (value : List ℕ) (n : ℕ)
-    (n-is : n ≡ writeRefusal r 2 (metadataRows r id (length value)) (64 + length value) (length d)) where
+    (n-is : n ≡ write_refusal r 2 (metadata_rows r id (length value)) (64 + length value) (length d)) where
   abbrev contents : Contents
-  contents = ofExchange (record { scheme = id; value = value })
+  contents = of_exchange (record { scheme = id; value = value })
 
-  whole : Inside r → AllTrue (metadataRows r id (length value)) → Whole contents × (size_of contents ≡ 64 + length value)
+  whole : Inside r → AllTrue (metadata_rows r id (length value)) → Whole contents × (size_of contents ≡ 64 + length value)
   whole i t = (full, refl)
 
   pub metadata-refused : (n ≡ 0 → ⊥) → (a : Answer) → a ≡ answered n 0 r
-      → ◌≡◌ {A = Outcome} (record { answer = a; transcript = d }) (writingMetadata r d id value)
-  unfolding writingMetadata
-  metadata-refused h a a-is = write-refused r arrays d 2 (metadataRows r id (length value)) contents (64 + length value) whole n n-is h a a-is _
+      → ◌≡◌ {A = Outcome} (record { answer = a; transcript = d }) (writing_metadata r d id value)
+  unfolding writing_metadata
+  metadata-refused h a a-is = write-refused r arrays d 2 (metadata_rows r id (length value)) contents (64 + length value) whole n n-is h a a-is _
 
   module _ (z : n ≡ 0) where
     pub metadata-ready : Ready r d 2 contents
     unfolding type_of
-    metadata-ready = write-ready r d 2 (metadataRows r id (length value)) (64 + length value) n n-is z refl contents refl tt refl refl
+    metadata-ready = write-ready r d 2 (metadata_rows r id (length value)) (64 + length value) n n-is z refl contents refl tt refl refl
 
-    pub metadata-written : (p : ℕ) → p ≡ place (own_of r) id → (t : ℕ) → t ≡ withBit r.metadata p → (d' : List ℕ) (next : Record)
+    pub metadata-written : (p : ℕ) → p ≡ place (own_of r) id → (t : ℕ) → t ≡ with_bit r.metadata p → (d' : List ℕ) (next : Record)
         → Appended r d 2 contents d' next → (a : Answer)
         → a ≡ answered 0 0 (changed next (record { marks = next.marks; metadata = t; requested = next.requested; attested = next.attested }))
-        → ◌≡◌ {A = Outcome} (record { answer = a; transcript = d' }) (writingMetadata r d id value)
-    unfolding writingMetadata
+        → ◌≡◌ {A = Outcome} (record { answer = a; transcript = d' }) (writing_metadata r d id value)
+    unfolding writing_metadata
     metadata-written p p-is t t-is d' next y a a-is =
         let e : t ≡ r.metadata + 2 ^ place (own_of r) id = t-is ∙ metadata-told r id (length value) (length d) n n-is z p p-is in
-        write-written r arrays d 2 (metadataRows r id (length value)) contents (64 + length value) whole n n-is z refl
+        write-written r arrays d 2 (metadata_rows r id (length value)) contents (64 + length value) whole n n-is z refl
         (λ q. record { marks = q.marks; metadata = r.metadata + 2 ^ place (own_of r) id; requested = q.requested; attested = q.attested }) contents
         refl d' next y a (a-is ∙ rw e)

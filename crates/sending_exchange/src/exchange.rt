@@ -1,8 +1,8 @@
 // AP_REQUEST and CHALLENGE.
 ghost use Rattle.std.specs.Prelude.{◌≡◌};
-ghost use Rattle.encode.specs.Encode.{ofExchange};
+ghost use Rattle.encode.specs.Encode.{of_exchange};
 ghost use Rattle.conversation.specs.Outcomes.{leaving};
-ghost use Rattle.conversation.specs.Writing.{request, requestedBy, speaking};
+ghost use Rattle.conversation.specs.Writing.{request, requested_by, speaking};
 ghost use Rattle.conversation.specs.Choosing.{choosing};
 ghost use Rattle.calls.specs.Calls.{Ready, Appended};
 
@@ -27,8 +27,8 @@ pub(crate) fn append_payload(
     id: [u8; 16],
     value: &[u8],
 ) -> Record
-    requires { Ready r transcript.old class (ofExchange (record { scheme = id; value = value.now })) }
-    ensures { Appended r transcript.old class (ofExchange (record { scheme = id; value = value.now }))
+    requires { Ready r transcript.old class (of_exchange (record { scheme = id; value = value.now })) }
+    ensures { Appended r transcript.old class (of_exchange (record { scheme = id; value = value.now }))
         transcript.new result }
 {
     let heading = heading_of(r, class);
@@ -39,7 +39,7 @@ pub(crate) fn append_payload(
 
 // Where an initiator's AP_REQUEST of the first token is kept: it has named place 0.
 fn requested_by(r: Record) -> usize
-    ensures { result ≡ requestedBy r }
+    ensures { result ≡ requested_by r }
 {
     if writing_token(r.acceptor, r.stage) == 0 {
         return 0;

@@ -2,8 +2,8 @@
 ghost use Rattle.std.specs.Prelude.{◌≡◌, ◌+◌};
 ghost use Rattle.conversation.specs.Turns.{METADATA};
 ghost use Rattle.conversation.specs.Outcomes.{leaving};
-ghost use Rattle.conversation.specs.Writing.{metadataAllowed, metadataRows, writingMetadata};
-ghost use Rattle.calls.specs.Calls.{writeRefusal, Inside};
+ghost use Rattle.conversation.specs.Writing.{metadata_allowed, metadata_rows, writing_metadata};
+ghost use Rattle.calls.specs.Calls.{write_refusal, Inside};
 
 use super::exchange::{HEADER, append_payload};
 use calls::{answer, find_own, has_room, in_reply, stage_refusal};
@@ -14,7 +14,7 @@ use vector::TokenPlace;
 // 15: whether metadata of a scheme may be written.
 fn metadata_allowed(r: Record, id: [u8; 16]) -> bool
     requires { Inside r }
-    ensures { result ≡ metadataAllowed r id }
+    ensures { result ≡ metadata_allowed r id }
 {
     let place = find_own(r, &id);
     if bit_of(r.metadata, place as u32) {
@@ -27,7 +27,7 @@ fn metadata_allowed(r: Record, id: [u8; 16]) -> bool
 }
 
 fn metadata_refusal(r: Record, id: [u8; 16], n: usize, len: usize) -> u32
-    ensures { result ≡ writeRefusal r METADATA (metadataRows r id n) (64 + n) len }
+    ensures { result ≡ write_refusal r METADATA (metadata_rows r id n) (64 + n) len }
 {
     let stage = stage_refusal(r, Class::METADATA);
     if stage != 0 {
@@ -47,7 +47,7 @@ fn metadata_refusal(r: Record, id: [u8; 16], n: usize, len: usize) -> u32
 
 // Writes metadata of a scheme that the own NEGO lists.
 pub fn write_metadata(r: Record, transcript: &mut [u8], id: [u8; 16], value: &[u8]) -> Answer
-    ensures { leaving result transcript.new ≡ writingMetadata r transcript.old id value.now }
+    ensures { leaving result transcript.new ≡ writing_metadata r transcript.old id value.now }
 {
     let number = metadata_refusal(r, id, value.len(), transcript.len());
     if number != 0 {

@@ -7,33 +7,33 @@ use mathlib.Core.List.{List, [], ◌∷◌, ◌++◌}
 use native.Mathlib.Omega.{arith}
 use lib.ListN.{length, take}
 use lib.Seq.{length-take-le}
-use Rattle.message.specs.Check.{firstFailing}
+use Rattle.message.specs.Check.{first_failing}
 use Rattle.message.proofs.Tables.{AllTrue}
-use Rattle.elements.specs.Elements.{elementsFit, handedSize}
+use Rattle.elements.specs.Elements.{elements_fit, handed_size}
 use Rattle.elements.proofs.Views.{handed, handed-size}
 use Rattle.encode.specs.Encode.{Contents, Whole, size_of}
 use Rattle.conversation.specs.declared.Record.{Record}
 use Rattle.conversation.specs.declared.Answer.{Answer}
 use Rattle.conversation.specs.Turns.{type_of}
 use Rattle.conversation.specs.Outcomes.{Outcome, answered, row, unchanged}
-use Rattle.conversation.specs.Writing.{NegoContent, negoIn, extensionRows, offerRows, offering}
+use Rattle.conversation.specs.Writing.{NegoContent, nego_in, extension_rows, offer_rows, offering}
 use Rattle.conversation.specs.Claims.{Arrays}
 use Rattle.conversation.proofs.Decides.{first-none, first-stop}
-use Rattle.calls.specs.Calls.{room_for, stageRefusal, writeRefusal, Inside, Appended}
+use Rattle.calls.specs.Calls.{room_for, stage_refusal, write_refusal, Inside, Appended}
 use Rattle.calls.proofs.Refusals.{stage-inside, write-stage, write-on, passed-inside, passed-own}
 use Rattle.calls.proofs.Writes.{write-refused, write-ready, write-written}
 use Rattle.sending_nego.specs.Ready.{NegoReady}
 
 -- the message's length, where the extensions keep their limits
-abbrev offerSize : Record → NegoContent → ℕ
-offerSize r g = 96 + 16 * r.count + handedSize g.extensions g.values
+abbrev offer_size : Record → NegoContent → ℕ
+offer_size r g = 96 + 16 * r.count + handed_size g.extensions g.values
 
-module _ (r : Record) (g : NegoContent) (len n : ℕ) (n-is : n ≡ stageRefusal r 1) where
+module _ (r : Record) (g : NegoContent) (len n : ℕ) (n-is : n ≡ stage_refusal r 1) where
   abbrev refusal : ℕ
-  refusal = writeRefusal r 1 (offerRows r g) (offerSize r g) len
+  refusal = write_refusal r 1 (offer_rows r g) (offer_size r g) len
 
   pub offer-stage : (n ≡ 0 → ⊥) → n ≡ refusal
-  offer-stage = write-stage r 1 (offerRows r g) (offerSize r g) len n n-is
+  offer-stage = write-stage r 1 (offer_rows r g) (offer_size r g) len n n-is
 
   module _ (z : n ≡ 0) where
     pub offer-list-size : 16 * r.count < 18446744073709551616
@@ -42,24 +42,24 @@ module _ (r : Record) (g : NegoContent) (len n : ℕ) (n-is : n ≡ stageRefusal
     pub offer-header-size : 96 + 16 * r.count < 18446744073709551616
     offer-header-size = omega (arith, (stage-inside r 1 n n-is z).few)
 
-    behind : (x : ℕ) → x ≡ firstFailing (row 18 (not r.acceptor) ∷ (extensionRows g ++ (row 16 (room_for r.used (offerSize r g) len) ∷ [])))
+    behind : (x : ℕ) → x ≡ first_failing (row 18 (not r.acceptor) ∷ (extension_rows g ++ (row 16 (room_for r.used (offer_size r g) len) ∷ [])))
         → x ≡ refusal
-    behind = write-on r 1 (offerRows r g) (offerSize r g) len n n-is z
+    behind = write-on r 1 (offer_rows r g) (offer_size r g) len n n-is z
 
     pub offer-role : r.acceptor ≡ true → 18 ≡ refusal
     offer-role e = behind 18 (rw e)
 
-    module _ (i : r.acceptor ≡ false) (x : ℕ) (x-is : x ≡ firstFailing (extensionRows g)) where
+    module _ (i : r.acceptor ≡ false) (x : ℕ) (x-is : x ≡ first_failing (extension_rows g)) where
       pub offer-extensions : (x ≡ 0 → ⊥) → x ≡ refusal
       offer-extensions h =
-          behind x (rw i (x-is ∙ first-stop (extensionRows g) (row 16 (room_for r.used (offerSize r g) len) ∷ []) (λ e. h (x-is ∙ e))))
+          behind x (rw i (x-is ∙ first-stop (extension_rows g) (row 16 (room_for r.used (offer_size r g) len) ∷ []) (λ e. h (x-is ∙ e))))
 
-      module _ (w : x ≡ 0) (k : ℕ) (k-is : k ≡ handedSize g.extensions g.values) (b : Bool)
+      module _ (w : x ≡ 0) (k : ℕ) (k-is : k ≡ handed_size g.extensions g.values) (b : Bool)
           (b-is : b ≡ room_for r.used (96 + 16 * r.count + k) len) where
-        passed : AllTrue (extensionRows g)
-        passed = first-none (extensionRows g) refl (sym x-is ∙ w)
+        passed : AllTrue (extension_rows g)
+        passed = first-none (extension_rows g) refl (sym x-is ∙ w)
 
-        room : room_for r.used (offerSize r g) len ≡ b
+        room : room_for r.used (offer_size r g) len ≡ b
         room = ap (λ (j : ℕ). room_for r.used (96 + 16 * r.count + j) len) (sym k-is) ∙ sym b-is
 
         pub offer-crowded : b ≡ false → 16 ≡ refusal
@@ -70,29 +70,29 @@ module _ (r : Record) (g : NegoContent) (len n : ℕ) (n-is : n ≡ stageRefusal
 
 -- ---- the call, by its refusal
 module _ (r : Record) (arrays : Arrays r) (d : List ℕ) (g : NegoContent) (full : length g.random ≡ 32) (n : ℕ)
-    (n-is : n ≡ writeRefusal r 1 (offerRows r g) (offerSize r g) (length d)) where
+    (n-is : n ≡ write_refusal r 1 (offer_rows r g) (offer_size r g) (length d)) where
   abbrev offer : Contents
-  offer = negoIn g (take (16 * r.count) r.list)
+  offer = nego_in g (take (16 * r.count) r.list)
 
   own-part : r.count ≤ 16 → length (take (16 * r.count) r.list) ≡ 16 * r.count
   own-part few = length-take-le (16 * r.count) r.list (omega (arith, arrays.list))
 
-  measure : r.count ≤ 16 → elementsFit g.extensions g.values ≡ true → size_of offer ≡ offerSize r g
+  measure : r.count ≤ 16 → elements_fit g.extensions g.values ≡ true → size_of offer ≡ offer_size r g
   measure few t = let a = own-part few in let b = handed-size g.extensions g.values t in omega arith
 
-  whole : Inside r → AllTrue (offerRows r g) → Whole offer × (size_of offer ≡ offerSize r g)
+  whole : Inside r → AllTrue (offer_rows r g) → Whole offer × (size_of offer ≡ offer_size r g)
   whole i t = (full, measure i.few t.1.0)
 
   pub offer-refused : (n ≡ 0 → ⊥) → (a : Answer) → a ≡ answered n 0 r → ◌≡◌ {A = Outcome} (record { answer = a; transcript = d }) (offering r d g)
   unfolding offering
-  offer-refused h a a-is = write-refused r arrays d 1 (offerRows r g) offer (offerSize r g) whole n n-is h a a-is _
+  offer-refused h a a-is = write-refused r arrays d 1 (offer_rows r g) offer (offer_size r g) whole n n-is h a a-is _
 
   module _ (z : n ≡ 0) where
     few : r.count ≤ 16
-    few = (passed-inside r 1 (offerRows r g) (offerSize r g) (length d) n n-is z refl).few
+    few = (passed-inside r 1 (offer_rows r g) (offer_size r g) (length d) n n-is z refl).few
 
-    keeps : elementsFit g.extensions g.values ≡ true
-    keeps = (passed-own r 1 (offerRows r g) (offerSize r g) (length d) n n-is z refl).1.0
+    keeps : elements_fit g.extensions g.values ≡ true
+    keeps = (passed-own r 1 (offer_rows r g) (offer_size r g) (length d) n n-is z refl).1.0
 
     pub offer-end : 16 * r.count < 18446744073709551616
     offer-end = omega (arith, few)
@@ -109,7 +109,7 @@ module _ (r : Record) (arrays : Arrays r) (d : List ℕ) (g : NegoContent) (full
         let p : length (take (16 * r.count) r.list) % 16 ≡ 0 = (let q = own-part few in omega arith) in
         record {
           ready =
-              write-ready r d 1 (offerRows r g) (offerSize r g) n n-is z refl offer (measure few keeps)
+              write-ready r d 1 (offer_rows r g) (offer_size r g) n n-is z refl offer (measure few keeps)
               (p, (handed g.extensions g.values keeps).fit) refl refl;
           keeps = keeps;
         }
@@ -117,4 +117,4 @@ module _ (r : Record) (arrays : Arrays r) (d : List ℕ) (g : NegoContent) (full
     pub offer-written : (d' : List ℕ) (next : Record) → Appended r d 1 offer d' next → (a : Answer) → a ≡ answered 0 0 next
         → ◌≡◌ {A = Outcome} (record { answer = a; transcript = d' }) (offering r d g)
     unfolding offering
-    offer-written = write-written r arrays d 1 (offerRows r g) offer (offerSize r g) whole n n-is z refl unchanged offer refl
+    offer-written = write-written r arrays d 1 (offer_rows r g) offer (offer_size r g) whole n n-is z refl unchanged offer refl

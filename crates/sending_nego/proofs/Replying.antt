@@ -9,27 +9,27 @@ use lib.ListN.{length, take, replicate, length-append}
 use lib.Seq.{length-take-le}
 use lib.Bits.{bit_and}
 use Rattle.octets.specs.Octets.{octets}
-use Rattle.message.specs.Check.{Row, firstFailing}
+use Rattle.message.specs.Check.{Row, first_failing}
 use Rattle.message.proofs.Tables.{AllTrue}
 use Rattle.message.proofs.Ids.{length_ids}
 use Rattle.elements.specs.declared.Elements.{Elements}
-use Rattle.elements.specs.Elements.{items_of, elementsFit, handedSize}
+use Rattle.elements.specs.Elements.{items_of, elements_fit, handed_size}
 use Rattle.elements.proofs.Views.{handed, handed-size}
-use Rattle.encode.specs.Encode.{Contents, Whole, negoOf, size_of}
-use Rattle.schemes.specs.Lists.{Id, joinIds}
-use Rattle.schemes.specs.Sets.{left, below, padTo}
-use Rattle.schemes.specs.Answers.{leftPlaces, left_of, schemesOf}
+use Rattle.encode.specs.Encode.{Contents, Whole, nego_of, size_of}
+use Rattle.schemes.specs.Lists.{Id, join_ids}
+use Rattle.schemes.specs.Sets.{left, below, pad_to}
+use Rattle.schemes.specs.Answers.{left_places, left_of, schemes_of}
 use Rattle.schemes.specs.declared.Left.{Left}
 use Rattle.schemes.specs.declared.Schemes.{Schemes}
 use Rattle.schemes.proofs.Offers.{join-length, gathered-octets}
 use Rattle.conversation.specs.declared.Record.{Record}
 use Rattle.conversation.specs.declared.Answer.{Answer}
 use Rattle.conversation.specs.State.{own_of}
-use Rattle.conversation.specs.Turns.{type_of, placeAfter}
+use Rattle.conversation.specs.Turns.{type_of, place_after}
 use Rattle.conversation.specs.Outcomes.{Outcome, answered, row, appended}
-use Rattle.conversation.specs.Writing.{NegoContent, negoIn, extensionRows, messageOf, someLeft, replyRows, naming, replying}
+use Rattle.conversation.specs.Writing.{NegoContent, nego_in, extension_rows, message_of, some_left, reply_rows, naming, replying}
 use Rattle.conversation.proofs.Decides.{first-none, first-stop}
-use Rattle.calls.specs.Calls.{room_for, stageRefusal, writeRefusal, Inside, Appended}
+use Rattle.calls.specs.Calls.{room_for, stage_refusal, write_refusal, Inside, Appended}
 use Rattle.calls.proofs.Refusals.{stage-inside, write-stage, write-on, passed-inside, passed-own}
 use Rattle.conversation.specs.Claims.{Arrays}
 use Rattle.calls.proofs.Writes.{changed, write-refused, write-ready, write-passed}
@@ -40,29 +40,29 @@ abbrev listed : Record → ℕ → List Id
 listed r m = left (own_of r) r.common m
 
 -- the message's length, where the extensions keep their limits
-abbrev replySize : Record → ℕ → NegoContent → ℕ
-replySize r m g = 96 + 16 * length (listed r m) + handedSize g.extensions g.values
+abbrev reply_size : Record → ℕ → NegoContent → ℕ
+reply_size r m g = 96 + 16 * length (listed r m) + handed_size g.extensions g.values
 
-module _ (r : Record) (n : ℕ) (n-is : n ≡ stageRefusal r 1) (z : n ≡ 0) where
+module _ (r : Record) (n : ℕ) (n-is : n ≡ stage_refusal r 1) (z : n ≡ 0) where
   limits : Inside r
   limits = stage-inside r 1 n n-is z
 
   pub reply-few : r.count ≤ 16
   reply-few = limits.few
 
-module _ (r : Record) (m : ℕ) (g : NegoContent) (len n : ℕ) (n-is : n ≡ stageRefusal r 1) where
+module _ (r : Record) (m : ℕ) (g : NegoContent) (len n : ℕ) (n-is : n ≡ stage_refusal r 1) where
   abbrev refusal : ℕ
-  refusal = writeRefusal r 1 (replyRows r m g) (replySize r m g) len
+  refusal = write_refusal r 1 (reply_rows r m g) (reply_size r m g) len
 
   pub reply-stage : (n ≡ 0 → ⊥) → n ≡ refusal
-  reply-stage = write-stage r 1 (replyRows r m g) (replySize r m g) len n n-is
+  reply-stage = write-stage r 1 (reply_rows r m g) (reply_size r m g) len n n-is
 
   module _ (z : n ≡ 0) where
     abbrev last : List Row
-    last = row 17 (someLeft (listed r m)) ∷ row 16 (room_for r.used (replySize r m g) len) ∷ []
+    last = row 17 (some_left (listed r m)) ∷ row 16 (room_for r.used (reply_size r m g) len) ∷ []
 
-    behind : (x : ℕ) → x ≡ firstFailing (row 18 r.acceptor ∷ row 19 (below r.count m) ∷ (extensionRows g ++ last)) → x ≡ refusal
-    behind = write-on r 1 (replyRows r m g) (replySize r m g) len n n-is z
+    behind : (x : ℕ) → x ≡ first_failing (row 18 r.acceptor ∷ row 19 (below r.count m) ∷ (extension_rows g ++ last)) → x ≡ refusal
+    behind = write-on r 1 (reply_rows r m g) (reply_size r m g) len n n-is z
 
     pub reply-role : r.acceptor ≡ false → 18 ≡ refusal
     reply-role e = behind 18 (rw e)
@@ -71,30 +71,30 @@ module _ (r : Record) (m : ℕ) (g : NegoContent) (len n : ℕ) (n-is : n ≡ st
       pub reply-marks : b ≡ false → 19 ≡ refusal
       reply-marks e = behind 19 (rw (i, ← b-is, e))
 
-      module _ (t : b ≡ true) (x : ℕ) (x-is : x ≡ firstFailing (extensionRows g)) where
+      module _ (t : b ≡ true) (x : ℕ) (x-is : x ≡ first_failing (extension_rows g)) where
         pub reply-extensions : (x ≡ 0 → ⊥) → x ≡ refusal
-        reply-extensions h = behind x (rw (i, ← b-is, t) (x-is ∙ first-stop (extensionRows g) last (λ e. h (x-is ∙ e))))
+        reply-extensions h = behind x (rw (i, ← b-is, t) (x-is ∙ first-stop (extension_rows g) last (λ e. h (x-is ∙ e))))
 
-        module _ (w : x ≡ 0) (l : Left) (l-is : l ≡ left_of (leftPlaces 16 r.common m)) where
+        module _ (w : x ≡ 0) (l : Left) (l-is : l ≡ left_of (left_places 16 r.common m)) where
           within : Inside r
           within = limits r n n-is z
 
-          passed : AllTrue (extensionRows g)
-          passed = first-none (extensionRows g) refl (sym x-is ∙ w)
+          passed : AllTrue (extension_rows g)
+          passed = first-none (extension_rows g) refl (sym x-is ∙ w)
 
           pub reply-none : l.left ≡ 0 → 17 ≡ refusal
           reply-none e =
               behind 17
               (rw (i, ← b-is, t, passed.0, passed.1.0, ← own-none r.list r.count l within.few r.common m within.bound l-is e))
 
-          module _ (s : l.left ≡ 0 → ⊥) (k : ℕ) (k-is : k ≡ handedSize g.extensions g.values) (f : Bool)
+          module _ (s : l.left ≡ 0 → ⊥) (k : ℕ) (k-is : k ≡ handed_size g.extensions g.values) (f : Bool)
               (f-is : f ≡ room_for r.used (96 + 16 * l.left + k) len) where
-            some : someLeft (listed r m) ≡ true
+            some : some_left (listed r m) ≡ true
             some = sym (own-some r.list r.count l within.few r.common m within.bound l-is s)
 
-            room : room_for r.used (replySize r m g) len ≡ f
+            room : room_for r.used (reply_size r m g) len ≡ f
             room =
-                ap (λ (j : ℕ). room_for r.used (96 + 16 * j + handedSize g.extensions g.values) len)
+                ap (λ (j : ℕ). room_for r.used (96 + 16 * j + handed_size g.extensions g.values) len)
                 (sym (own-count r.list r.count l within.few r.common m within.bound l-is))
                 ∙ ap (λ (j : ℕ). room_for r.used (96 + 16 * l.left + j) len) (sym k-is) ∙ sym f-is
 
@@ -105,16 +105,16 @@ module _ (r : Record) (m : ℕ) (g : NegoContent) (len n : ℕ) (n-is : n ≡ st
             reply-fits e = behind 0 (rw (i, ← b-is, t, passed.0, passed.1.0, some, room, e))
 
 -- ---- what is gathered of a set stands inside its array
-module _ (r : Record) (arrays : Arrays r) (few : r.count ≤ 16) (set : ℕ) (s : Schemes) (s-is : s ≡ schemesOf (left (own_of r) set 0)) where
-  gathered-joined : length (joinIds (left (own_of r) set 0)) ≡ 16 * s.count
-  unfolding schemesOf
+module _ (r : Record) (arrays : Arrays r) (few : r.count ≤ 16) (set : ℕ) (s : Schemes) (s-is : s ≡ schemes_of (left (own_of r) set 0)) where
+  gathered-joined : length (join_ids (left (own_of r) set 0)) ≡ 16 * s.count
+  unfolding schemes_of
   gathered-joined = join-length r.count r.list set 0 (omega (arith, arrays.list)) ∙ ap (λ (x : Schemes). 16 * x.count) (sym s-is)
 
   pub reply-inside : 16 * s.count ≤ length s.octets
-  unfolding schemesOf
+  unfolding schemes_of
   reply-inside =
-      let l : List ℕ = joinIds (left (own_of r) set 0) in
-      let e : length s.octets ≡ length (padTo 256 l) = ap (λ (x : Schemes). length x.octets) s-is in
+      let l : List ℕ = join_ids (left (own_of r) set 0) in
+      let e : length s.octets ≡ length (pad_to 256 l) = ap (λ (x : Schemes). length x.octets) s-is in
       omega (arith, e, length-append l (replicate (256 - length l) 0), gathered-joined)
 
   pub reply-part : 16 * s.count ≡ length (take (16 * s.count) s.octets)
@@ -125,21 +125,21 @@ module _ (r : Record) (d : List ℕ) (m : ℕ) (random : List ℕ) (e : Elements
   inside : Inside r
   inside = y.nego.ready.inside
 
-  pub reply-place : (l : Left) → l ≡ left_of (leftPlaces 16 r.common m) → l.place < 16
+  pub reply-place : (l : Left) → l ≡ left_of (left_places 16 r.common m) → l.place < 16
   reply-place l l-is = omega (arith, own-place r.list r.count l inside.few r.common m inside.bound l-is y.some, inside.few)
 
   -- what is gathered of the common schemes less the marks is the list that the reply has
-  module _ (arrays : Arrays r) (small : m < 65536) (s : Schemes) (s-is : s ≡ schemesOf (left (own_of r) (bit_and r.common (65535 - m)) 0)) where
-    reply-octets : take (16 * s.count) s.octets ≡ joinIds (listed r m)
+  module _ (arrays : Arrays r) (small : m < 65536) (s : Schemes) (s-is : s ≡ schemes_of (left (own_of r) (bit_and r.common (65535 - m)) 0)) where
+    reply-octets : take (16 * s.count) s.octets ≡ join_ids (listed r m)
     reply-octets =
-        let q : s ≡ schemesOf (listed r m) = s-is ∙ ap schemesOf (left_less 16 (own_of r) r.common m (rw length_ids inside.few) small) in
+        let q : s ≡ schemes_of (listed r m) = s-is ∙ ap schemes_of (left_less 16 (own_of r) r.common m (rw length_ids inside.few) small) in
         rw q (gathered-octets r.count r.list r.common m (omega (arith, arrays.list, inside.few)))
 
     pub reply-nego : NegoReady r d random (take (16 * s.count) s.octets) e v
     reply-nego = rw reply-octets y.nego
 
-    pub reply-named : (l : Left) → l ≡ left_of (leftPlaces 16 r.common m) → (d' : List ℕ) (next : Record)
-        → Appended r d 1 (negoOf random (take (16 * s.count) s.octets) (items_of e v)) d' next
+    pub reply-named : (l : Left) → l ≡ left_of (left_places 16 r.common m) → (d' : List ℕ) (next : Record)
+        → Appended r d 1 (nego_of random (take (16 * s.count) s.octets) (items_of e v)) d' next
         → (id : List ℕ) → id ≡ octets 16 r.list (16 * l.place) → (a : Answer)
         → a ≡ record {
           refusal = 0;
@@ -151,10 +151,10 @@ module _ (r : Record) (d : List ℕ) (m : ℕ) (random : List ℕ) (e : Elements
         }
         → ◌≡◌ {A = Outcome} (record { answer = a; transcript = d' })
         (naming (listed r m)
-        (appended r d (placeAfter r 1) (messageOf r 1 (negoOf random (joinIds (listed r m)) (items_of e v)))
+        (appended r d (place_after r 1) (message_of r 1 (nego_of random (join_ids (listed r m)) (items_of e v)))
         (record { marks = m; metadata = r.metadata; requested = r.requested; attested = r.attested })))
     reply-named l l-is d' next w id id-is a a-is =
-        let x : Appended r d 1 (negoOf random (joinIds (listed r m)) (items_of e v)) d' next = rw reply-octets at w in
+        let x : Appended r d 1 (nego_of random (join_ids (listed r m)) (items_of e v)) d' next = rw reply-octets at w in
         rw (
           a-is,
           x.counted,
@@ -167,35 +167,35 @@ module _ (r : Record) (d : List ℕ) (m : ℕ) (random : List ℕ) (e : Elements
 
 -- ---- the call, by its refusal
 module _ (r : Record) (arrays : Arrays r) (d : List ℕ) (m : ℕ) (g : NegoContent) (full : length g.random ≡ 32) (n : ℕ)
-    (n-is : n ≡ writeRefusal r 1 (replyRows r m g) (replySize r m g) (length d)) where
+    (n-is : n ≡ write_refusal r 1 (reply_rows r m g) (reply_size r m g) (length d)) where
   abbrev answer : Contents
-  answer = negoIn g (joinIds (listed r m))
+  answer = nego_in g (join_ids (listed r m))
 
-  joined : r.count ≤ 16 → length (joinIds (listed r m)) ≡ 16 * length (listed r m)
+  joined : r.count ≤ 16 → length (join_ids (listed r m)) ≡ 16 * length (listed r m)
   joined few = join-length r.count r.list r.common m (omega (arith, arrays.list))
 
-  measure : r.count ≤ 16 → elementsFit g.extensions g.values ≡ true → size_of answer ≡ replySize r m g
+  measure : r.count ≤ 16 → elements_fit g.extensions g.values ≡ true → size_of answer ≡ reply_size r m g
   measure few t = let a = joined few in let b = handed-size g.extensions g.values t in omega arith
 
-  whole : Inside r → AllTrue (replyRows r m g) → Whole answer × (size_of answer ≡ replySize r m g)
+  whole : Inside r → AllTrue (reply_rows r m g) → Whole answer × (size_of answer ≡ reply_size r m g)
   whole i t = (full, measure i.few t.1.1.0)
 
   pub reply-refused : (n ≡ 0 → ⊥) → (a : Answer) → a ≡ answered n 0 r → ◌≡◌ {A = Outcome} (record { answer = a; transcript = d }) (replying r d m g)
   unfolding replying
-  reply-refused h a a-is = write-refused r arrays d 1 (replyRows r m g) answer (replySize r m g) whole n n-is h a a-is _
+  reply-refused h a a-is = write-refused r arrays d 1 (reply_rows r m g) answer (reply_size r m g) whole n n-is h a a-is _
 
   module _ (z : n ≡ 0) where
     pub reply-ready : ReplyReady r d m g.random g.extensions g.values
     unfolding type_of
     reply-ready =
-        let few = (passed-inside r 1 (replyRows r m g) (replySize r m g) (length d) n n-is z refl).few in
-        let own = passed-own r 1 (replyRows r m g) (replySize r m g) (length d) n n-is z refl in
-        let keeps : elementsFit g.extensions g.values ≡ true = own.1.1.0 in
-        let p : length (joinIds (listed r m)) % 16 ≡ 0 = (let q = joined few in omega arith) in
+        let few = (passed-inside r 1 (reply_rows r m g) (reply_size r m g) (length d) n n-is z refl).few in
+        let own = passed-own r 1 (reply_rows r m g) (reply_size r m g) (length d) n n-is z refl in
+        let keeps : elements_fit g.extensions g.values ≡ true = own.1.1.0 in
+        let p : length (join_ids (listed r m)) % 16 ≡ 0 = (let q = joined few in omega arith) in
         record {
           nego = record {
             ready =
-                write-ready r d 1 (replyRows r m g) (replySize r m g) n n-is z refl answer (measure few keeps)
+                write-ready r d 1 (reply_rows r m g) (reply_size r m g) n n-is z refl answer (measure few keeps)
                 (p, (handed g.extensions g.values keeps).fit) refl refl;
             keeps = keeps;
           };
@@ -203,7 +203,7 @@ module _ (r : Record) (arrays : Arrays r) (d : List ℕ) (m : ℕ) (g : NegoCont
         }
 
     pub reply-written : (o : Outcome) → o ≡ naming (listed r m)
-        (appended r d (placeAfter r 1) (messageOf r 1 answer)
+        (appended r d (place_after r 1) (message_of r 1 answer)
         (record { marks = m; metadata = r.metadata; requested = r.requested; attested = r.attested })) → o ≡ replying r d m g
     unfolding replying
-    reply-written o e = e ∙ write-passed r arrays d 1 (replyRows r m g) answer (replySize r m g) whole n n-is z refl _
+    reply-written o e = e ∙ write-passed r arrays d 1 (reply_rows r m g) answer (reply_size r m g) whole n n-is z refl _

@@ -1,10 +1,10 @@
 // What the two NEGOs share: their extensions, and the message at the transcript's end.
 ghost use Rattle.std.specs.Prelude.{◌≡◌, ◌||◌, ◌≤◌};
-ghost use Rattle.elements.specs.Elements.{items_of, typesOrdinary};
-ghost use Rattle.encode.specs.Encode.{negoOf};
-ghost use Rattle.message.specs.Check.{firstFailing};
+ghost use Rattle.elements.specs.Elements.{items_of, types_ordinary};
+ghost use Rattle.encode.specs.Encode.{nego_of};
+ghost use Rattle.message.specs.Check.{first_failing};
 ghost use Rattle.conversation.specs.Turns.{NEGO};
-ghost use Rattle.conversation.specs.Writing.{extensionRows};
+ghost use Rattle.conversation.specs.Writing.{extension_rows};
 ghost use Rattle.calls.specs.Calls.{Appended};
 ghost use Rattle.sending_nego.specs.Ready.{tested, NegoReady};
 
@@ -20,7 +20,7 @@ pub(crate) const HEADER: usize = Kind::NEGO_HEADER_LEN;
 // Whether a call may write these types: only a test call writes critical ones.
 fn types_allowed(test: bool, extensions: Elements) -> bool
     requires { extensions.count ≤ 8 }
-    ensures { result ≡ (test || typesOrdinary extensions) }
+    ensures { result ≡ (test || types_ordinary extensions) }
 {
     if test {
         return true;
@@ -30,7 +30,7 @@ fn types_allowed(test: bool, extensions: Elements) -> bool
 
 // 25 and 26 of extensions: the first that refuses, or 0.
 pub(crate) fn extension_refusal(test: bool, extensions: Elements, values: &[u8]) -> u32
-    ensures { result ≡ firstFailing (extensionRows (tested test extensions values.now)) }
+    ensures { result ≡ first_failing (extension_rows (tested test extensions values.now)) }
 {
     if fits(extensions, values) {} else {
         return 25;
@@ -51,7 +51,7 @@ pub(crate) fn append_nego(
     values: &[u8],
 ) -> Record
     requires { NegoReady r transcript.old random schemes.now extensions values.now }
-    ensures { Appended r transcript.old NEGO (negoOf random schemes.now (items_of extensions values.now))
+    ensures { Appended r transcript.old NEGO (nego_of random schemes.now (items_of extensions values.now))
         transcript.new result }
 {
     let heading = heading_of(r, Class::NEGO);

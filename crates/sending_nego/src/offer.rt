@@ -1,10 +1,10 @@
 // INITIATOR_NEGO.
 ghost use Rattle.std.specs.Prelude.{◌≡◌, ◌+◌, ◌*◌};
-ghost use Rattle.elements.specs.Elements.{handedSize};
+ghost use Rattle.elements.specs.Elements.{handed_size};
 ghost use Rattle.conversation.specs.Turns.{NEGO};
 ghost use Rattle.conversation.specs.Outcomes.{leaving};
-ghost use Rattle.conversation.specs.Writing.{offerRows, offering, negoContent};
-ghost use Rattle.calls.specs.Calls.{writeRefusal};
+ghost use Rattle.conversation.specs.Writing.{offer_rows, offering, nego_content};
+ghost use Rattle.calls.specs.Calls.{write_refusal};
 ghost use Rattle.sending_nego.specs.Ready.{tested};
 
 use super::nego::{HEADER, append_nego, extension_refusal};
@@ -15,8 +15,8 @@ use message::field;
 use vector::TokenPlace;
 
 fn offer_refusal(r: Record, test: bool, extensions: Elements, values: &[u8], len: usize) -> u32
-    ensures { result ≡ writeRefusal r NEGO (offerRows r (tested test extensions values.now))
-        (96 + 16 * r.count + handedSize extensions values.now) len }
+    ensures { result ≡ write_refusal r NEGO (offer_rows r (tested test extensions values.now))
+        (96 + 16 * r.count + handed_size extensions values.now) len }
 {
     let stage = stage_refusal(r, Class::NEGO);
     if stage != 0 {
@@ -46,7 +46,7 @@ pub fn write_offer(
     values: &[u8],
 ) -> Answer
     ensures { leaving result transcript.new ≡ offering r transcript.old
-        (negoContent random test extensions values.now) }
+        (nego_content random test extensions values.now) }
 {
     let number = offer_refusal(r, test, extensions, values, transcript.len());
     if number != 0 {

@@ -1,14 +1,14 @@
 // ACCEPTOR_NEGO.
 ghost use Rattle.std.specs.Prelude.{◌≡◌, ◌+◌, ◌*◌, length};
-ghost use Rattle.elements.specs.Elements.{items_of, handedSize};
-ghost use Rattle.encode.specs.Encode.{negoOf};
-ghost use Rattle.schemes.specs.Lists.{joinIds};
+ghost use Rattle.elements.specs.Elements.{items_of, handed_size};
+ghost use Rattle.encode.specs.Encode.{nego_of};
+ghost use Rattle.schemes.specs.Lists.{join_ids};
 ghost use Rattle.schemes.specs.Sets.{left};
 ghost use Rattle.conversation.specs.State.{own_of};
-ghost use Rattle.conversation.specs.Turns.{NEGO, placeAfter};
+ghost use Rattle.conversation.specs.Turns.{NEGO, place_after};
 ghost use Rattle.conversation.specs.Outcomes.{leaving, marking, appended};
-ghost use Rattle.conversation.specs.Writing.{messageOf, replyRows, naming, replying, negoContent};
-ghost use Rattle.calls.specs.Calls.{writeRefusal};
+ghost use Rattle.conversation.specs.Writing.{message_of, reply_rows, naming, replying, nego_content};
+ghost use Rattle.calls.specs.Calls.{write_refusal};
 ghost use Rattle.sending_nego.specs.Ready.{tested, ReplyReady};
 
 use super::nego::{HEADER, append_nego, extension_refusal};
@@ -30,8 +30,8 @@ fn reply_refusal(
     values: &[u8],
     len: usize,
 ) -> u32
-    ensures { result ≡ writeRefusal r NEGO (replyRows r marks (tested test extensions values.now))
-        (96 + 16 * length (left (own_of r) r.common marks) + handedSize extensions values.now) len }
+    ensures { result ≡ write_refusal r NEGO (reply_rows r marks (tested test extensions values.now))
+        (96 + 16 * length (left (own_of r) r.common marks) + handed_size extensions values.now) len }
 {
     let stage = stage_refusal(r, Class::NEGO);
     if stage != 0 {
@@ -69,8 +69,8 @@ fn reply_with(
 ) -> Answer
     requires { ReplyReady r transcript.old marks random extensions values.now }
     ensures { leaving result transcript.new ≡ naming (left (own_of r) r.common marks)
-        (appended r transcript.old (placeAfter r NEGO)
-        (messageOf r NEGO (negoOf random (joinIds (left (own_of r) r.common marks)) (items_of extensions values.now)))
+        (appended r transcript.old (place_after r NEGO)
+        (message_of r NEGO (nego_of random (join_ids (left (own_of r) r.common marks)) (items_of extensions values.now)))
         (marking marks r)) }
 {
     let list = r.list;
@@ -95,7 +95,7 @@ pub fn write_reply(
     values: &[u8],
 ) -> Answer
     ensures { leaving result transcript.new ≡ replying r transcript.old marks
-        (negoContent random test extensions values.now) }
+        (nego_content random test extensions values.now) }
 {
     let number = reply_refusal(r, marks, test, extensions, values, transcript.len());
     if number != 0 {

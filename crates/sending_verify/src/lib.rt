@@ -1,6 +1,6 @@
 // VERIFY.
 ghost use Rattle.std.specs.Prelude.{◌≡◌};
-ghost use Rattle.encode.specs.Encode.{ofVerify};
+ghost use Rattle.encode.specs.Encode.{of_verify};
 ghost use Rattle.conversation.specs.Turns.{VERIFY};
 ghost use Rattle.conversation.specs.Outcomes.{leaving};
 ghost use Rattle.conversation.specs.Writing.{checksum as Speech·checksum, speaking};
@@ -27,8 +27,8 @@ fn append_verify(
     checksum: i32,
     value: &[u8],
 ) -> Record
-    requires { Ready r transcript.old VERIFY (ofVerify (record { scheme = id; type = checksum; value = value.now })) }
-    ensures { Appended r transcript.old VERIFY (ofVerify (record { scheme = id; type = checksum; value = value.now }))
+    requires { Ready r transcript.old VERIFY (of_verify (record { scheme = id; type = checksum; value = value.now })) }
+    ensures { Appended r transcript.old VERIFY (of_verify (record { scheme = id; type = checksum; value = value.now }))
         transcript.new result }
 {
     let heading = heading_of(r, Class::VERIFY);

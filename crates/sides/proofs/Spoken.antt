@@ -11,8 +11,8 @@ use lib.Dec.{eqb}
 use Rattle.token.specs.Split.{join}
 use Rattle.conversation.specs.declared.Record.{Record}
 use Rattle.conversation.specs.Turns.{ANSWER, writes}
-use Rattle.conversation.specs.Choosing.{chose, mayChoose}
-use Rattle.sides.specs.Turning.{withMarks, begun, said, said_all, spoke}
+use Rattle.conversation.specs.Choosing.{chose, may_choose}
+use Rattle.sides.specs.Turning.{with_marks, begun, said, said_all, spoke}
 
 pub said-snoc : (w : Record) (ms : List (List ℕ)) (m : List ℕ) → said_all w (ms ++ (m ∷ [])) ≡ said (said_all w ms) m
 unfolding said_all
@@ -27,9 +27,9 @@ said-counts w (m ∷ ms) = let i = said-counts (said w m) ms in (omega (arith, i
 
 begun-counts : (m : ℕ) (w : Record) → ((begun m w).used ≡ w.used) × ((begun m w).sequence ≡ w.sequence)
 unfolding begun
-begun-counts m w = go (mayChoose w) (eqb (writes w) ANSWER) where
+begun-counts m w = go (may_choose w) (eqb (writes w) ANSWER) where
   go : (a b : Bool)
-      → ((cond a (chose w m) (cond b (withMarks m w) w)).used ≡ w.used) × ((cond a (chose w m) (cond b (withMarks m w) w)).sequence ≡ w.sequence)
+      → ((cond a (chose w m) (cond b (with_marks m w) w)).used ≡ w.used) × ((cond a (chose w m) (cond b (with_marks m w) w)).sequence ≡ w.sequence)
   go true b = (refl, refl)
   go false true = (refl, refl)
   go false false = (refl, refl)
@@ -45,8 +45,8 @@ said-keeps w (m ∷ ms) = said-keeps (said w m) ms
 
 pub spoke-keeps : (m : ℕ) (w : Record) (ms : List (List ℕ)) → (spoke m w ms).count ≡ w.count
 unfolding begun
-spoke-keeps m w ms = said-keeps (begun m w) ms ∙ go (mayChoose w) (eqb (writes w) ANSWER) where
-  go : (a b : Bool) → (cond a (chose w m) (cond b (withMarks m w) w)).count ≡ w.count
+spoke-keeps m w ms = said-keeps (begun m w) ms ∙ go (may_choose w) (eqb (writes w) ANSWER) where
+  go : (a b : Bool) → (cond a (chose w m) (cond b (with_marks m w) w)).count ≡ w.count
   go true b = refl
   go false true = refl
   go false false = refl

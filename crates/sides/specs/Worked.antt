@@ -4,7 +4,7 @@
 --   written x         the messages that the end x wrote in the examples' whole conversation, numbered 0 to 3, 7, 10, 11, and 4 to 6, 8, 9, 12
 --   case              a case of the examples' two lists, with marks and messages; reordered: its initiator's list in another order
 --   Saw, saw          what is seen of a replay: the side of each turn and the choice after it, and the ending; that of a case
---   turnsSeen n       the first n of the six turns of the whole conversation
+--   turns_seen n       the first n of the six turns of the whole conversation
 --   WholeReplayed     the whole conversation is replayed to its end, in these turns
 --   Example           a case, the number of turns that are seen of it, and its ending; ends makes one; examples: a list of them
 --   Right, AllRight   an example holds; all of a list do
@@ -12,19 +12,19 @@
 use Rattle.std.specs.Prelude.{ℕ, ◌≡◌, Bool, true, false, List, [], ◌∷◌, ◌++◌, map, take, drop, replicate}
 use Rattle.std.proofs.Math.Option.{Option, none, some}
 use Rattle.token.specs.Split.{join}
-use Rattle.schemes.specs.Lists.{Id, joinIds}
+use Rattle.schemes.specs.Lists.{Id, join_ids}
 use Rattle.conversation.specs.Runs.{world}
-use Rattle.conversation.specs.Claims.{writtenIn}
+use Rattle.conversation.specs.Claims.{written_in}
 use Rattle.conversation.specs.Worked.{scheme, opened, conversation}
-use Rattle.sides.specs.Replay.{Case, Ending, initiator, acceptor, neither, finished, refused, unopened, replayOf}
+use Rattle.sides.specs.Replay.{Case, Ending, initiator, acceptor, neither, finished, refused, unopened, replay_of}
 
 abbrev pub written : Bool → List (List ℕ)
-written x = writtenIn x (world opened) conversation
+written x = written_in x (world opened) conversation
 
 abbrev pub case : ℕ → ℕ → List (List ℕ) → List (List ℕ) → Case
 case mi ma i a = record {
-  i = record { list = joinIds opened.initiator; marks = mi; file = some (join i) };
-  a = record { list = joinIds opened.acceptor; marks = ma; file = some (join a) };
+  i = record { list = join_ids opened.initiator; marks = mi; file = some (join i) };
+  a = record { list = join_ids opened.acceptor; marks = ma; file = some (join a) };
 }
 
 abbrev pub reordered : Case → Case
@@ -37,12 +37,12 @@ pub record Saw : Type 0 where
 abbrev pub saw : Case → Saw
 saw c =
     record {
-      turns = map (λ t. (t.turn.acceptor, t.choice)) (replayOf c (replicate 1100 0)).turns;
-      ending = (replayOf c (replicate 1100 0)).ending;
+      turns = map (λ t. (t.turn.acceptor, t.choice)) (replay_of c (replicate 1100 0)).turns;
+      ending = (replay_of c (replicate 1100 0)).ending;
     }
 
-abbrev pub turnsSeen : ℕ → List (Bool × Option Id)
-turnsSeen n =
+abbrev pub turns_seen : ℕ → List (Bool × Option Id)
+turns_seen n =
     take n (
     (false, none) ∷ (true, none)
     ∷ (false, some (scheme 3)) ∷ (true, some (scheme 3)) ∷ (false, some (scheme 3)) ∷ (true, some (scheme 3))
@@ -51,7 +51,7 @@ turnsSeen n =
 
 -- its acceptor marks scheme 2, so that scheme 3 is chosen
 abbrev pub WholeReplayed : Type 0
-WholeReplayed = saw (case 0 2 (written false) (written true)) ≡ record { turns = turnsSeen 6; ending = finished }
+WholeReplayed = saw (case 0 2 (written false) (written true)) ≡ record { turns = turns_seen 6; ending = finished }
 
 pub record Example : Type 0 where
   pub of : Case
@@ -88,7 +88,7 @@ examples =
     ∷ []
 
 abbrev pub Right : Example → Type 0
-Right e = saw e.of ≡ record { turns = turnsSeen e.turns; ending = e.ending }
+Right e = saw e.of ≡ record { turns = turns_seen e.turns; ending = e.ending }
 
 abbrev pub AllRight : List Example → Type 0
 AllRight [] = Unit {0}

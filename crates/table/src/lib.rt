@@ -1,11 +1,11 @@
 // What a viewer shows of a message in numbers, and the table of all messages of a token.
 ghost use Rattle.std.specs.Prelude.{◌≡◌, ◌+◌, ◌*◌, ◌≤◌, ◌<◌, ◌^◌, ◌∷◌, [], ◌++◌, length};
 ghost use Rattle.vector.specs.Vector.{extent};
-ghost use Rattle.token.specs.Token.{tokenOf};
-ghost use Rattle.token.specs.Walk.{messagesOf, Accepts};
-ghost use Rattle.coverage.specs.Coverage.{vectorsIn};
+ghost use Rattle.token.specs.Token.{token_of};
+ghost use Rattle.token.specs.Walk.{messages_of, Accepts};
+ghost use Rattle.coverage.specs.Coverage.{vectors_in};
 ghost use Rattle.put.specs.Put.{Written};
-ghost use Rattle.table.specs.Table.{placed_at, fieldsIn, vectorPlace, spansIn, entry_of, numbers, table_of, Held};
+ghost use Rattle.table.specs.Table.{placed_at, fields_in, vector_place, spans_in, entry_of, numbers, table_of, Held};
 
 use coverage::vectors::{vector_count, vector_of};
 use message::field;
@@ -17,7 +17,7 @@ use vector::{MessageOffset, TokenPlace, Vector, in_token};
 // The header's fields of the message m at a place.
 pub fn fields(place: TokenPlace, m: &[u8]) -> [u32; 5]
     requires { (place.0 < 2 ^ 32) × (40 ≤ length m.now) }
-    ensures { result ≡ fieldsIn (placed_at place.0 m.now) }
+    ensures { result ≡ fields_in (placed_at place.0 m.now) }
 {
     [
         place.0 as u32,
@@ -38,7 +38,7 @@ pub fn vector_length(v: Vector) -> u64
 // The token place of a vector of a message at a place; an empty one's is its message's.
 pub fn vector_place(place: TokenPlace, v: Vector) -> TokenPlace
     requires { place.0 < 2 ^ 32 }
-    ensures { result.0 ≡ vectorPlace place.0 v }
+    ensures { result.0 ≡ vector_place place.0 v }
 {
     if vector_length(v) == 0 {
         return place;
@@ -48,8 +48,8 @@ pub fn vector_place(place: TokenPlace, v: Vector) -> TokenPlace
 
 // A vector's place and length.
 fn put_span(d: &mut [u8], at: usize, place: TokenPlace, v: Vector) -> usize
-    requires { (at + 8 ≤ length d.old) × (place.0 < 2 ^ 32) × (vectorPlace place.0 v < 2 ^ 32) × (extent v < 2 ^ 32) }
-    ensures { Written d.old at 8 (numbers (vectorPlace place.0 v ∷ extent v ∷ [])) d.new result }
+    requires { (at + 8 ≤ length d.old) × (place.0 < 2 ^ 32) × (vector_place place.0 v < 2 ^ 32) × (extent v < 2 ^ 32) }
+    ensures { Written d.old at 8 (numbers (vector_place place.0 v ∷ extent v ∷ [])) d.new result }
 {
     let from = vector_place(place, v);
     let length_at = put_u32(d, at, from.0 as u32);
@@ -59,8 +59,8 @@ fn put_span(d: &mut [u8], at: usize, place: TokenPlace, v: Vector) -> usize
 // Place and length of each vector of the message m at a place.
 fn put_spans(d: &mut [u8], at: usize, place: TokenPlace, m: &[u8]) -> usize
     requires held { Held place.0 m.now }
-    requires m_in_bounds { at + 8 * length (vectorsIn m.now) ≤ length d.old }
-    ensures { Written d.old at (8 * length (vectorsIn m.now)) (numbers (spansIn place.0 (vectorsIn m.now)))
+    requires m_in_bounds { at + 8 * length (vectors_in m.now) ≤ length d.old }
+    ensures { Written d.old at (8 * length (vectors_in m.now)) (numbers (spans_in place.0 (vectors_in m.now)))
         d.new result }
 {
     let count = vector_count(m);
@@ -76,7 +76,7 @@ fn put_spans(d: &mut [u8], at: usize, place: TokenPlace, m: &[u8]) -> usize
 // The fields of the message m at a place, and the number n of its vectors.
 fn put_fields(d: &mut [u8], at: usize, place: TokenPlace, m: &[u8], n: u32) -> usize
     requires { (at + 24 ≤ length d.old) × (place.0 < 2 ^ 32) × (40 ≤ length m.now) }
-    ensures { Written d.old at 24 (numbers (fieldsIn (placed_at place.0 m.now) ++ (n ∷ []))) d.new result }
+    ensures { Written d.old at 24 (numbers (fields_in (placed_at place.0 m.now) ++ (n ∷ []))) d.new result }
 {
     let type_at = put_u32(d, at, place.0 as u32);
     let sequence_at = put_u32(d, type_at, le_u32(m, field::TYPE));
@@ -89,8 +89,8 @@ fn put_fields(d: &mut [u8], at: usize, place: TokenPlace, m: &[u8], n: u32) -> u
 // All that the table has of the message m at a place.
 fn put_entry(d: &mut [u8], at: usize, place: TokenPlace, m: &[u8]) -> usize
     requires held { Held place.0 m.now }
-    requires m_in_bounds { at + (24 + 8 * length (vectorsIn m.now)) ≤ length d.old }
-    ensures { Written d.old at (24 + 8 * length (vectorsIn m.now))
+    requires m_in_bounds { at + (24 + 8 * length (vectors_in m.now)) ≤ length d.old }
+    ensures { Written d.old at (24 + 8 * length (vectors_in m.now))
         (numbers (entry_of (placed_at place.0 m.now))) d.new result }
 {
     let spans_at = put_fields(d, at, place, m, vector_count(m) as u32);
@@ -100,7 +100,7 @@ fn put_entry(d: &mut [u8], at: usize, place: TokenPlace, m: &[u8]) -> usize
 // How many octets the table of an accepted token has.
 pub fn table_size(token: &[u8]) -> usize
     requires { Accepts token.now }
-    ensures { result ≡ length (table_of (messagesOf (tokenOf token.now))) }
+    ensures { result ≡ length (table_of (messages_of (token_of token.now))) }
 {
     let mut rest = token;
     let mut size: usize = 0;
@@ -116,9 +116,9 @@ pub fn table_size(token: &[u8]) -> usize
 // The table of an accepted token, at the buffer's front.
 pub fn put_table(d: &mut [u8], token: &[u8]) -> usize
     requires accepts { Accepts token.now }
-    requires token_in_bounds { length (table_of (messagesOf (tokenOf token.now))) ≤ length d.old }
-    ensures { Written d.old 0 (length (table_of (messagesOf (tokenOf token.now))))
-        (table_of (messagesOf (tokenOf token.now))) d.new result }
+    requires token_in_bounds { length (table_of (messages_of (token_of token.now))) ≤ length d.old }
+    ensures { Written d.old 0 (length (table_of (messages_of (token_of token.now))))
+        (table_of (messages_of (token_of token.now))) d.new result }
 {
     let mut rest = token;
     let mut place = TokenPlace(0);

@@ -1,9 +1,9 @@
 // The text of a tally, in a lent slice.
 ghost use Rattle.std.specs.Prelude.{◌≡◌, ◌≤◌, ◌*◌, length, take};
-ghost use Rattle.message.specs.Show.{idsAt};
+ghost use Rattle.message.specs.Show.{ids_at};
 ghost use Rattle.text.specs.Text.{text, written};
-ghost use Rattle.tallying.specs.Tally.{totalsIn};
-ghost use Rattle.tally_lines.specs.Lines.{totalLine, numberLine, typeLines, answerLine, answerLines, schemeLine, schemeLines, octetLines, lastLines, shownText};
+ghost use Rattle.tallying.specs.Tally.{totals_in};
+ghost use Rattle.tally_lines.specs.Lines.{total_line, number_line, type_lines, answer_line, answer_lines, scheme_line, scheme_lines, octet_lines, last_lines, shown_text};
 
 use message::field;
 use offers::Table;
@@ -12,7 +12,7 @@ use text::{append, id, wide_field};
 
 // A word and a number.
 fn total_line(d: &mut [u8], at: usize, word: &[u8], number: u64) -> usize
-    ensures { text d.new result ≡ written (totalLine word.now number) (text d.old at) }
+    ensures { text d.new result ≡ written (total_line word.now number) (text d.old at) }
 {
     let number_end = wide_field(d, at, word, number as usize);
     append(d, number_end, b"\n")
@@ -20,7 +20,7 @@ fn total_line(d: &mut [u8], at: usize, word: &[u8], number: u64) -> usize
 
 // A word, the number that is counted, and its count.
 fn number_line(d: &mut [u8], at: usize, word: &[u8], number: usize, count: u64) -> usize
-    ensures { text d.new result ≡ written (numberLine word.now number count) (text d.old at) }
+    ensures { text d.new result ≡ written (number_line word.now number count) (text d.old at) }
 {
     let number_end = wide_field(d, at, word, number);
     let count_end = wide_field(d, number_end, b" count=", count as usize);
@@ -29,7 +29,7 @@ fn number_line(d: &mut [u8], at: usize, word: &[u8], number: usize, count: u64) 
 
 // The counts of the types.
 fn type_lines(d: &mut [u8], at: usize, types: &[u64]) -> usize
-    ensures { text d.new result ≡ written (typeLines 0 types.now) (text d.old at) }
+    ensures { text d.new result ≡ written (type_lines 0 types.now) (text d.old at) }
 {
     let mut next = at;
     let mut k: usize = 0;
@@ -42,7 +42,7 @@ fn type_lines(d: &mut [u8], at: usize, types: &[u64]) -> usize
 
 // The count of a refusal; nothing for 0, which is accepted, and nothing where it was not given.
 fn refused_line(d: &mut [u8], at: usize, number: usize, count: u64) -> usize
-    ensures { text d.new result ≡ written (answerLine number count) (text d.old at) }
+    ensures { text d.new result ≡ written (answer_line number count) (text d.old at) }
 {
     if number == 0 {
         return at;
@@ -55,7 +55,7 @@ fn refused_line(d: &mut [u8], at: usize, number: usize, count: u64) -> usize
 
 // The counts of the refusals.
 fn refused_lines(d: &mut [u8], at: usize, answers: &[u64]) -> usize
-    ensures { text d.new result ≡ written (answerLines 0 answers.now) (text d.old at) }
+    ensures { text d.new result ≡ written (answer_lines 0 answers.now) (text d.old at) }
 {
     let mut next = at;
     let mut k: usize = 0;
@@ -68,7 +68,7 @@ fn refused_lines(d: &mut [u8], at: usize, answers: &[u64]) -> usize
 
 // A scheme and its count.
 fn scheme_line(d: &mut [u8], at: usize, scheme: &[u8], count: u64) -> usize
-    ensures { text d.new result ≡ written (schemeLine scheme.now count) (text d.old at) }
+    ensures { text d.new result ≡ written (scheme_line scheme.now count) (text d.old at) }
 {
     let id_start = append(d, at, b"scheme ");
     let id_end = id(d, id_start, scheme);
@@ -79,7 +79,7 @@ fn scheme_line(d: &mut [u8], at: usize, scheme: &[u8], count: u64) -> usize
 // The counts of the first schemes, `count` of them.
 fn scheme_lines(d: &mut [u8], at: usize, ids: &[u8], counts: &[u64], count: usize) -> usize
     requires { (count * 16 ≤ length ids.now) × (count ≤ length counts.now) }
-    ensures { text d.new result ≡ written (schemeLines (idsAt count ids.now) (take count counts.now))
+    ensures { text d.new result ≡ written (scheme_lines (ids_at count ids.now) (take count counts.now))
         (text d.old at) }
 {
     let mut next = at;
@@ -98,7 +98,7 @@ fn scheme_lines(d: &mut [u8], at: usize, ids: &[u8], counts: &[u64], count: usiz
 // The counts of the schemes of a table.
 fn table_lines(d: &mut [u8], at: usize, table: Table) -> usize
     requires { table.count ≤ 64 }
-    ensures { text d.new result ≡ written (schemeLines (idsAt table.count table.ids) (take table.count table.counts))
+    ensures { text d.new result ≡ written (scheme_lines (ids_at table.count table.ids) (take table.count table.counts))
         (text d.old at) }
 {
     let ids = table.ids;
@@ -109,7 +109,7 @@ fn table_lines(d: &mut [u8], at: usize, table: Table) -> usize
 
 // The totals of octets.
 fn octet_lines(d: &mut [u8], at: usize, t: Tally) -> usize
-    ensures { text d.new result ≡ written (octetLines (totalsIn t)) (text d.old at) }
+    ensures { text d.new result ≡ written (octet_lines (totals_in t)) (text d.old at) }
 {
     let headers_end = total_line(d, at, b"headers=", t.headers);
     let vectors_end = total_line(d, headers_end, b"vectors=", t.vectors);
@@ -118,7 +118,7 @@ fn octet_lines(d: &mut [u8], at: usize, t: Tally) -> usize
 
 // The count of the messages that list other schemes, and that of the names which aren't opened.
 fn last_lines(d: &mut [u8], at: usize, t: Tally, unopened: u64) -> usize
-    ensures { text d.new result ≡ written (lastLines (totalsIn t) unopened) (text d.old at) }
+    ensures { text d.new result ≡ written (last_lines (totals_in t) unopened) (text d.old at) }
 {
     let table = t.table;
     let others_end = total_line(d, at, b"others count=", table.others);
@@ -127,7 +127,7 @@ fn last_lines(d: &mut [u8], at: usize, t: Tally, unopened: u64) -> usize
 
 // The text of a tally from the front of the slice on; nothing of one with more than 64 schemes.
 pub fn tally_text(d: &mut [u8], t: Tally, unopened: u64) -> usize
-    ensures { text d.new result ≡ written (shownText t unopened) (text d.old 0) }
+    ensures { text d.new result ≡ written (shown_text t unopened) (text d.old 0) }
 {
     let types = t.types;
     let answers = t.answers;

@@ -10,31 +10,31 @@ use lib.Dec.{leb}
 use borrow.Author.Tests.{le-leb, leb-true}
 use Rattle.octets.proofs.Bools.{both}
 use Rattle.message.specs.Layout.{head_of}
-use Rattle.message.specs.Show.{schemesIn}
-use Rattle.coverage.specs.Coverage.{inHeader, inVector, is_bare, count, headerOctets, vectorOctets, bareOctets}
+use Rattle.message.specs.Show.{schemes_in}
+use Rattle.coverage.specs.Coverage.{in_header, in_vector, is_bare, count, header_octets, vector_octets, bare_octets}
 use Rattle.coverage.proofs.Sums.{count-not}
 use Rattle.offers.specs.declared.Table.{Table}
-use Rattle.offers.specs.Table.{pickTable, offeredIn}
+use Rattle.offers.specs.Table.{pick_table, offered_in}
 use Rattle.offers.proofs.Mosts.{set-most, offered-few, offered-counts, offered-others}
 use Rattle.tallying.specs.declared.Tally.{Tally}
-use Rattle.tallying.specs.Files.{isNego}
-use Rattle.tallying.specs.Tally.{oneMore, withMessage, withAnswer, LIMIT, allWithin, totalsWithin, inLimits}
+use Rattle.tallying.specs.Files.{is_nego}
+use Rattle.tallying.specs.Tally.{one_more, with_message, with_answer, LIMIT, all_within, totals_within, in_limits}
 use Rattle.tallying.specs.Counting.{Bounded}
 
 -- ---- what a message adds
 count_most : (f : ℕ → Bool) (n : ℕ) → count f n 0 ≤ n
 count_most f n = omega (arith, count-not f n 0)
 
-header-most : (m : List ℕ) → headerOctets m ≤ length m
-unfolding headerOctets
-header-most m = count_most (inHeader m) (length m)
+header-most : (m : List ℕ) → header_octets m ≤ length m
+unfolding header_octets
+header-most m = count_most (in_header m) (length m)
 
-vector-most : (m : List ℕ) → vectorOctets m ≤ length m
-unfolding vectorOctets
-vector-most m = count_most (inVector m) (length m)
+vector-most : (m : List ℕ) → vector_octets m ≤ length m
+unfolding vector_octets
+vector-most m = count_most (in_vector m) (length m)
 
-bare-most : (m : List ℕ) → bareOctets m ≤ length m
-unfolding bareOctets
+bare-most : (m : List ℕ) → bare_octets m ≤ length m
+unfolding bare_octets
 bare-most m = count_most (is_bare m) (length m)
 
 -- a table, and one that has at most one more at each place
@@ -43,18 +43,18 @@ record Grown (t r : Table) : Type 0 where
   counts : (j : ℕ) → get_or r.counts j 0 ≤ get_or t.counts j 0 + 1
   others : r.others ≤ t.others + 1
 
-grown : (t : Table) (m : List ℕ) (b : Bool) → Grown t (pickTable b (offeredIn t (schemesIn m)) t)
-grown t m true = record { few = offered-few t (schemesIn m); counts = offered-counts t (schemesIn m); others = offered-others t (schemesIn m) }
+grown : (t : Table) (m : List ℕ) (b : Bool) → Grown t (pick_table b (offered_in t (schemes_in m)) t)
+grown t m true = record { few = offered-few t (schemes_in m); counts = offered-counts t (schemes_in m); others = offered-others t (schemes_in m) }
 grown t m false = record { few = λ h. h; counts = λ j. omega arith; others = omega arith }
 
 -- a list with one more at a place, while each number may grow
-more-most : (l : List ℕ) (k n b : ℕ) → ((j : ℕ) → get_or l j 0 ≤ n) → n + 1 ≤ b → (j : ℕ) → get_or (oneMore l k) j 0 ≤ b
+more-most : (l : List ℕ) (k n b : ℕ) → ((j : ℕ) → get_or l j 0 ≤ n) → n + 1 ≤ b → (j : ℕ) → get_or (one_more l k) j 0 ≤ b
 more-most l k n b h e j = set-most l k (get_or l k 0 + 1) j b (omega (arith, h j)) (omega (arith, h k))
 
-pub bounded-message : (n : ℕ) (t : Tally) (m : List ℕ) → Bounded n t → 1 ≤ length m → Bounded (n + length m) (withMessage t m)
-unfolding withMessage
+pub bounded-message : (n : ℕ) (t : Tally) (m : List ℕ) → Bounded n t → 1 ≤ length m → Bounded (n + length m) (with_message t m)
+unfolding with_message
 bounded-message n t m b h =
-    let g = grown t.table m (isNego m) in
+    let g = grown t.table m (is_nego m) in
     record {
       few = g.few b.few;
       types = more-most t.types (head_of m).kind n (n + length m) b.types (omega arith);
@@ -66,8 +66,8 @@ bounded-message n t m b h =
       bare = omega (arith, b.bare, bare-most m);
     }
 
-pub bounded-answer : (n : ℕ) (t : Tally) (a : ℕ) → Bounded n t → Bounded (n + 1) (withAnswer t a)
-unfolding withAnswer
+pub bounded-answer : (n : ℕ) (t : Tally) (a : ℕ) → Bounded n t → Bounded (n + 1) (with_answer t a)
+unfolding with_answer
 bounded-answer n t a b =
     record {
       few = b.few;
@@ -94,24 +94,24 @@ bounded-more n k t b h =
     }
 
 -- ---- 18
-within-at : (l : List ℕ) → allWithin l ≡ true → (j : ℕ) → get_or l j 0 ≤ LIMIT
-unfolding allWithin
+within-at : (l : List ℕ) → all_within l ≡ true → (j : ℕ) → get_or l j 0 ≤ LIMIT
+unfolding all_within
 within-at [] e j = omega arith
-within-at (n ∷ l) e zero = leb-true n LIMIT (both (leb n LIMIT) (allWithin l) e).0
-within-at (n ∷ l) e (suc j) = within-at l (both (leb n LIMIT) (allWithin l) e).1 j
+within-at (n ∷ l) e zero = leb-true n LIMIT (both (leb n LIMIT) (all_within l) e).0
+within-at (n ∷ l) e (suc j) = within-at l (both (leb n LIMIT) (all_within l) e).1 j
 
-at-within : (l : List ℕ) → ((j : ℕ) → get_or l j 0 ≤ LIMIT) → allWithin l ≡ true
-unfolding allWithin
+at-within : (l : List ℕ) → ((j : ℕ) → get_or l j 0 ≤ LIMIT) → all_within l ≡ true
+unfolding all_within
 at-within [] h = refl
 at-within (n ∷ l) h = rw (le-leb n LIMIT (h 0), at-within l (λ j. h (suc j)))
 
-pub limits-bounded : (t : Tally) → inLimits t ≡ true → Bounded LIMIT t
-unfolding inLimits totalsWithin
+pub limits-bounded : (t : Tally) → in_limits t ≡ true → Bounded LIMIT t
+unfolding in_limits totals_within
 limits-bounded t e =
     let (c, e1) = both (leb t.table.count 64) _ e in
-    let (ty, e2) = both (allWithin t.types) _ e1 in
-    let (an, e3) = both (allWithin t.answers) _ e2 in
-    let (co, e4) = both (allWithin t.table.counts) _ e3 in
+    let (ty, e2) = both (all_within t.types) _ e1 in
+    let (an, e3) = both (all_within t.answers) _ e2 in
+    let (co, e4) = both (all_within t.table.counts) _ e3 in
     let (ot, e5) = both (leb t.table.others LIMIT) _ e4 in
     let (he, e6) = both (leb t.headers LIMIT) _ e5 in
     let (ve, ba) = both (leb t.vectors LIMIT) (leb t.bare LIMIT) e6 in
@@ -126,8 +126,8 @@ limits-bounded t e =
       bare = leb-true _ _ ba;
     }
 
-pub bounded-limits : (t : Tally) → Bounded LIMIT t → inLimits t ≡ true
-unfolding inLimits totalsWithin
+pub bounded-limits : (t : Tally) → Bounded LIMIT t → in_limits t ≡ true
+unfolding in_limits totals_within
 bounded-limits t b =
     rw (
       le-leb _ _ b.few,

@@ -13,39 +13,39 @@ use borrow.Author.Tests.{le-leb, lt-leb}
 use Rattle.octets.specs.Octets.{le}
 use Rattle.vector.specs.Vector.{shown}
 use Rattle.vector.specs.declared.TokenPlace.{TokenPlace}
-use Rattle.message.specs.Layout.{head_of, schemeVector}
-use Rattle.message.specs.Show.{ids_of, schemesIn, first_of}
+use Rattle.message.specs.Layout.{head_of, scheme_vector}
+use Rattle.message.specs.Show.{ids_of, schemes_in, first_of}
 use Rattle.token.specs.declared.Answer.{Answer}
 use Rattle.token.specs.declared.Answer.TheVariants as answer
-use Rattle.token.specs.Token.{Reading, Refused, tokenOf, outcomeOf, told}
-use Rattle.token.specs.Split.{placedFrom}
-use Rattle.token.specs.Walk.{messagesOf, Accepts}
+use Rattle.token.specs.Token.{Reading, Refused, token_of, outcome_of, told}
+use Rattle.token.specs.Split.{placed_from}
+use Rattle.token.specs.Walk.{messages_of, Accepts}
 use Rattle.token.proofs.Cuts.{behind, behind-length}
 use Rattle.token.proofs.Walks.{Left, Turn, turn, turn-fits, turn-less, accepted-short, Walk, walk-begun, walk-ended, walk-passed, answer-accepts, answer-refuses}
 use Rattle.coverage.specs.declared.Octets.{Octets}
-use Rattle.coverage.specs.Coverage.{octetsIn}
+use Rattle.coverage.specs.Coverage.{octets_in}
 use Rattle.offers.specs.declared.Table.{Table}
-use Rattle.offers.specs.Table.{pickTable, offeredIn, Counting}
+use Rattle.offers.specs.Table.{pick_table, offered_in, Counting}
 use Rattle.tallying.specs.declared.Tally.{Tally}
 use Rattle.tallying.specs.declared.Counted.{Counted}
-use Rattle.tallying.specs.Files.{Opened, Missing, File, allOctets, number_of, answer_of}
-use Rattle.tallying.specs.Tally.{oneMore, withMessage, withMessages, withAnswer, tallied, LIMIT, allWithin, inLimits, countedOf}
+use Rattle.tallying.specs.Files.{Opened, Missing, File, all_octets, number_of, answer_of}
+use Rattle.tallying.specs.Tally.{one_more, with_message, with_messages, with_answer, tallied, LIMIT, all_within, in_limits, counted_of}
 use Rattle.tallying.specs.Counting.{Small, Bounded, Ready, Start}
 use Rattle.tallying.proofs.Bounds.{bounded-message, bounded-more, limits-bounded}
 
 -- ---- `all_within`: x is what the loop began with
-module _ (a : List ℕ) (i : ℕ) (x : Bool) (inv : x ≡ allWithin (drop i a)) where
+module _ (a : List ℕ) (i : ℕ) (x : Bool) (inv : x ≡ all_within (drop i a)) where
   pub within_end : length a ≤ i → true ≡ x
-  unfolding allWithin
+  unfolding all_within
   within_end h = sym (inv ∙ rw (drop_of_length-le a h))
 
   module _ (more : i < length a) where
     pub within-no : 4294967295 < get_or a i 0 → false ≡ x
-    unfolding allWithin
+    unfolding all_within
     within-no h = sym (inv ∙ rw (drop-cons a i 0 more, lt-leb (get_or a i 0) LIMIT h))
 
-    pub within_more : get_or a i 0 ≤ 4294967295 → x ≡ allWithin (drop (i + 1) a)
-    unfolding allWithin
+    pub within_more : get_or a i 0 ≤ 4294967295 → x ≡ all_within (drop (i + 1) a)
+    unfolding all_within
     within_more h = inv ∙ rw (drop-cons a i 0 more, le-leb (get_or a i 0) LIMIT h, add-one)
 
 pub ruleset withins = (within_end, within-no, within_more)
@@ -65,22 +65,22 @@ is_false a b e f = sym e ∙ f
 
 pub ruleset limits = (and_no, and_yes, is_true, is_false, lt-leb, le-leb)
 
--- ---- `one_more`
+-- ---- `one_more_lem`
 pub more-fits : (a : List ℕ) (k : ℕ) → Small a → get_or a k 0 + 1 < 2 ^ 64
 more-fits a k h = omega (arith, h k)
 
-pub more-out : (a : List ℕ) (k : ℕ) → length a ≤ k → a ≡ oneMore a k
+pub more-out : (a : List ℕ) (k : ℕ) → length a ≤ k → a ≡ one_more a k
 more-out a k h = sym (set_out a k _ h)
 
 -- ---- `with_offer`
 module _ (t : Table) (kind : ℕ) (m : List ℕ) where
-  pub offer-none : 1 < kind → t ≡ pickTable (leb kind 1) (offeredIn t (schemesIn m)) t
+  pub offer-none : 1 < kind → t ≡ pick_table (leb kind 1) (offered_in t (schemes_in m)) t
   offer-none h = rw (lt-leb _ _ h)
 
-  pub offer-some : kind ≤ 1 → (l : List ℕ) → l ≡ shown 96 m (schemeVector m) → (r : Table) → r ≡ offeredIn t (ids_of l)
-      → r ≡ pickTable (leb kind 1) (offeredIn t (schemesIn m)) t
-  unfolding schemesIn
-  offer-some h l l-is r r-is = rw (le-leb _ _ h) (r-is ∙ ap (λ (a : List ℕ). offeredIn t (ids_of a)) l-is)
+  pub offer-some : kind ≤ 1 → (l : List ℕ) → l ≡ shown 96 m (scheme_vector m) → (r : Table) → r ≡ offered_in t (ids_of l)
+      → r ≡ pick_table (leb kind 1) (offered_in t (schemes_in m)) t
+  unfolding schemes_in
+  offer-some h l l-is r r-is = rw (le-leb _ _ h) (r-is ∙ ap (λ (a : List ℕ). offered_in t (ids_of a)) l-is)
 
 pub ruleset tables = (offer-none, offer-some)
 
@@ -102,8 +102,8 @@ module _ (t : Tally) (m : List ℕ) (room : ℕ) (r : Ready t m room) where
   ready-bare x h = omega (arith, r.bounded.bare)
 
 module _ (t : Tally) (m : List ℕ) (kind : ℕ) (kind-is : kind ≡ le 4 m 8) where
-  pub message-is : (o : Octets) → o ≡ octetsIn m → (types : List ℕ) → types ≡ oneMore t.types kind
-      → (table : Table) → table ≡ pickTable (leb kind 1) (offeredIn t.table (schemesIn m)) t.table
+  pub message-is : (o : Octets) → o ≡ octets_in m → (types : List ℕ) → types ≡ one_more t.types kind
+      → (table : Table) → table ≡ pick_table (leb kind 1) (offered_in t.table (schemes_in m)) t.table
       → ◌≡◌ {A = Tally}
       (record {
         types = types;
@@ -112,34 +112,34 @@ module _ (t : Tally) (m : List ℕ) (kind : ℕ) (kind-is : kind ≡ le 4 m 8) w
         headers = t.headers + o.headers;
         vectors = t.vectors + o.vectors;
         bare = t.bare + o.bare;
-      }) (withMessage t m)
-  unfolding withMessage head_of
+      }) (with_message t m)
+  unfolding with_message head_of
   message-is o o_is types types-is table table_is = rw (types-is, table_is, o_is, kind-is)
 
 pub ruleset messages = (ready-types, ready-table, ready-headers, ready-vectors, ready-bare, message-is)
 
 -- ---- `with_messages`
-octets-placed : (p : ℕ) (ms : List (List ℕ)) → allOctets (placedFrom p ms) ≡ ms
+octets-placed : (p : ℕ) (ms : List (List ℕ)) → all_octets (placed_from p ms) ≡ ms
 octets-placed p [] = refl
 octets-placed p (m ∷ ms) = ap (λ (ks : List (List ℕ)). m ∷ ks) (octets-placed (p + length m) ms)
 
 -- the messages of an accepted file, one behind the other
-pub left-octets : (s : List ℕ) (w : Left s) → placedFrom 0 w.ms ≡ messagesOf (tokenOf s) → allOctets (messagesOf (tokenOf s)) ≡ w.ms
-left-octets s w e = ap allOctets (sym e) ∙ octets-placed 0 w.ms
+pub left-octets : (s : List ℕ) (w : Left s) → placed_from 0 w.ms ≡ messages_of (token_of s) → all_octets (messages_of (token_of s)) ≡ w.ms
+left-octets s w e = ap all_octets (sym e) ∙ octets-placed 0 w.ms
 
 -- on the way through a file: x is what the walk comes to, `rest` what is left of the file s
 pub record Going-on (x : Tally) (s rest : List ℕ) (t : Tally) : Type 0 where
   pub place : ℕ
-  pub walked : Walk x (λ ps. withMessages t (allOctets ps)) rest place
+  pub walked : Walk x (λ ps. with_messages t (all_octets ps)) rest place
   pub short : length s ≤ 65535
   pub within : length rest ≤ length s
   pub bounded : Bounded (LIMIT + (length s - length rest)) t
 
-pub begin : (t : Tally) (s : List ℕ) (room : ℕ) → Start t s room → Going-on (withMessages t (allOctets (messagesOf (tokenOf s)))) s s t
+pub begin : (t : Tally) (s : List ℕ) (room : ℕ) → Start t s room → Going-on (with_messages t (all_octets (messages_of (token_of s)))) s s t
 begin t s room k =
     record {
       place = 0;
-      walked = walk-begun (λ ps. withMessages t (allOctets ps)) s k.accepted;
+      walked = walk-begun (λ ps. with_messages t (all_octets ps)) s k.accepted;
       short = accepted-short s k.accepted;
       within = omega arith;
       bounded = bounded-more LIMIT (LIMIT + (length s - length s)) t k.bounded (omega arith);
@@ -150,7 +150,7 @@ module _ (x : Tally) (s rest : List ℕ) (t : Tally) (on : Going-on x s rest t) 
   left = on.walked.left
 
   pub at-end : length rest ≤ 0 → t ≡ x
-  unfolding withMessages
+  unfolding with_messages
   at-end h = sym (walk-ended x _ rest on.place on.walked h)
 
   module _ (more : 0 < length rest) (m : List ℕ) (m-is : m ≡ first_of rest) where
@@ -166,16 +166,16 @@ module _ (x : Tally) (s rest : List ℕ) (t : Tally) (on : Going-on x s rest t) 
           within = omega (arith, here.fits, on.within, on.short, k.within);
         }
 
-    pub walk-on : (u : Tally) → u ≡ withMessage t m → Going-on x s (behind rest (length m)) u
+    pub walk-on : (u : Tally) → u ≡ with_message t m → Going-on x s (behind rest (length m)) u
     walk-on u u-is =
         record {
           place = on.place + length m;
-          walked = walk-passed x _ rest on.place on.walked more m m-is (λ ps. withMessages u (allOctets ps))
-              (λ ps. unfold withMessages in ap (λ (v : Tally). withMessages v (allOctets ps)) (sym u-is));
+          walked = walk-passed x _ rest on.place on.walked more m m-is (λ ps. with_messages u (all_octets ps))
+              (λ ps. unfold with_messages in ap (λ (v : Tally). with_messages v (all_octets ps)) (sym u-is));
           short = on.short;
           within = omega (arith, behind-length rest (length m), on.within);
           bounded = subst (Bounded (LIMIT + (length s - length (behind rest (length m))))) (sym u-is)
-              (bounded-more (LIMIT + (length s - length rest) + length m) _ (withMessage t m)
+              (bounded-more (LIMIT + (length s - length rest) + length m) _ (with_message t m)
               (bounded-message (LIMIT + (length s - length rest)) t m on.bounded (omega (arith, here.some)))
               (omega (arith, behind-length rest (length m), on.within, here.fits)));
         }
@@ -191,21 +191,21 @@ module _ (t : Tally) (s : List ℕ) (k : Start t s (length s)) where
 pub ruleset walks = (begin, at-end, left, turn-fits, turn-less, walk-ready, walk-on)
 
 -- ---- `with_answer`
-pub answer-is : (t : Tally) (n : ℕ) (answers : List ℕ) → answers ≡ oneMore t.answers n
+pub answer-is : (t : Tally) (n : ℕ) (answers : List ℕ) → answers ≡ one_more t.answers n
     → ◌≡◌ {A = Tally} (record { types = t.types; answers = answers; table = t.table; headers = t.headers; vectors = t.vectors; bare = t.bare })
-    (withAnswer t n)
-unfolding withAnswer
+    (with_answer t n)
+unfolding with_answer
 answer-is t n answers e = rw e
 
 -- ---- `count_missing` and `tallied`
-answers_stay : (t : Tally) (ms : List (List ℕ)) → (withMessages t ms).answers ≡ t.answers
-unfolding withMessages withMessage
+answers_stay : (t : Tally) (ms : List (List ℕ)) → (with_messages t ms).answers ≡ t.answers
+unfolding with_messages with_message
 answers_stay t [] = refl
-answers_stay t (m ∷ ms) = answers_stay (withMessage t m) ms
+answers_stay t (m ∷ ms) = answers_stay (with_message t m) ms
 
-module _ (t : Tally) (b : Bool) (b-is : b ≡ inLimits t) where
-  pub outside : (f : File) → b ≡ false → ◌≡◌ {A = Counted} (record { refusal = 18; tally = t }) (countedOf t f)
-  unfolding countedOf
+module _ (t : Tally) (b : Bool) (b-is : b ≡ in_limits t) where
+  pub outside : (f : File) → b ≡ false → ◌≡◌ {A = Counted} (record { refusal = 18; tally = t }) (counted_of t f)
+  unfolding counted_of
   outside f e = rw (sym b-is ∙ e)
 
   module _ (e : b ≡ true) where
@@ -215,14 +215,14 @@ module _ (t : Tally) (b : Bool) (b-is : b ≡ inLimits t) where
     pub small-answers : Small t.answers
     small-answers j = omega (arith, inside.answers j)
 
-    counted-as : (f : File) (x : Tally) → x ≡ tallied t f → ◌≡◌ {A = Counted} (record { refusal = answer_of f; tally = x }) (countedOf t f)
-    unfolding countedOf
+    counted-as : (f : File) (x : Tally) → x ≡ tallied t f → ◌≡◌ {A = Counted} (record { refusal = answer_of f; tally = x }) (counted_of t f)
+    unfolding counted_of
     counted-as f x x-is = rw (sym b-is ∙ e, x-is)
 
-    pub missing-counted : (x : Tally) → x ≡ withAnswer t 27 → ◌≡◌ {A = Counted} (record { refusal = 27; tally = x }) (countedOf t Missing)
-    missing-counted x x-is = counted-as Missing x (x-is ∙ ap (λ (y : Tally). withAnswer y 27) (unfold withMessages in refl))
+    pub missing-counted : (x : Tally) → x ≡ with_answer t 27 → ◌≡◌ {A = Counted} (record { refusal = 27; tally = x }) (counted_of t Missing)
+    missing-counted x x-is = counted-as Missing x (x-is ∙ ap (λ (y : Tally). with_answer y 27) (unfold with_messages in refl))
 
-    module _ (s : List ℕ) (r : Answer) (r-is : told r ≡ outcomeOf (tokenOf s)) where
+    module _ (s : List ℕ) (r : Answer) (r-is : told r ≡ outcome_of (token_of s)) where
       module _ (n : ℕ) (here : r ≡ answer.Messages n) where
         accepted : Accepts s
         accepted = answer-accepts s r r-is n here
@@ -230,32 +230,32 @@ module _ (t : Tally) (b : Bool) (b-is : b ≡ inLimits t) where
         pub start-here : Start t s (length s)
         start-here = record { bounded = inside; accepted = accepted; within = omega arith }
 
-        module _ (c : Tally) (c-is : c ≡ withMessages t (allOctets (messagesOf (tokenOf s)))) where
+        module _ (c : Tally) (c-is : c ≡ with_messages t (all_octets (messages_of (token_of s)))) where
           pub small-counted : Small c.answers
           small-counted j =
               omega (
                 arith,
                 inside.answers j,
                 ap (λ (l : List ℕ). get_or l j 0)
-                    (ap (λ (y : Tally). y.answers) c-is ∙ answers_stay t (allOctets (messagesOf (tokenOf s)))),
+                    (ap (λ (y : Tally). y.answers) c-is ∙ answers_stay t (all_octets (messages_of (token_of s)))),
               )
 
-          pub file-counted : (x : Tally) → x ≡ withAnswer c 0 → ◌≡◌ {A = Counted} (record { refusal = 0; tally = x }) (countedOf t (Opened s))
+          pub file-counted : (x : Tally) → x ≡ with_answer c 0 → ◌≡◌ {A = Counted} (record { refusal = 0; tally = x }) (counted_of t (Opened s))
           file-counted x x-is =
               let z : 0 ≡ answer_of (Opened s) = sym (ap number_of accepted) in
               ap (λ (k : ℕ). record { refusal = k; tally = x }) z
               ∙ counted-as (Opened s) x
-              (x-is ∙ ap (λ (y : Tally). withAnswer y 0) c-is ∙ ap (withAnswer (withMessages t (allOctets (messagesOf (tokenOf s))))) z)
+              (x-is ∙ ap (λ (y : Tally). with_answer y 0) c-is ∙ ap (with_answer (with_messages t (all_octets (messages_of (token_of s))))) z)
 
-      pub file-refused : (n : ℕ) (place : TokenPlace) → r ≡ answer.Refused n place → (x : Tally) → x ≡ withAnswer t n
-          → ◌≡◌ {A = Counted} (record { refusal = n; tally = x }) (countedOf t (Opened s))
+      pub file-refused : (n : ℕ) (place : TokenPlace) → r ≡ answer.Refused n place → (x : Tally) → x ≡ with_answer t n
+          → ◌≡◌ {A = Counted} (record { refusal = n; tally = x }) (counted_of t (Opened s))
       file-refused n place here x x-is =
           let no = answer-refuses s r r-is n place here in
           let z : n ≡ answer_of (Opened s) = sym (ap number_of no) in
-          let m : withMessages t (allOctets (messagesOf (tokenOf s))) ≡ t =
-          ap (λ (q : Reading). withMessages t (allOctets (messagesOf q))) no ∙ (unfold withMessages in refl) in
+          let m : with_messages t (all_octets (messages_of (token_of s))) ≡ t =
+          ap (λ (q : Reading). with_messages t (all_octets (messages_of q))) no ∙ (unfold with_messages in refl) in
           ap (λ (k : ℕ). record { refusal = k; tally = x }) z
           ∙ counted-as (Opened s) x
-          (x-is ∙ ap (λ (y : Tally). withAnswer y n) (sym m) ∙ ap (withAnswer (withMessages t (allOctets (messagesOf (tokenOf s))))) z)
+          (x-is ∙ ap (λ (y : Tally). with_answer y n) (sym m) ∙ ap (with_answer (with_messages t (all_octets (messages_of (token_of s))))) z)
 
 pub ruleset counteds = (outside, small-answers, missing-counted, start-here, small-counted, file-counted, file-refused)

@@ -1,11 +1,11 @@
 // The tally record: what a week of captures holds, one file after the other.
 ghost use Rattle.std.specs.Prelude.{◌≡◌, leb, length};
-ghost use Rattle.message.specs.Show.{schemesIn};
-ghost use Rattle.token.specs.Token.{tokenOf};
-ghost use Rattle.token.specs.Walk.{messagesOf};
-ghost use Rattle.offers.specs.Table.{pickTable, offeredIn, Counting};
-ghost use Rattle.tallying.specs.Files.{Opened, Missing, allOctets};
-ghost use Rattle.tallying.specs.Tally.{emptyTally, oneMore, withMessage, withMessages, withAnswer, allWithin, totalsWithin, inLimits, countedOf};
+ghost use Rattle.message.specs.Show.{schemes_in};
+ghost use Rattle.token.specs.Token.{token_of};
+ghost use Rattle.token.specs.Walk.{messages_of};
+ghost use Rattle.offers.specs.Table.{pick_table, offered_in, Counting};
+ghost use Rattle.tallying.specs.Files.{Opened, Missing, all_octets};
+ghost use Rattle.tallying.specs.Tally.{empty_tally, one_more, with_message, with_messages, with_answer, all_within, totals_within, in_limits, counted_of};
 ghost use Rattle.tallying.specs.Counting.{Small, Ready, Start};
 ghost use Rattle.tallying.specs.declared.Counted.{Counted};
 
@@ -39,7 +39,7 @@ const LIMIT: u64 = 4294967295;
 
 // The tally of no files.
 pub fn empty() -> Tally
-    ensures { result ≡ emptyTally }
+    ensures { result ≡ empty_tally }
 {
     let types = [0u64; 8];
     let answers = [0u64; 32];
@@ -63,7 +63,7 @@ pub fn empty() -> Tally
 
 // Whether no number is above the limit.
 fn all_within(a: &[u64]) -> bool
-    ensures { result ≡ allWithin a.now }
+    ensures { result ≡ all_within a.now }
 {
     let mut i: usize = 0;
     while i < a.len() {
@@ -77,7 +77,7 @@ fn all_within(a: &[u64]) -> bool
 
 // Whether none of the single numbers is above the limit.
 fn totals_within(t: Tally) -> bool
-    ensures { result ≡ totalsWithin t }
+    ensures { result ≡ totals_within t }
 {
     let table = t.table;
     if LIMIT < table.others {
@@ -94,7 +94,7 @@ fn totals_within(t: Tally) -> bool
 
 // Whether 18 finds nothing at fault.
 fn in_limits(t: Tally) -> bool
-    ensures { result ≡ inLimits t }
+    ensures { result ≡ in_limits t }
 {
     let types = t.types;
     let answers = t.answers;
@@ -118,7 +118,7 @@ fn in_limits(t: Tally) -> bool
 // One more at a place.
 fn one_more(a: &mut [u64], k: usize)
     requires { Small a.old }
-    ensures { a.new ≡ oneMore a.old k }
+    ensures { a.new ≡ one_more a.old k }
 {
     if a.len() <= k {
         return;
@@ -129,7 +129,7 @@ fn one_more(a: &mut [u64], k: usize)
 // The table with a message more, where its type is a NEGO's.
 fn with_offer(t: Table, kind: u32, m: &[u8]) -> Table
     requires { Counting t }
-    ensures { result ≡ pickTable (leb kind 1) (offeredIn t (schemesIn m.now)) t }
+    ensures { result ≡ pick_table (leb kind 1) (offered_in t (schemes_in m.now)) t }
 {
     if Kind::ACCEPTOR_NEGO < kind {
         return t;
@@ -140,7 +140,7 @@ fn with_offer(t: Table, kind: u32, m: &[u8]) -> Table
 // The tally with a message more.
 fn with_message(t: Tally, map: &mut [u32], m: &[u8]) -> Tally
     requires { Ready t m.now (length map.old) }
-    ensures { result ≡ withMessage t m.now }
+    ensures { result ≡ with_message t m.now }
 {
     let kind = le_u32(m, field::TYPE);
     let octets = count_octets(map, m);
@@ -162,7 +162,7 @@ fn with_message(t: Tally, map: &mut [u32], m: &[u8]) -> Tally
 // The tally with the messages of an accepted file.
 fn with_messages(t: Tally, map: &mut [u32], file: &[u8]) -> Tally
     requires { Start t file.now (length map.old) }
-    ensures { result ≡ withMessages t (allOctets (messagesOf (tokenOf file.now))) }
+    ensures { result ≡ with_messages t (all_octets (messages_of (token_of file.now))) }
 {
     let mut counted = t;
     let mut rest = file;
@@ -178,7 +178,7 @@ fn with_messages(t: Tally, map: &mut [u32], file: &[u8]) -> Tally
 // The same, with a map as long as the file needs: most captures are short, and a map has to be cleared before its first use.
 fn with_file(t: Tally, file: &[u8]) -> Tally
     requires { Start t file.now (length file.now) }
-    ensures { result ≡ withMessages t (allOctets (messagesOf (tokenOf file.now))) }
+    ensures { result ≡ with_messages t (all_octets (messages_of (token_of file.now))) }
 {
     if file.len() <= 2048 {
         let mut short = [0u32; 2048];
@@ -191,7 +191,7 @@ fn with_file(t: Tally, file: &[u8]) -> Tally
 // The tally with a file more that was answered with a number.
 fn with_answer(t: Tally, n: u32) -> Tally
     requires { Small t.answers }
-    ensures { result ≡ withAnswer t n }
+    ensures { result ≡ with_answer t n }
 {
     let types = t.types;
     let mut answers = t.answers;
@@ -209,7 +209,7 @@ fn with_answer(t: Tally, n: u32) -> Tally
 
 // The tally with a file that can't be opened.
 pub fn count_missing(t: Tally) -> Counted
-    ensures { result ≡ countedOf t Missing }
+    ensures { result ≡ counted_of t Missing }
 {
     if in_limits(t) {} else {
         return Counted {
@@ -225,7 +225,7 @@ pub fn count_missing(t: Tally) -> Counted
 
 // The tally with a file more, by value.
 pub fn tallied(t: Tally, file: &[u8]) -> Counted
-    ensures { result ≡ countedOf t (Opened file.now) }
+    ensures { result ≡ counted_of t (Opened file.now) }
 {
     if in_limits(t) {} else {
         return Counted {
@@ -251,7 +251,7 @@ pub fn tallied(t: Tally, file: &[u8]) -> Counted
 
 // The tally is lent to the reading of a file and updated in it; the answer is the file's number, 0 where it is accepted.
 pub fn count_file(t: &mut Tally, file: &[u8]) -> u32
-    ensures { ◌≡◌ {A = Counted} (record { refusal = result; tally = t.new }) (countedOf t.old (Opened file.now)) }
+    ensures { ◌≡◌ {A = Counted} (record { refusal = result; tally = t.new }) (counted_of t.old (Opened file.now)) }
 {
     let done = tallied(*t, file);
     *t = done.tally;
@@ -260,7 +260,7 @@ pub fn count_file(t: &mut Tally, file: &[u8]) -> u32
 
 // The tally with a file more, lent to the reading from a local: what goes from file to file calls this.
 pub fn count_next(t: Tally, file: &[u8]) -> Counted
-    ensures { result ≡ countedOf t (Opened file.now) }
+    ensures { result ≡ counted_of t (Opened file.now) }
 {
     let mut kept = t;
     let refusal = count_file(&mut kept, file);

@@ -17,13 +17,13 @@ use lib.ListN.{length, take, length-append}
 use borrow.Author.Tests.{lt-ltb, le-ltb, ltb-true, ltb-false}
 use Rattle.octets.proofs.Bools.{which}
 use Rattle.io.specs.Digits.{last_digits, IsDigitCount}
-use Rattle.text.specs.Text.{quoted, decimalTo, decimal, decimal64, signed, Text, written}
+use Rattle.text.specs.Text.{quoted, decimal_to, decimal, decimal64, signed, Text, written}
 use Rattle.put.specs.Put.{joined}
 use Rattle.put.proofs.Complement.{is_below, is-above}
 
 -- k + 1 digits, none of them needless
-decimal-digits : (f k n : ℕ) → k < f → n < 10 ^ suc k → (0 < k → 10 ^ k ≤ n) → last_digits 10 (suc k) n ≡ decimalTo f n
-unfolding decimalTo
+decimal-digits : (f k n : ℕ) → k < f → n < 10 ^ suc k → (0 < k → 10 ^ k ≤ n) → last_digits 10 (suc k) n ≡ decimal_to f n
+unfolding decimal_to
 decimal-digits zero k n h a b = absurd (omega arith)
 decimal-digits (suc f) zero n h a b = simp (lt-ltb n 10 a, mod-eq_of_lt {n = n} {m = 10} a, lt-ltb n 10 a)
 decimal-digits (suc f) (suc k) n h a b =
@@ -32,7 +32,7 @@ decimal-digits (suc f) (suc k) n h a b =
     let l : 10 ^ 0 ≤ 10 ^ k = pow-le-pow_right {n = 10} (omega arith) {i = 0} {j = k} (omega arith) in
     let g : 10 ^ suc k ≤ n = b (omega arith) in
     let m : n % 10 < 10 = mod-lt n {m = 10} (omega arith) in
-    let i : last_digits 10 (suc k) (n / 10) ≡ decimalTo f (n / 10) = decimal-digits f k (n / 10) (omega arith) (omega arith) (λ z. omega arith) in
+    let i : last_digits 10 (suc k) (n / 10) ≡ decimal_to f (n / 10) = decimal-digits f k (n / 10) (omega arith) (omega arith) (λ z. omega arith) in
     simp (le-ltb n 10 (omega arith), i, lt-ltb (n % 10) 10 m)
 
 -- a number below 10 ^ w has at most w digits
@@ -41,12 +41,12 @@ few w n k o h f = ltb-true k (suc w) (elim (which (ltb k (suc w))) [ inl e ↦ e
   many : suc w ≤ k → ⊥
   many g = omega (arith, f.2 (omega arith), pow-le-pow_right {n = 10} (omega arith) {i = w} {j = k - 1} (omega arith))
 
-pub digits_decimal : (w n k : ℕ) → 1 ≤ w → n < 10 ^ w → IsDigitCount 10 1 n k → last_digits 10 k n ≡ decimalTo w n
+pub digits_decimal : (w n k : ℕ) → 1 ≤ w → n < 10 ^ w → IsDigitCount 10 1 n k → last_digits 10 k n ≡ decimal_to w n
 digits_decimal w n k o h f = go k f.0 f.1 f.2 (few w n k o h f) where
   pred-suc : (k : ℕ) → suc k - 1 ≡ k
   pred-suc k = omega arith
 
-  go : (k : ℕ) → 1 ≤ k → n < 10 ^ k → (1 < k → 10 ^ (k - 1) ≤ n) → k < suc w → last_digits 10 k n ≡ decimalTo w n
+  go : (k : ℕ) → 1 ≤ k → n < 10 ^ k → (1 < k → 10 ^ (k - 1) ≤ n) → k < suc w → last_digits 10 k n ≡ decimal_to w n
   go zero a b c m = absurd (omega arith)
   go (suc k) a b c m = decimal-digits w k n (omega arith) b (λ z. rw (pred-suc k) at (c (omega arith)))
 
@@ -59,12 +59,12 @@ module _ (out : List ℕ) (k n : ℕ) (fewest : IsDigitCount 10 1 n k) (is : tak
   pub wide-written : n < 18446744073709551616 → x ≡ written (decimal64 n ∷ []) t
   wide-written h = e ∙ ap (λ (v : List ℕ). written (v ∷ []) t) (is ∙ digits_decimal 20 n k (omega arith) (omega arith) fewest)
 
-pub length-decimal : (w n : ℕ) → length (decimalTo w n) ≤ w
-unfolding decimalTo
+pub length-decimal : (w n : ℕ) → length (decimal_to w n) ≤ w
+unfolding decimal_to
 length-decimal zero n = omega arith
 length-decimal (suc w) n = elim (which (ltb n 10)) [ inl e ↦ rw e (omega arith) | inr e ↦ rw e (longer (length-decimal w (n / 10))) ] where
-  longer : length (decimalTo w (n / 10)) ≤ w → length (decimalTo w (n / 10) ++ ((48 + n % 10) ∷ [])) ≤ suc w
-  longer h = omega (arith, length-append (decimalTo w (n / 10)) ((48 + n % 10) ∷ []))
+  longer : length (decimal_to w (n / 10)) ≤ w → length (decimal_to w (n / 10) ++ ((48 + n % 10) ∷ [])) ≤ suc w
+  longer h = omega (arith, length-append (decimal_to w (n / 10)) ((48 + n % 10) ∷ []))
 
 pub length-signed : (z : ℤ) → length (joined (signed z)) ≤ 11
 length-signed (pos n) = simp length-append (omega (arith, length-decimal 10 n))

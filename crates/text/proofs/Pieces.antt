@@ -13,7 +13,7 @@ use lib.Seq.{drop-cons, take-suc, take-length, take_at, length-take-le}
 use lib.Dec.{leb, eqb}
 use borrow.Author.Tests.{le-leb, eq-eqb, ne_eqb, leb-true}
 use Rattle.octets.proofs.Bools.{which}
-use Rattle.text.specs.Text.{quoted, hexDigit, hexOf, digitsOf, glyphOf, glyphs, Text, text, appended, written}
+use Rattle.text.specs.Text.{quoted, hex_digit, hex_of, digits_of, glyph_of, glyphs, Text, text, appended, written}
 use Rattle.put.specs.Put.{put, joined, Written}
 use Rattle.put.proofs.Laws.{put-none, length-put, put-more, joined-append}
 
@@ -40,13 +40,13 @@ pub same-room : (d d' : List ℕ) (at r : ℕ) (ps : List (List ℕ)) → text d
 same-room d d' at r ps e = ap (λ (t : Text). length t.octets) e ∙ length-written ps (text d at)
 
 -- the digits of the octets that are left
-module _ (v : List ℕ) (i : ℕ) (x t : Text) (inv : x ≡ written (digitsOf (drop i v)) t) where
-  pub digits_more : i < length v → (u : Text) → u ≡ written (hexOf (get_or v i 0) ∷ []) t → x ≡ written (digitsOf (drop (i + 1) v)) u
-  unfolding digitsOf written
-  digits_more h u e = inv ∙ rw (add-one, drop-cons v i 0) (sym (ap (written (digitsOf (drop (suc i) v))) e))
+module _ (v : List ℕ) (i : ℕ) (x t : Text) (inv : x ≡ written (digits_of (drop i v)) t) where
+  pub digits_more : i < length v → (u : Text) → u ≡ written (hex_of (get_or v i 0) ∷ []) t → x ≡ written (digits_of (drop (i + 1) v)) u
+  unfolding digits_of written
+  digits_more h u e = inv ∙ rw (add-one, drop-cons v i 0) (sym (ap (written (digits_of (drop (suc i) v))) e))
 
   pub digits-end : length v ≤ i → t ≡ x
-  unfolding digitsOf written
+  unfolding digits_of written
   digits-end h = sym (inv ∙ rw (drop_of_length-le v h))
 
 pub ruleset digits = (digits_more, digits-end)
@@ -121,32 +121,32 @@ module _ (d v : List ℕ) (at : ℕ) where
 
 -- an octet's two digits, and an id's glyph
 module _ (t x : Text) where
-  pub hex-written : (a b o : ℕ) → a ≡ hexDigit (o / 16) → b ≡ hexDigit (o % 16) → x ≡ written ((a ∷ b ∷ []) ∷ []) t → x ≡ written (hexOf o ∷ []) t
+  pub hex-written : (a b o : ℕ) → a ≡ hex_digit (o / 16) → b ≡ hex_digit (o % 16) → x ≡ written ((a ∷ b ∷ []) ∷ []) t → x ≡ written (hex_of o ∷ []) t
   hex-written a b o p q e = rw (← p, ← q) e
 
   module _ (i : List ℕ) (k : ℕ) where
-    pub glyph-dash : k ≡ 16 → x ≡ written (quoted "-" ∷ []) t → x ≡ written (glyphOf i k ∷ []) t
+    pub glyph-dash : k ≡ 16 → x ≡ written (quoted "-" ∷ []) t → x ≡ written (glyph_of i k ∷ []) t
     glyph-dash h e = rw (eq-eqb k 16 h) e
 
     module _ (octet : k ≡ 16 → ⊥) where
-      pub glyph-octet : k < length i → x ≡ written (hexOf (get_or i k 0) ∷ []) t → x ≡ written (glyphOf i k ∷ []) t
+      pub glyph-octet : k < length i → x ≡ written (hex_of (get_or i k 0) ∷ []) t → x ≡ written (glyph_of i k ∷ []) t
       glyph-octet h e = rw (ne_eqb k 16 octet) e
 
-      pub glyph-past : length i ≤ k → x ≡ written (hexOf 0 ∷ []) t → x ≡ written (glyphOf i k ∷ []) t
+      pub glyph-past : length i ≤ k → x ≡ written (hex_of 0 ∷ []) t → x ≡ written (glyph_of i k ∷ []) t
       glyph-past h e = rw (ne_eqb k 16 octet, get_or-eq_default i 0 h) e
 
 -- one turn of the loop over the places of an id's text
 glyphs-append : (i ks ls : List ℕ) → glyphs i (ks ++ ls) ≡ glyphs i ks ++ glyphs i ls
 unfolding glyphs
 glyphs-append i [] ls = refl
-glyphs-append i (k ∷ ks) ls = ap (λ (x : List (List ℕ)). glyphOf i k ∷ x) (glyphs-append i ks ls)
+glyphs-append i (k ∷ ks) ls = ap (λ (x : List (List ℕ)). glyph_of i k ∷ x) (glyphs-append i ks ls)
 
 pub length-glyphs : (i ks : List ℕ) → length (joined (glyphs i ks)) ≤ length ks + length ks
 unfolding glyphs
 length-glyphs i [] = omega arith
 length-glyphs i (k ∷ ks) =
-    omega (arith, length-append (glyphOf i k) (joined (glyphs i ks)), length-glyphs i ks, two (eqb k 16) (get_or i k 0)) where
-      two : (b : Bool) (x : ℕ) → length (cond b (quoted "-") (hexOf x)) ≤ 2
+    omega (arith, length-append (glyph_of i k) (joined (glyphs i ks)), length-glyphs i ks, two (eqb k 16) (get_or i k 0)) where
+      two : (b : Bool) (x : ℕ) → length (cond b (quoted "-") (hex_of x)) ≤ 2
       two true x = omega arith
       two false x = omega arith
 
@@ -156,7 +156,7 @@ module _ (t : Text) (i order : List ℕ) where
   glyphs-start = refl
 
   pub glyphs-more : (u x : Text) (k : ℕ) → k < length order → u ≡ written (glyphs i (take k order)) t
-      → x ≡ written (glyphOf i (get_or order k 0) ∷ []) u → x ≡ written (glyphs i (take (k + 1) order)) t
+      → x ≡ written (glyph_of i (get_or order k 0) ∷ []) u → x ≡ written (glyphs i (take (k + 1) order)) t
   unfolding glyphs
   glyphs-more u x k h e f =
       let g : take (k + 1) order ≡ take k order ++ (get_or order k 0 ∷ []) = rw add-one (take-suc order k 0 h) in

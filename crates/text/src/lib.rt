@@ -1,7 +1,7 @@
 // Pieces of text appended in a lent slice. Each writer is given the place behind what is written already, and answers the next one. A piece that
 // has no room is left out.
 ghost use Rattle.std.specs.Prelude.{◌≡◌, ◌<◌, ◌∷◌, [], nat_abs};
-ghost use Rattle.text.specs.Text.{text, written, decimal, decimal64, signed as Text·signed, glyphOf, glyphs as Text·glyphs, hexOf, digitsOf, hexDigit, idText};
+ghost use Rattle.text.specs.Text.{text, written, decimal, decimal64, signed as Text·signed, glyph_of, glyphs as Text·glyphs, hex_of, digits_of, hex_digit, id_text};
 
 use put::put_octets;
 
@@ -72,14 +72,14 @@ pub fn signed(d: &mut [u8], at: usize, z: i32) -> usize
 // A hexadecimal digit.
 fn hex_digit(x: u8) -> u8
     requires { x < 16 }
-    ensures { result ≡ hexDigit x }
+    ensures { result ≡ hex_digit x }
 {
     if x < 10 { 48 + x } else { 55 + x }
 }
 
 // An octet as two digits.
 pub fn hex(d: &mut [u8], at: usize, x: u8) -> usize
-    ensures { text d.new result ≡ written (hexOf x ∷ []) (text d.old at) }
+    ensures { text d.new result ≡ written (hex_of x ∷ []) (text d.old at) }
 {
     let digits = [hex_digit(x / 16), hex_digit(x % 16)];
     append(d, at, &digits)
@@ -87,7 +87,7 @@ pub fn hex(d: &mut [u8], at: usize, x: u8) -> usize
 
 // Octets as digits.
 pub fn hex_all(d: &mut [u8], at: usize, v: &[u8]) -> usize
-    ensures { text d.new result ≡ written (digitsOf v.now) (text d.old at) }
+    ensures { text d.new result ≡ written (digits_of v.now) (text d.old at) }
 {
     let mut next = at;
     let mut i = 0;
@@ -100,7 +100,7 @@ pub fn hex_all(d: &mut [u8], at: usize, v: &[u8]) -> usize
 
 // The octet of an id at place k, 0 where it has none; or a dash, where k is 16.
 fn glyph(d: &mut [u8], at: usize, id: &[u8], k: u8) -> usize
-    ensures { text d.new result ≡ written (glyphOf id.now k ∷ []) (text d.old at) }
+    ensures { text d.new result ≡ written (glyph_of id.now k ∷ []) (text d.old at) }
 {
     if k == 16 {
         return append(d, at, b"-");
@@ -127,7 +127,7 @@ fn glyphs(d: &mut [u8], at: usize, id: &[u8], order: &[u8]) -> usize
 
 // An id in its usual text.
 pub fn id(d: &mut [u8], at: usize, i: &[u8]) -> usize
-    ensures { text d.new result ≡ written (idText i.now) (text d.old at) }
+    ensures { text d.new result ≡ written (id_text i.now) (text d.old at) }
 {
     let order = b"\x03\x02\x01\x00\x10\x05\x04\x10\x07\x06\x10\x08\x09\x10\x0A\x0B\x0C\x0D\x0E\x0F";
     glyphs(d, at, i, order)

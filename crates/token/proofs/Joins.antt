@@ -8,8 +8,8 @@ use native.Mathlib.Omega.{arith}
 use lib.ListN.{length, take, drop, length-append}
 use lib.Seq.{take_at, drop_at}
 use Rattle.message.specs.Layout.{head_of}
-use Rattle.token.specs.Token.{Placed, Accepted, tokenOf}
-use Rattle.token.specs.Split.{Numbered, join, placedFrom, Split}
+use Rattle.token.specs.Token.{Placed, Accepted, token_of}
+use Rattle.token.specs.Split.{Numbered, join, placed_from, Split}
 use Rattle.token.specs.Joined.{moved, last_of, end_of, JoinedAccepted, CutAccepted}
 use Rattle.token.proofs.Splits.{message-order, accepted-splits, numbered-accepted}
 
@@ -17,18 +17,18 @@ pub join-append : (xs ys : List (List ℕ)) → join (xs ++ ys) ≡ join xs ++ j
 join-append [] ys = refl
 join-append (x ∷ xs) ys = ap (λ (l : List ℕ). x ++ l) (join-append xs ys) ∙ sym (append_assoc x (join xs) (join ys))
 
-pub placed-append : (p : ℕ) (xs ys : List (List ℕ)) → placedFrom p (xs ++ ys) ≡ placedFrom p xs ++ placedFrom (p + length (join xs)) ys
-placed-append p [] ys = let e : p ≡ p + 0 = omega arith in ap (λ (n : ℕ). placedFrom n ys) e
+pub placed-append : (p : ℕ) (xs ys : List (List ℕ)) → placed_from p (xs ++ ys) ≡ placed_from p xs ++ placed_from (p + length (join xs)) ys
+placed-append p [] ys = let e : p ≡ p + 0 = omega arith in ap (λ (n : ℕ). placed_from n ys) e
 placed-append p (x ∷ xs) ys =
     let e : p + length x + length (join xs) ≡ p + length (x ++ join xs) = omega (arith, length-append x (join xs)) in
     ap (λ (l : List Placed). record { place = p; octets = x } ∷ l)
-    (placed-append (p + length x) xs ys ∙ ap (λ (n : ℕ). placedFrom (p + length x) xs ++ placedFrom n ys) e)
+    (placed-append (p + length x) xs ys ∙ ap (λ (n : ℕ). placed_from (p + length x) xs ++ placed_from n ys) e)
 
-pub placed-moved : (n p : ℕ) (ms : List (List ℕ)) → moved n (placedFrom p ms) ≡ placedFrom (n + p) ms
+pub placed-moved : (n p : ℕ) (ms : List (List ℕ)) → moved n (placed_from p ms) ≡ placed_from (n + p) ms
 placed-moved n p [] = refl
 placed-moved n p (m ∷ ms) =
     let e : n + (p + length m) ≡ n + p + length m = omega arith in
-    ap (λ (l : List Placed). record { place = n + p; octets = m } ∷ l) (placed-moved n (p + length m) ms ∙ ap (λ (k : ℕ). placedFrom k ms) e)
+    ap (λ (l : List Placed). record { place = n + p; octets = m } ∷ l) (placed-moved n (p + length m) ms ∙ ap (λ (k : ℕ). placed_from k ms) e)
 
 pub numbered-append : (q : ℕ) (v : List ℕ) (xs ys : List (List ℕ)) → Numbered q v xs → Numbered (q + length xs) v ys → Numbered q v (xs ++ ys)
 numbered-append q v [] ys e f = subst (λ (n : ℕ). Numbered n v ys) (add-zero q) f
@@ -45,12 +45,12 @@ numbered-parts q v (x ∷ xs) ys e =
 
 -- the last message has the last number
 last-number : (p q : ℕ) (v m : List ℕ) (ms : List (List ℕ)) → Numbered q v (m ∷ ms)
-    → (head_of (last_of (placedFrom p (m ∷ ms))).octets).sequence ≡ q + length ms
+    → (head_of (last_of (placed_from p (m ∷ ms))).octets).sequence ≡ q + length ms
 last-number p q v m [] e = (message-order q v m e.0).0 ∙ sym (add-zero q)
 last-number p q v m (k ∷ ms) e = let a : q + 1 + length ms ≡ q + suc (length ms) = omega arith in last-number (p + length m) (q + 1) v k ms e.1 ∙ a
 
 -- and ends where the messages end
-last_end : (p : ℕ) (m : List ℕ) (ms : List (List ℕ)) → end_of (placedFrom p (m ∷ ms)) ≡ p + length (join (m ∷ ms))
+last_end : (p : ℕ) (m : List ℕ) (ms : List (List ℕ)) → end_of (placed_from p (m ∷ ms)) ≡ p + length (join (m ∷ ms))
 last_end p m [] = omega (arith, length-append m [])
 last_end p m (k ∷ ms) = last_end (p + length m) k ms ∙ omega (arith, length-append m (join (k ∷ ms)))
 
@@ -63,8 +63,8 @@ joined-accepted s t ps qs a b f short =
     let (ms, (w, p)) = accepted-splits s ps a in
     let (ns, (x, r)) = accepted-splits t qs b in
     go ms w p ns x r where
-      go : (ms : List (List ℕ)) → Split s ms → placedFrom 0 ms ≡ ps → (ns : List (List ℕ)) → Split t ns → placedFrom 0 ns ≡ qs
-          → tokenOf (s ++ t) ≡ Accepted (ps ++ moved (length s) qs)
+      go : (ms : List (List ℕ)) → Split s ms → placed_from 0 ms ≡ ps → (ns : List (List ℕ)) → Split t ns → placed_from 0 ns ≡ qs
+          → token_of (s ++ t) ≡ Accepted (ps ++ moved (length s) qs)
       go [] w p ns x r = absurd (some-message s [] w refl)
       go (m ∷ ms) w p ns x r =
           let q = (head_of s).sequence in
@@ -78,31 +78,31 @@ joined-accepted s t ps qs a b f short =
           join-append (m ∷ ms) ns ∙ ap (λ (l : List ℕ). l ++ join ns) w.joins ∙ ap (λ (l : List ℕ). s ++ l) x.joins in
           let small : length (join ((m ∷ ms) ++ ns)) ≤ 65535 = omega (arith, ap length whole, length-append s t) in
           let n : 0 + length (join (m ∷ ms)) ≡ length s + 0 = omega (arith, ap length w.joins) in
-          ap tokenOf (sym whole)
+          ap token_of (sym whole)
           ∙ numbered-accepted q v m (ms ++ ns) (numbered-append q v (m ∷ ms) ns w.numbered behind) small
           ∙ ap Accepted
           (placed-append 0 (m ∷ ms) ns
-          ∙ ap (λ (l : List Placed). l ++ placedFrom (0 + length (join (m ∷ ms))) ns) p
-          ∙ ap (λ (l : List Placed). ps ++ l) (ap (λ (k : ℕ). placedFrom k ns) n ∙ sym (placed-moved (length s) 0 ns) ∙ ap (moved (length s)) r))
+          ∙ ap (λ (l : List Placed). l ++ placed_from (0 + length (join (m ∷ ms))) ns) p
+          ∙ ap (λ (l : List Placed). ps ++ l) (ap (λ (k : ℕ). placed_from k ns) n ∙ sym (placed-moved (length s) 0 ns) ∙ ap (moved (length s)) r))
 
 -- a list of placed messages in two parts
 record Parted (place : ℕ) (ms : List (List ℕ)) (ps qs : List Placed) : Type 0 where
   before : List (List ℕ)
   behind : List (List ℕ)
   whole : ms ≡ before ++ behind
-  first : placedFrom place before ≡ ps
-  second : placedFrom (place + length (join before)) behind ≡ qs
+  first : placed_from place before ≡ ps
+  second : placed_from (place + length (join before)) behind ≡ qs
 
 heads : (x y : Placed) (xs ys : List Placed) → x ∷ xs ≡ y ∷ ys → (x ≡ y) × (xs ≡ ys)
 heads x y xs ys e = (cc, cc)
 
-parted : (place : ℕ) (ms : List (List ℕ)) (ps qs : List Placed) → placedFrom place ms ≡ ps ++ qs → Parted place ms ps qs
+parted : (place : ℕ) (ms : List (List ℕ)) (ps qs : List Placed) → placed_from place ms ≡ ps ++ qs → Parted place ms ps qs
 parted place ms [] qs e =
     let z : place + 0 ≡ place =
-    omega arith in record { before = []; behind = ms; whole = refl; first = refl; second = ap (λ (n : ℕ). placedFrom n ms) z ∙ e }
+    omega arith in record { before = []; behind = ms; whole = refl; first = refl; second = ap (λ (n : ℕ). placed_from n ms) z ∙ e }
 parted place [] (p ∷ ps) qs e = absurd (omega (arith, ap length e))
 parted place (m ∷ ms) (p ∷ ps) qs e =
-    let same = heads (record { place = place; octets = m }) p (placedFrom (place + length m) ms) (ps ++ qs) e in
+    let same = heads (record { place = place; octets = m }) p (placed_from (place + length m) ms) (ps ++ qs) e in
     let w = parted (place + length m) ms ps qs same.1 in
     let z : place + length (join (m ∷ w.before)) ≡ place + length m + length (join w.before) =
     omega (arith, length-append m (join w.before)) in
@@ -111,7 +111,7 @@ parted place (m ∷ ms) (p ∷ ps) qs e =
       behind = w.behind;
       whole = ap (λ (l : List (List ℕ)). m ∷ l) w.whole;
       first = ap (λ (l : List Placed). record { place = place; octets = m } ∷ l) w.first ∙ ap (λ (x : Placed). x ∷ ps) same.0;
-      second = ap (λ (n : ℕ). placedFrom n w.behind) z ∙ w.second;
+      second = ap (λ (n : ℕ). placed_from n w.behind) z ∙ w.second;
     }
 
 pub cut-accepted : CutAccepted
@@ -119,10 +119,10 @@ cut-accepted s ps qs a some more =
     let (ms, (w, p)) = accepted-splits s (ps ++ qs) a in
     let d = parted 0 ms ps qs p in
     go d.before d.behind w d.whole d.first d.second where
-      go : (xs ys : List (List ℕ)) {ms : List (List ℕ)} → Split s ms → ms ≡ xs ++ ys → placedFrom 0 xs ≡ ps
-          → placedFrom (0 + length (join xs)) ys ≡ qs
-          → (tokenOf (take (end_of ps) s) ≡ Accepted ps)
-          × ((rs : List Placed) × ((tokenOf (drop (end_of ps) s) ≡ Accepted rs) × (moved (end_of ps) rs ≡ qs)))
+      go : (xs ys : List (List ℕ)) {ms : List (List ℕ)} → Split s ms → ms ≡ xs ++ ys → placed_from 0 xs ≡ ps
+          → placed_from (0 + length (join xs)) ys ≡ qs
+          → (token_of (take (end_of ps) s) ≡ Accepted ps)
+          × ((rs : List Placed) × ((token_of (drop (end_of ps) s) ≡ Accepted rs) × (moved (end_of ps) rs ≡ qs)))
       go [] ys w e f g = absurd (omega (arith, ap length f))
       go (x ∷ xs) [] w e f g = absurd (omega (arith, ap length g))
       go (x ∷ xs) (y ∷ ys) {ms} w e f g =
@@ -137,12 +137,12 @@ cut-accepted s ps qs a some more =
           let second : join (y ∷ ys) ≡ drop (end_of ps) s =
           sym (ap (drop (end_of ps)) (sym joins) ∙ drop_at (join (x ∷ xs)) (join (y ∷ ys)) (end_of ps) (sym end)) in
           let z : end_of ps + 0 ≡ 0 + length (join (x ∷ xs)) = omega (arith, end) in (
-            ap tokenOf (sym first) ∙ numbered-accepted q v x xs n.0 (omega (arith, ap length joins, size, w.short)) ∙ ap Accepted f,
+            ap token_of (sym first) ∙ numbered-accepted q v x xs n.0 (omega (arith, ap length joins, size, w.short)) ∙ ap Accepted f,
             (
-              placedFrom 0 (y ∷ ys),
+              placed_from 0 (y ∷ ys),
               (
-                ap tokenOf (sym second) ∙ numbered-accepted (q + length (x ∷ xs)) v y ys n.1 (omega (arith, ap length joins, size, w.short)),
-                placed-moved (end_of ps) 0 (y ∷ ys) ∙ ap (λ (k : ℕ). placedFrom k (y ∷ ys)) z ∙ g,
+                ap token_of (sym second) ∙ numbered-accepted (q + length (x ∷ xs)) v y ys n.1 (omega (arith, ap length joins, size, w.short)),
+                placed-moved (end_of ps) 0 (y ∷ ys) ∙ ap (λ (k : ℕ). placed_from k (y ∷ ys)) z ∙ g,
               ),
             ),
           )

@@ -15,9 +15,9 @@ use Rattle.message.specs.Layout.{Head, head_of, size}
 use Rattle.message.specs.Show.{first_of}
 use Rattle.token.specs.declared.Answer.{Answer}
 use Rattle.token.specs.declared.Answer.TheVariants as answer
-use Rattle.token.specs.Token.{Placed, Reading, Accepted, Refused, tokenOf, messages, refusal, outcomeOf, told}
-use Rattle.token.specs.Split.{Message, Numbered, join, placedFrom}
-use Rattle.token.specs.Walk.{messagesOf, Accepts, hasMessage, messageAt}
+use Rattle.token.specs.Token.{Placed, Reading, Accepted, Refused, token_of, messages, refusal, outcome_of, told}
+use Rattle.token.specs.Split.{Message, Numbered, join, placed_from}
+use Rattle.token.specs.Walk.{messages_of, Accepts, has_message, message_at}
 use Rattle.token.proofs.Cuts.{behind, behind-length}
 use Rattle.token.proofs.Splits.{message-head, message-length, accepted-splits}
 
@@ -78,25 +78,25 @@ module _ (rest : List ℕ) (w : Left rest) (more : 0 < length rest) (m : List �
   turn-less = omega (arith, behind-length rest (length m), turn.some, turn.fits)
 
 -- an accepted token is left whole
-pub whole : (s : List ℕ) → Accepts s → (w : Left s) × (placedFrom 0 w.ms ≡ messagesOf (tokenOf s))
+pub whole : (s : List ℕ) → Accepts s → (w : Left s) × (placed_from 0 w.ms ≡ messages_of (token_of s))
 whole s a =
-    let (ms, (split, places)) = accepted-splits s (messagesOf (tokenOf s)) a in
+    let (ms, (split, places)) = accepted-splits s (messages_of (token_of s)) a in
     (record { q = (head_of s).sequence; v = (head_of s).conversation; ms = ms; joins = split.joins; numbered = split.numbered }, places)
 
 pub accepted-short : (s : List ℕ) → Accepts s → length s ≤ 65535
-accepted-short s a = let (ms, (split, places)) = accepted-splits s (messagesOf (tokenOf s)) a in split.short
+accepted-short s a = let (ms, (split, places)) = accepted-splits s (messages_of (token_of s)) a in split.short
 
 -- on the way through a token to x, which is what f says of the messages that are left
 pub record Walk {X : Type 0} (x : X) (f : List Placed → X) (rest : List ℕ) (place : ℕ) : Type 0 where
   pub left : Left rest
-  pub come : x ≡ f (placedFrom place left.ms)
+  pub come : x ≡ f (placed_from place left.ms)
 
-pub walk-begun : {X : Type 0} (f : List Placed → X) (s : List ℕ) → Accepts s → Walk (f (messagesOf (tokenOf s))) f s 0
+pub walk-begun : {X : Type 0} (f : List Placed → X) (s : List ℕ) → Accepts s → Walk (f (messages_of (token_of s))) f s 0
 walk-begun f s a = let (w, places) = whole s a in record { left = w; come = ap f (sym places) }
 
 module _ {X : Type 0} (x : X) (f : List Placed → X) (rest : List ℕ) (place : ℕ) (on : Walk x f rest place) where
   pub walk-ended : length rest ≤ 0 → x ≡ f []
-  walk-ended h = on.come ∙ ap (λ (ms : List (List ℕ)). f (placedFrom place ms)) (none_left rest on.left h)
+  walk-ended h = on.come ∙ ap (λ (ms : List (List ℕ)). f (placed_from place ms)) (none_left rest on.left h)
 
   -- past the message m: g says of those behind it what f says of all
   pub walk-passed : 0 < length rest → (m : List ℕ) → m ≡ first_of rest → (g : List Placed → X)
@@ -105,7 +105,7 @@ module _ {X : Type 0} (x : X) (f : List Placed → X) (rest : List ℕ) (place :
       let here : Turn rest on.left m = turn rest on.left more m m-is in
       record {
         left = here.left;
-        come = on.come ∙ ap (λ (ms : List (List ℕ)). f (placedFrom place ms)) here.messages ∙ step (placedFrom (place + length m) here.left.ms);
+        come = on.come ∙ ap (λ (ms : List (List ℕ)). f (placed_from place ms)) here.messages ∙ step (placed_from (place + length m) here.left.ms);
       }
 
 -- nothing, at place 0: what stands beyond a token's list
@@ -114,12 +114,12 @@ beyond = record { place = 0; octets = [] }
 
 -- on the way to message k of s: `left` messages are still to be passed over
 pub record OnWay (s : List ℕ) (k : ℕ) (rest : List ℕ) (place left : ℕ) : Type 0 where
-  pub walked : Walk (messageAt s k) (λ ps. get_or ps left beyond) rest place
+  pub walked : Walk (message_at s k) (λ ps. get_or ps left beyond) rest place
   pub short : length s ≤ 65535
   pub more : left < length walked.left.ms
   pub ends : place + length rest ≡ length s
 
-length-placed : (p : ℕ) (ms : List (List ℕ)) → length (placedFrom p ms) ≡ length ms
+length-placed : (p : ℕ) (ms : List (List ℕ)) → length (placed_from p ms) ≡ length ms
 length-placed p [] = refl
 length-placed p (m ∷ ms) = ap suc (length-placed (p + length m) ms)
 
@@ -130,13 +130,13 @@ module _ (s : List ℕ) (k : ℕ) (rest : List ℕ) (place left : ℕ) (on : OnW
     go [] j e h = absurd (omega arith)
     go (m ∷ ms) j e h = omega (arith, ap length j, length-append m (join ms), message-length _ _ m e.0)
 
-  pub way_end : left ≤ 0 → place ≡ (messageAt s k).place
+  pub way_end : left ≤ 0 → place ≡ (message_at s k).place
   way_end h =
       let z : left ≡ 0 = omega arith in
       let here : Turn rest on.walked.left (first_of rest) = turn rest on.walked.left some (first_of rest) refl in
       sym (ap (λ (m : Placed). m.place) (on.walked.come
-      ∙ ap (λ (ms : List (List ℕ)). get_or (placedFrom place ms) left beyond) here.messages
-      ∙ ap (λ (n : ℕ). get_or (placedFrom place (first_of rest ∷ here.left.ms)) n beyond) z))
+      ∙ ap (λ (ms : List (List ℕ)). get_or (placed_from place ms) left beyond) here.messages
+      ∙ ap (λ (n : ℕ). get_or (placed_from place (first_of rest ∷ here.left.ms)) n beyond) z))
 
   module _ (m : List ℕ) (m-is : m ≡ first_of rest) where
     here : Turn rest on.walked.left m
@@ -152,13 +152,13 @@ module _ (s : List ℕ) (k : ℕ) (rest : List ℕ) (place left : ℕ) (on : OnW
     way-place = omega (arith, way-fits, on.ends, on.short)
 
     pub way_on : 0 < left → (next : ℕ) → next ≡ place + length m → OnWay s k (behind rest (length m)) next (left - 1)
-    way_on some_left next next-is =
+    way_on some_left_lem next next-is =
         subst (λ (n : ℕ). OnWay s k (behind rest (length m)) n (left - 1)) (sym next-is)
         (record {
           walked = record {
             left = here.left;
-            come = on.walked.come ∙ ap (λ (ms : List (List ℕ)). get_or (placedFrom place ms) left beyond) here.messages
-                ∙ passed left some_left (placedFrom (place + length m) here.left.ms);
+            come = on.walked.come ∙ ap (λ (ms : List (List ℕ)). get_or (placed_from place ms) left beyond) here.messages
+                ∙ passed left some_left_lem (placed_from (place + length m) here.left.ms);
           };
           short = on.short;
           more = omega (arith, on.more, ap length here.messages);
@@ -170,30 +170,30 @@ module _ (s : List ℕ) (k : ℕ) (rest : List ℕ) (place left : ℕ) (on : OnW
 
 -- the two answers of the structural reading
 module _ (s : List ℕ) where
-  reads : (r : Reading) (n : ℕ) → tokenOf s ≡ r → messages n ≡ outcomeOf r → Accepts s × (length (messagesOf (tokenOf s)) ≡ n)
-  unfolding outcomeOf
+  reads : (r : Reading) (n : ℕ) → token_of s ≡ r → messages n ≡ outcome_of r → Accepts s × (length (messages_of (token_of s)) ≡ n)
+  unfolding outcome_of
   reads (Accepted ms) n e h =
       let k : n ≡ length ms = cc in
-      (rw e refl, ap (λ (r : Reading). length (messagesOf r)) e ∙ sym k)
+      (rw e refl, ap (λ (r : Reading). length (messages_of r)) e ∙ sym k)
   reads (Refused c p) n e h = let z : ◌≡◌ {A = ℕ} 0 1 = cc in absurd (omega arith)
 
-  refuses : (r : Reading) (n p : ℕ) → tokenOf s ≡ r → refusal n p ≡ outcomeOf r → tokenOf s ≡ Refused n p
-  unfolding outcomeOf
+  refuses : (r : Reading) (n p : ℕ) → token_of s ≡ r → refusal n p ≡ outcome_of r → token_of s ≡ Refused n p
+  unfolding outcome_of
   refuses (Accepted ms) n p e h = let z : ◌≡◌ {A = ℕ} 0 1 = cc in absurd (omega arith)
   refuses (Refused c q) n p e h = cc
 
-  module _ (r : Answer) (r-is : told r ≡ outcomeOf (tokenOf s)) where
-    pub answer-refuses : (n : ℕ) (place : TokenPlace) → r ≡ answer.Refused n place → tokenOf s ≡ Refused n place.0
-    answer-refuses n place here = refuses (tokenOf s) n place.0 refl (sym (ap told here) ∙ r-is)
+  module _ (r : Answer) (r-is : told r ≡ outcome_of (token_of s)) where
+    pub answer-refuses : (n : ℕ) (place : TokenPlace) → r ≡ answer.Refused n place → token_of s ≡ Refused n place.0
+    answer-refuses n place here = refuses (token_of s) n place.0 refl (sym (ap told here) ∙ r-is)
 
     module _ (n : ℕ) (here : r ≡ answer.Messages n) where
-      both : Accepts s × (length (messagesOf (tokenOf s)) ≡ n)
-      both = reads (tokenOf s) n refl (sym (ap told here) ∙ r-is)
+      both : Accepts s × (length (messages_of (token_of s)) ≡ n)
+      both = reads (token_of s) n refl (sym (ap told here) ∙ r-is)
 
       pub answer-accepts : Accepts s
       answer-accepts = both.0
 
-      pub answer-number : length (messagesOf (tokenOf s)) ≡ n
+      pub answer-number : length (messages_of (token_of s)) ≡ n
       answer-number = both.1
 
 -- message k where it stands
@@ -203,7 +203,7 @@ record Stands (r : List ℕ) (place : ℕ) (m : Placed) : Type 0 where
   found : first_of (drop (m.place - place) r) ≡ m.octets
 
 stands : (ms : List (List ℕ)) (place q : ℕ) (v : List ℕ) → Numbered q v ms → (k : ℕ) → k < length ms
-    → Stands (join ms) place (get_or (placedFrom place ms) k beyond)
+    → Stands (join ms) place (get_or (placed_from place ms) k beyond)
 stands [] place q v e k h = absurd (omega arith)
 stands (m ∷ ms) place q v e zero h =
     let z : place - place ≡ 0 = omega arith in
@@ -214,7 +214,7 @@ stands (m ∷ ms) place q v e zero h =
     }
 stands (m ∷ ms) place q v e (suc k) h =
     let w = stands ms (place + length m) (q + 1) v e.1 k (omega arith) in
-    let there = (get_or (placedFrom (place + length m) ms) k beyond).place in
+    let there = (get_or (placed_from (place + length m) ms) k beyond).place in
     let n : length m + (there - (place + length m)) ≡ there - place = omega (arith, w.after) in
     record {
       after = omega (arith, w.after);
@@ -226,56 +226,56 @@ stands (m ∷ ms) place q v e (suc k) h =
     }
 
 -- the answers of `has_message`
-module _ (s : List ℕ) (k : ℕ) (r : Answer) (r-is : told r ≡ outcomeOf (tokenOf s)) where
-  pub has-none : (n : ℕ) (place : TokenPlace) → r ≡ answer.Refused n place → false ≡ hasMessage s k
-  has-none n place here = sym (ap (λ (x : Reading). ltb k (length (messagesOf x))) (answer-refuses s r r-is n place here) ∙ le-ltb k 0 (omega arith))
+module _ (s : List ℕ) (k : ℕ) (r : Answer) (r-is : told r ≡ outcome_of (token_of s)) where
+  pub has-none : (n : ℕ) (place : TokenPlace) → r ≡ answer.Refused n place → false ≡ has_message s k
+  has-none n place here = sym (ap (λ (x : Reading). ltb k (length (messages_of x))) (answer-refuses s r r-is n place here) ∙ le-ltb k 0 (omega arith))
 
-  pub has_some : (n : ℕ) → r ≡ answer.Messages n → ltb k n ≡ hasMessage s k
+  pub has_some : (n : ℕ) → r ≡ answer.Messages n → ltb k n ≡ has_message s k
   has_some n here = ap (ltb k) (sym (answer-number s r r-is n here))
 
 -- a token that has a message is accepted
-accepts : (s : List ℕ) (k : ℕ) → hasMessage s k ≡ true → Accepts s
-accepts s k h = go (tokenOf s) h where
-  go : (r : Reading) → ltb k (length (messagesOf r)) ≡ true → r ≡ Accepted (messagesOf r)
+accepts : (s : List ℕ) (k : ℕ) → has_message s k ≡ true → Accepts s
+accepts s k h = go (token_of s) h where
+  go : (r : Reading) → ltb k (length (messages_of r)) ≡ true → r ≡ Accepted (messages_of r)
   go (Accepted ms) e = refl
   go (Refused n p) e = let z : k < 0 = ltb-true _ _ e in absurd (omega arith)
 
 -- the answers of `place_at` and `message_at`, and what their way asks for
-module _ (s : List ℕ) (k : ℕ) (b : Bool) (b-is : b ≡ hasMessage s k) where
+module _ (s : List ℕ) (k : ℕ) (b : Bool) (b-is : b ≡ has_message s k) where
   module _ (t : b ≡ false) where
-    none : messageAt s k ≡ beyond
-    none = get_or-eq_default (messagesOf (tokenOf s)) beyond {n = k} (ltb-false _ _ (sym b-is ∙ t))
+    none : message_at s k ≡ beyond
+    none = get_or-eq_default (messages_of (token_of s)) beyond {n = k} (ltb-false _ _ (sym b-is ∙ t))
 
-    pub place_none : 0 ≡ (messageAt s k).place
+    pub place_none : 0 ≡ (message_at s k).place
     place_none = sym (ap (λ (m : Placed). m.place) none)
 
-    pub message-none : [] ≡ (messageAt s k).octets
+    pub message-none : [] ≡ (message_at s k).octets
     message-none = sym (ap (λ (m : Placed). m.octets) none)
 
-  pub walk-has : b ≡ true → hasMessage s k ≡ true
+  pub walk-has : b ≡ true → has_message s k ≡ true
   walk-has t = sym b-is ∙ t
 
-  module _ (t : b ≡ true) (at : ℕ) (at-is : at ≡ (messageAt s k).place) where
-    there : Stands s 0 (messageAt s k)
+  module _ (t : b ≡ true) (at : ℕ) (at-is : at ≡ (message_at s k).place) where
+    there : Stands s 0 (message_at s k)
     there =
         let (w, places) = whole s (accepts s k (sym b-is ∙ t)) in
-        let few : k < length (messagesOf (tokenOf s)) = ltb-true _ _ (sym b-is ∙ t) in
+        let few : k < length (messages_of (token_of s)) = ltb-true _ _ (sym b-is ∙ t) in
         subst (λ (ps : List Placed). Stands s 0 (get_or ps k beyond)) places
-        (subst (λ (l : List ℕ). Stands l 0 (get_or (placedFrom 0 w.ms) k beyond)) w.joins
+        (subst (λ (l : List ℕ). Stands l 0 (get_or (placed_from 0 w.ms) k beyond)) w.joins
         (stands w.ms 0 w.q w.v w.numbered k (omega (arith, ap length places, length-placed 0 w.ms))))
 
     pub message-within : at ≤ length s
     message-within = omega (arith, there.within, at-is)
 
-    pub message-there : (m : List ℕ) → m ≡ first_of (take (length s - at) (drop at s)) → m ≡ (messageAt s k).octets
+    pub message-there : (m : List ℕ) → m ≡ first_of (take (length s - at) (drop at s)) → m ≡ (message_at s k).octets
     message-there m m-is =
-        let z : at ≡ (messageAt s k).place - 0 = omega (arith, at-is) in
+        let z : at ≡ (message_at s k).place - 0 = omega (arith, at-is) in
         m-is ∙ ap first_of (tail_all s at) ∙ ap (λ (j : ℕ). first_of (drop j s)) z ∙ there.found
 
-pub way-start : (s : List ℕ) (k : ℕ) → hasMessage s k ≡ true → OnWay s k s 0 k
+pub way-start : (s : List ℕ) (k : ℕ) → has_message s k ≡ true → OnWay s k s 0 k
 way-start s k h =
     let (w, places) = whole s (accepts s k h) in
-    let few : k < length (messagesOf (tokenOf s)) = ltb-true _ _ h in
+    let few : k < length (messages_of (token_of s)) = ltb-true _ _ h in
     record {
       walked = record { left = w; come = ap (λ (ps : List Placed). get_or ps k beyond) (sym places) };
       short = accepted-short s (accepts s k h);

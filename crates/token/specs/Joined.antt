@@ -8,7 +8,7 @@
 --   CutAccepted     an accepted token cut at the end of a message, neither side empty: both sides are accepted, with the two parts of its list
 use Rattle.std.specs.Prelude.{ℕ, ◌+◌, ◌<◌, ◌≤◌, ◌≡◌, List, [], ◌∷◌, ◌++◌, length, take, drop}
 use Rattle.message.specs.Layout.{head_of}
-use Rattle.token.specs.Token.{Placed, Accepted, tokenOf}
+use Rattle.token.specs.Token.{Placed, Accepted, token_of}
 
 -- "with token places moved by the first's length"
 abbrev pub moved : ℕ → List Placed → List Placed
@@ -31,13 +31,13 @@ pub record Follows (s : List ℕ) (ps : List Placed) (t : List ℕ) : Type 0 whe
 -- "and together they have at most 65,535 octets, then the joined token is accepted, and its list is the first's followed by the second's"
 abbrev pub JoinedAccepted : Type 0
 JoinedAccepted =
-    (s t : List ℕ) (ps qs : List Placed) → tokenOf s ≡ Accepted ps → tokenOf t ≡ Accepted qs
+    (s t : List ℕ) (ps qs : List Placed) → token_of s ≡ Accepted ps → token_of t ≡ Accepted qs
     → Follows s ps t → length s + length t ≤ 65535
-    → tokenOf (s ++ t) ≡ Accepted (ps ++ moved (length s) qs)
+    → token_of (s ++ t) ≡ Accepted (ps ++ moved (length s) qs)
 
 -- "an accepted token cut at an end of a message, neither side empty, gives two accepted ones"
 abbrev pub CutAccepted : Type 0
 CutAccepted =
-    (s : List ℕ) (ps qs : List Placed) → tokenOf s ≡ Accepted (ps ++ qs) → 0 < length ps → 0 < length qs
-    → (tokenOf (take (end_of ps) s) ≡ Accepted ps)
-    × ((rs : List Placed) × ((tokenOf (drop (end_of ps) s) ≡ Accepted rs) × (moved (end_of ps) rs ≡ qs)))
+    (s : List ℕ) (ps qs : List Placed) → token_of s ≡ Accepted (ps ++ qs) → 0 < length ps → 0 < length qs
+    → (token_of (take (end_of ps) s) ≡ Accepted ps)
+    × ((rs : List Placed) × ((token_of (drop (end_of ps) s) ≡ Accepted rs) × (moved (end_of ps) rs ≡ qs)))

@@ -1,8 +1,8 @@
 // The structural reading of a token.
 ghost use Rattle.std.specs.Prelude.{◌≡◌, ◌≤◌, ◌<◌, true, length};
 ghost use Rattle.message.specs.Check.{said, Passed};
-ghost use Rattle.token.specs.Token.{orderVerdict, nextVerdict, refusedAt, chainOf, reading_of, tokenOf, told, outcomeOf};
-ghost use Rattle.token.specs.Walk.{hasMessage, messageAt};
+ghost use Rattle.token.specs.Token.{order_verdict, next_verdict, refused_at, chain_of, reading_of, token_of, told, outcome_of};
+ghost use Rattle.token.specs.Walk.{has_message, message_at};
 
 use message::walk::first;
 use message::{Header, Read, field, read_body, read_header};
@@ -22,7 +22,7 @@ pub enum Answer {
 // Checks 7 to 13 of the message at the front of `rest`, whose header is h.
 fn read_ordered(rest: &[u8], sequence: u64, conversation: &[u8], h: Header) -> Read
     requires { Passed rest.now h }
-    ensures { said result ≡ orderVerdict rest.now sequence conversation.now h }
+    ensures { said result ≡ order_verdict rest.now sequence conversation.now h }
 {
     if h.sequence as u64 != sequence {
         return Read::Refused(7);
@@ -38,7 +38,7 @@ fn read_ordered(rest: &[u8], sequence: u64, conversation: &[u8], h: Header) -> R
 
 // Checks 2 to 13 of the message at the front of `rest`.
 pub fn read_next(rest: &[u8], sequence: u64, conversation: &[u8]) -> Read
-    ensures { said result ≡ nextVerdict rest.now sequence conversation.now }
+    ensures { said result ≡ next_verdict rest.now sequence conversation.now }
 {
     let reading = read_header(rest);
     let Read::Message(h) = reading else {
@@ -49,7 +49,7 @@ pub fn read_next(rest: &[u8], sequence: u64, conversation: &[u8]) -> Read
 
 // A message's refusal, at its place.
 fn refused_at(reading: Read, place: TokenPlace) -> Answer
-    ensures { told result ≡ refusedAt (said reading) place.0 }
+    ensures { told result ≡ refused_at (said reading) place.0 }
 {
     match reading {
         Read::Refused(n) => Answer::Refused(n, place),
@@ -60,7 +60,7 @@ fn refused_at(reading: Read, place: TokenPlace) -> Answer
 // The messages of a token, the first of which has the number `first`.
 fn read_messages(token: &[u8], first: u64, conversation: &[u8]) -> Answer
     requires { (length token.now ≤ 65535) × (first < 4294967296) × (length conversation.now ≡ 16) }
-    ensures { told result ≡ outcomeOf (reading_of (chainOf token.now 0 0 first conversation.now)) }
+    ensures { told result ≡ outcome_of (reading_of (chain_of token.now 0 0 first conversation.now)) }
 {
     let mut rest = token;
     let mut place = TokenPlace(0);
@@ -82,7 +82,7 @@ fn read_messages(token: &[u8], first: u64, conversation: &[u8]) -> Answer
 
 // The structural reading: checks 1 to 13, with the first message's sequence number and conversation as start.
 pub fn read_token(token: &[u8]) -> Answer
-    ensures { told result ≡ outcomeOf (tokenOf token.now) }
+    ensures { told result ≡ outcome_of (token_of token.now) }
 {
     if 65535 < token.len() {
         return Answer::Refused(1, TokenPlace(0));
@@ -100,7 +100,7 @@ pub fn read_token(token: &[u8]) -> Answer
 
 // Whether the token is accepted and has a message with the index k.
 pub fn has_message(token: &[u8], k: usize) -> bool
-    ensures { result ≡ hasMessage token.now k }
+    ensures { result ≡ has_message token.now k }
 {
     let reading = read_token(token);
     let Answer::Messages(n) = reading else {
@@ -111,8 +111,8 @@ pub fn has_message(token: &[u8], k: usize) -> bool
 
 // The place of message k of a token that has it.
 fn walk_to(token: &[u8], k: usize) -> TokenPlace
-    requires { hasMessage token.now k ≡ true }
-    ensures { result.0 ≡ (messageAt token.now k).place }
+    requires { has_message token.now k ≡ true }
+    ensures { result.0 ≡ (message_at token.now k).place }
 {
     let mut rest = token;
     let mut place = TokenPlace(0);
@@ -129,7 +129,7 @@ fn walk_to(token: &[u8], k: usize) -> TokenPlace
 
 // The place of message k; 0 where there is no such message.
 pub fn place_at(token: &[u8], k: usize) -> TokenPlace
-    ensures { result.0 ≡ (messageAt token.now k).place }
+    ensures { result.0 ≡ (message_at token.now k).place }
 {
     if has_message(token, k) {} else {
         return TokenPlace(0);
@@ -139,7 +139,7 @@ pub fn place_at(token: &[u8], k: usize) -> TokenPlace
 
 // Message k, as a part of the token; nothing where there is no such message.
 pub fn message_at(token: &[u8], k: usize) -> &[u8]
-    ensures { result.now ≡ (messageAt token.now k).octets }
+    ensures { result.now ≡ (message_at token.now k).octets }
 {
     if has_message(token, k) {} else {
         return &token[..0];

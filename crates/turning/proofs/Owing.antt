@@ -12,125 +12,125 @@ use lib.Seq.{take-add, length-take-le, take_all}
 use lib.Bits.{bit_and}
 use lib.Dec.{eqb}
 use borrow.Author.Tests.{eq-eqb, ne_eqb, eqb-true, eqb-false}
-use Rattle.octets.specs.Octets.{octets, sameOctets, sameId}
+use Rattle.octets.specs.Octets.{octets, same_octets, same_id}
 use Rattle.octets.proofs.Bools.{which}
 use Rattle.octets.proofs.Same.{same-sizes, same_step}
-use Rattle.vector.specs.Vector.{extent, keepsRule, part, shown}
+use Rattle.vector.specs.Vector.{extent, keeps_rule, part, shown}
 use Rattle.vector.proofs.Rule.{rule-inside}
-use Rattle.message.specs.Layout.{front, schemeVector}
-use Rattle.message.specs.Show.{idsAt, schemesIn}
+use Rattle.message.specs.Layout.{front, scheme_vector}
+use Rattle.message.specs.Show.{ids_at, schemes_in}
 use Rattle.message.proofs.Ids.{length_ids, id-at}
-use Rattle.schemes.specs.Lists.{Id, joinIds}
-use Rattle.schemes.specs.Sets.{left, named, openPlaces}
-use Rattle.schemes.specs.Answers.{left_of, schemesOf}
+use Rattle.schemes.specs.Lists.{Id, join_ids}
+use Rattle.schemes.specs.Sets.{left, named, open_places}
+use Rattle.schemes.specs.Answers.{left_of, schemes_of}
 use Rattle.schemes.specs.declared.Left.{Left}
 use Rattle.schemes.specs.declared.Schemes.{Schemes}
 use Rattle.schemes.proofs.Offers.{join-length, gathered-octets}
 use Rattle.conversation.specs.declared.Record.{Record}
 use Rattle.conversation.specs.State.{own_of, replied}
 use Rattle.conversation.specs.Turns.{writes}
-use Rattle.conversation.specs.Writing.{someLeft, first_or}
-use Rattle.conversation.specs.Admitting.{schemeIn, listedBy}
-use Rattle.conversation.specs.Choosing.{openTo, mayChoose}
-use Rattle.admitting.specs.Admissions.{listedIn}
+use Rattle.conversation.specs.Writing.{some_left, first_or}
+use Rattle.conversation.specs.Admitting.{scheme_in, listed_by}
+use Rattle.conversation.specs.Choosing.{open_to, may_choose}
+use Rattle.admitting.specs.Admissions.{listed_in}
 use Rattle.calls.proofs.Lefts.{left_less, open_none}
-use Rattle.sides.specs.Turning.{same_list, withMarks, owed}
+use Rattle.sides.specs.Turning.{same_list, with_marks, owed}
 
 -- 1. octets, one by one
 
-id_same : (a b : List ℕ) → length a ≡ 16 → sameId a b ≡ sameOctets a b
-unfolding sameId
+id_same : (a b : List ℕ) → length a ≡ 16 → same_id a b ≡ same_octets a b
+unfolding same_id
 id_same a b e = rw (eq-eqb _ _ e)
 
-module _ (a b : List ℕ) (i : ℕ) (even : length a ≡ length b) (inv : sameOctets a b ≡ sameOctets (drop i a) (drop i b)) where
-  pub all_end : length a ≤ i → true ≡ sameOctets a b
-  unfolding sameOctets
+module _ (a b : List ℕ) (i : ℕ) (even : length a ≡ length b) (inv : same_octets a b ≡ same_octets (drop i a) (drop i b)) where
+  pub all_end : length a ≤ i → true ≡ same_octets a b
+  unfolding same_octets
   all_end h =
       let w : length b ≤ i = omega arith in
       sym (inv ∙ rw (drop_of_length-le a h, drop_of_length-le b w))
 
-  pub all-differ : i < length a → (get_or a i 0 ≡ get_or b i 0 → ⊥) → false ≡ sameOctets a b
-  unfolding sameOctets
+  pub all-differ : i < length a → (get_or a i 0 ≡ get_or b i 0 → ⊥) → false ≡ same_octets a b
+  unfolding same_octets
   all-differ h n = sym (inv ∙ same_step a b i h (omega arith) ∙ rw (ne_eqb _ _ n))
 
-  pub all-on : i < length a → get_or a i 0 ≡ get_or b i 0 → sameOctets a b ≡ sameOctets (drop (i + 1) a) (drop (i + 1) b)
-  unfolding sameOctets
+  pub all-on : i < length a → get_or a i 0 ≡ get_or b i 0 → same_octets a b ≡ same_octets (drop (i + 1) a) (drop (i + 1) b)
+  unfolding same_octets
   all-on h n = inv ∙ same_step a b i h (omega arith) ∙ simp (eq-eqb _ _ n, add-one)
 
 pub ruleset alls = (same-sizes, all_end, all-differ, all-on)
 
 -- 2. the schemes that a NEGO lists, as octets
 
-ids-joined : (n : ℕ) (a : List ℕ) → joinIds (idsAt n a) ≡ take (16 * n) a
-unfolding idsAt
+ids-joined : (n : ℕ) (a : List ℕ) → join_ids (ids_at n a) ≡ take (16 * n) a
+unfolding ids_at
 ids-joined zero a = refl
 ids-joined (suc n) a =
     let e : 16 + 16 * n ≡ 16 * suc n = omega arith in
     ap (λ (l : List ℕ). take 16 a ++ l) (ids-joined n (drop 16 a)) ∙ sym (take-add 16 (16 * n) a) ∙ ap (λ (k : ℕ). take k a) e
 
-shown-whole : (m : List ℕ) → length (shown 96 m (schemeVector m)) % 16 ≡ 0
+shown-whole : (m : List ℕ) → length (shown 96 m (scheme_vector m)) % 16 ≡ 0
 unfolding shown
-shown-whole m = elim (which (keepsRule 96 (length m) (schemeVector m))) [
+shown-whole m = elim (which (keeps_rule 96 (length m) (scheme_vector m))) [
   | inr e ↦ rw e
-  | inl e ↦ rw e (elim (which (eqb (extent (schemeVector m)) 0)) [
+  | inl e ↦ rw e (elim (which (eqb (extent (scheme_vector m)) 0)) [
     | inl z ↦ let n =
-        length-take (extent (schemeVector m)) (drop (schemeVector m).offset.0 m) in omega (arith, eqb-true (extent (schemeVector m)) 0 z)
+        length-take (extent (scheme_vector m)) (drop (scheme_vector m).offset.0 m) in omega (arith, eqb-true (extent (scheme_vector m)) 0 z)
     | inr z ↦
-        let i = rule-inside 96 (length m) (schemeVector m) e (eqb-false _ _ z) in
-        let n : length (part m (schemeVector m)) ≡ extent (schemeVector m) =
-        length-take-le (extent (schemeVector m)) (drop (schemeVector m).offset.0 m)
-        (omega (arith, i.before, length-drop (schemeVector m).offset.0 m)) in
+        let i = rule-inside 96 (length m) (scheme_vector m) e (eqb-false _ _ z) in
+        let n : length (part m (scheme_vector m)) ≡ extent (scheme_vector m) =
+        length-take-le (extent (scheme_vector m)) (drop (scheme_vector m).offset.0 m)
+        (omega (arith, i.before, length-drop (scheme_vector m).offset.0 m)) in
         omega arith
   ])
 ]
 
-listed-joined : (t : List ℕ) → joinIds (listedBy t) ≡ listedIn t
-unfolding schemesIn
+listed-joined : (t : List ℕ) → join_ids (listed_by t) ≡ listed_in t
+unfolding schemes_in
 listed-joined t =
-    let a : List ℕ = listedIn t in
+    let a : List ℕ = listed_in t in
     let w = shown-whole (front t) in
     ids-joined (length a / 16) a ∙ take_all (16 * (length a / 16)) a (omega arith)
 
-module _ (w : Record) (t l : List ℕ) (l-is : l ≡ listedIn t) where
-  pub lists-own-is : (b : Bool) → b ≡ sameOctets l (take (16 * w.count) w.list) → b ≡ same_list (listedBy t) (own_of w)
+module _ (w : Record) (t l : List ℕ) (l-is : l ≡ listed_in t) where
+  pub lists-own-is : (b : Bool) → b ≡ same_octets l (take (16 * w.count) w.list) → b ≡ same_list (listed_by t) (own_of w)
   lists-own-is b b-is =
-      b-is ∙ ap (λ (x : List ℕ). sameOctets x (take (16 * w.count) w.list)) (l-is ∙ sym (listed-joined t))
-      ∙ ap (sameOctets (joinIds (listedBy t))) (sym (ids-joined w.count w.list))
+      b-is ∙ ap (λ (x : List ℕ). same_octets x (take (16 * w.count) w.list)) (l-is ∙ sym (listed-joined t))
+      ∙ ap (same_octets (join_ids (listed_by t))) (sym (ids-joined w.count w.list))
 
 -- 3. the reply
 module _ (w : Record) (few : w.count ≤ 16) (list : length w.list ≡ 256) (marks : ℕ) (small : marks < 65536) (s : Schemes)
-    (s-is : s ≡ schemesOf (left (own_of w) (bit_and w.common (65535 - marks)) 0)) where
+    (s-is : s ≡ schemes_of (left (own_of w) (bit_and w.common (65535 - marks)) 0)) where
   abbrev own : List Id
   own = left (own_of w) w.common marks
 
-  gathered : s ≡ schemesOf own
-  gathered = s-is ∙ ap schemesOf (left_less 16 (own_of w) w.common marks (rw length_ids few) small)
+  gathered : s ≡ schemes_of own
+  gathered = s-is ∙ ap schemes_of (left_less 16 (own_of w) w.common marks (rw length_ids few) small)
 
   gathered-count : s.count ≡ length own
-  unfolding schemesOf
+  unfolding schemes_of
   gathered-count = ap (λ (x : Schemes). x.count) gathered
 
-  octets-are : take (16 * s.count) s.octets ≡ joinIds own
+  octets-are : take (16 * s.count) s.octets ≡ join_ids own
   octets-are = rw gathered (gathered-octets w.count w.list w.common marks (omega arith))
 
-  pub reply-none : s.count ≡ 0 → (t : List ℕ) → false ≡ someLeft (replied (withMarks marks w)) && same_list (listedBy t) (replied (withMarks marks w))
+  pub reply-none : s.count ≡ 0 → (t : List ℕ) → false ≡ some_left (replied (with_marks marks w)) && same_list (listed_by t) (replied (with_marks marks w))
   reply-none z t = go own (sym gathered-count ∙ z) where
-    go : (l : List Id) → length l ≡ 0 → false ≡ someLeft l && same_list (listedBy t) l
+    go : (l : List Id) → length l ≡ 0 → false ≡ some_left l && same_list (listed_by t) l
     go [] e = refl
     go (x ∷ l) e = absurd (omega arith)
 
-  joined_length : length (joinIds own) ≡ 16 * s.count
+  joined_length : length (join_ids own) ≡ 16 * s.count
   joined_length = join-length w.count w.list w.common marks (omega arith) ∙ ap (λ (k : ℕ). 16 * k) (sym gathered-count)
 
   pub reply-end : 16 * s.count ≤ length s.octets
   reply-end = omega (arith, length-take (16 * s.count) s.octets, ap length octets-are, joined_length)
 
-  pub reply-is : (s.count ≡ 0 → ⊥) → (t l : List ℕ) → l ≡ listedIn t → (b : Bool) → b ≡ sameOctets l (take (16 * s.count) s.octets)
-      → b ≡ someLeft (replied (withMarks marks w)) && same_list (listedBy t) (replied (withMarks marks w))
+  pub reply-is : (s.count ≡ 0 → ⊥) → (t l : List ℕ) → l ≡ listed_in t → (b : Bool) → b ≡ same_octets l (take (16 * s.count) s.octets)
+      → b ≡ some_left (replied (with_marks marks w)) && same_list (listed_by t) (replied (with_marks marks w))
   reply-is n t l l-is b b-is =
-      b-is ∙ ap (λ (x : List ℕ). sameOctets x (take (16 * s.count) s.octets)) (l-is ∙ sym (listed-joined t))
-      ∙ ap (sameOctets (joinIds (listedBy t))) octets-are ∙ go own (λ e. n (gathered-count ∙ e)) where
-        go : (k : List Id) → (length k ≡ 0 → ⊥) → same_list (listedBy t) k ≡ someLeft k && same_list (listedBy t) k
+      b-is ∙ ap (λ (x : List ℕ). same_octets x (take (16 * s.count) s.octets)) (l-is ∙ sym (listed-joined t))
+      ∙ ap (same_octets (join_ids (listed_by t))) octets-are ∙ go own (λ e. n (gathered-count ∙ e)) where
+        go : (k : List Id) → (length k ≡ 0 → ⊥) → same_list (listed_by t) k ≡ some_left k && same_list (listed_by t) k
         go [] h = absurd (h refl)
         go (x ∷ k) h = refl
 
@@ -138,36 +138,36 @@ pub ruleset lists = (lists-own-is, reply-none, reply-end, reply-is)
 
 -- 4. the choice
 module _ (w : Record) (few : w.count ≤ 16) (t : List ℕ) (long : 64 ≤ length t) (z : Left) (marks : ℕ)
-    (is : z ≡ left_of (openPlaces w.kept w.common marks)) where
+    (is : z ≡ left_of (open_places w.kept w.common marks)) where
   abbrev ks : List ℕ
-  ks = openTo w marks
+  ks = open_to w marks
 
   abbrev answer : Bool
-  answer = someLeft (named (own_of w) ks) && sameOctets (schemeIn t) (first_or (named (own_of w) ks))
+  answer = some_left (named (own_of w) ks) && same_octets (scheme_in t) (first_or (named (own_of w) ks))
 
   pub choice-none : z.left ≡ 0 → false ≡ answer
   choice-none h = rw (sym (open_none w.list w.count z ks is h))
 
   module _ (n : z.left ≡ 0 → ⊥) where
-    first-is : (someLeft (named (own_of w) ks) ≡ true) × (first_or (named (own_of w) ks) ≡ get_or (own_of w) z.place [])
+    first-is : (some_left (named (own_of w) ks) ≡ true) × (first_or (named (own_of w) ks) ≡ get_or (own_of w) z.place [])
     unfolding left_of
     first-is = go ks (λ e. n (ap (λ (x : Left). x.left) is ∙ e)) (ap (λ (x : Left). x.place) is) where
       go : (l : List ℕ) → (length l ≡ 0 → ⊥) → z.place ≡ get_or l 0 0
-          → (someLeft (named (own_of w) l) ≡ true) × (first_or (named (own_of w) l) ≡ get_or (own_of w) z.place [])
+          → (some_left (named (own_of w) l) ≡ true) × (first_or (named (own_of w) l) ≡ get_or (own_of w) z.place [])
       go [] h p = absurd (h refl)
       go (k ∷ l) h p = (refl, ap (λ (j : ℕ). get_or (own_of w) j []) (sym p))
 
-    sixteen : length (schemeIn t) ≡ 16
+    sixteen : length (scheme_in t) ≡ 16
     sixteen = length-take-le 16 (drop 40 t) (omega (arith, length-drop 40 t))
 
-    answer-is : answer ≡ sameOctets (schemeIn t) (get_or (own_of w) z.place [])
+    answer-is : answer ≡ same_octets (scheme_in t) (get_or (own_of w) z.place [])
     answer-is =
-        ap (λ (b : Bool). b && sameOctets (schemeIn t) (first_or (named (own_of w) ks))) first-is.0 ∙ ap (sameOctets (schemeIn t)) first-is.1
+        ap (λ (b : Bool). b && same_octets (scheme_in t) (first_or (named (own_of w) ks))) first-is.0 ∙ ap (same_octets (scheme_in t)) first-is.1
 
     pub choice-foreign : w.count ≤ z.place → false ≡ answer
     choice-foreign h =
-        sym (answer-is ∙ ap (sameOctets (schemeIn t)) (beyond (own_of w) z.place (omega (arith, length_ids w.count w.list)))
-        ∙ sym (same-sizes (schemeIn t) [] (λ e. omega (arith, sixteen)))) where
+        sym (answer-is ∙ ap (same_octets (scheme_in t)) (beyond (own_of w) z.place (omega (arith, length_ids w.count w.list)))
+        ∙ sym (same-sizes (scheme_in t) [] (λ e. omega (arith, sixteen)))) where
           beyond : (l : List Id) (k : ℕ) → length l ≤ k → get_or l k [] ≡ []
           beyond [] k g = refl
           beyond (x ∷ l) zero g = absurd (omega arith)
@@ -177,28 +177,28 @@ module _ (w : Record) (few : w.count ≤ 16) (t : List ℕ) (long : 64 ≤ lengt
       pub choice-part : length w.list ≡ 256 → 16 * z.place + 16 ≤ length w.list
       choice-part h = omega arith
 
-      pub choice-is : (b : Bool) → b ≡ sameId (take 16 (drop 40 t)) (octets 16 w.list (16 * z.place)) → b ≡ answer
+      pub choice-is : (b : Bool) → b ≡ same_id (take 16 (drop 40 t)) (octets 16 w.list (16 * z.place)) → b ≡ answer
       choice-is b b-is =
           let c : octets 16 w.list (16 * z.place) ≡ get_or (own_of w) z.place [] = sym (id-at w.count w.list z.place low) in
-          b-is ∙ ap (sameId (schemeIn t)) c ∙ id_same (schemeIn t) (get_or (own_of w) z.place []) sixteen ∙ sym answer-is
+          b-is ∙ ap (same_id (scheme_in t)) c ∙ id_same (scheme_in t) (get_or (own_of w) z.place []) sixteen ∙ sym answer-is
 
 pub ruleset choices = (choice-none, choice-foreign, choice-part, choice-is)
 
 -- 5. by what there is to write
 module _ (w : Record) (marks : ℕ) (t : List ℕ) (token : ℕ) (token-is : token ≡ writes w) where
-  pub owes-first : token ≡ 0 → (b : Bool) → b ≡ same_list (listedBy t) (own_of w) → b ≡ owed marks w t
+  pub owes-first : token ≡ 0 → (b : Bool) → b ≡ same_list (listed_by t) (own_of w) → b ≡ owed marks w t
   unfolding owed
   owes-first e b b-is = rw (eq-eqb (writes w) 0 (sym token-is ∙ e)) b-is
 
   module _ (n : token ≡ 0 → ⊥) where
-    pub owes-reply : token ≡ 1 → (b : Bool) → b ≡ (someLeft (replied (withMarks marks w)) && same_list (listedBy t) (replied (withMarks marks w)))
+    pub owes-reply : token ≡ 1 → (b : Bool) → b ≡ (some_left (replied (with_marks marks w)) && same_list (listed_by t) (replied (with_marks marks w)))
         → b ≡ owed marks w t
     unfolding owed
     owes-reply e b b-is = rw (ne_eqb (writes w) 0 (λ q. n (token-is ∙ q)), eq-eqb (writes w) 1 (sym token-is ∙ e)) b-is
 
-    module _ (k : token ≡ 1 → ⊥) (c : Bool) (c-is : c ≡ mayChoose w) where
+    module _ (k : token ≡ 1 → ⊥) (c : Bool) (c-is : c ≡ may_choose w) where
       pub owes-choice : c ≡ true → (b : Bool) → b
-          ≡ (someLeft (named (own_of w) (openTo w marks)) && sameOctets (schemeIn t) (first_or (named (own_of w) (openTo w marks)))) → b ≡ owed marks w t
+          ≡ (some_left (named (own_of w) (open_to w marks)) && same_octets (scheme_in t) (first_or (named (own_of w) (open_to w marks)))) → b ≡ owed marks w t
       unfolding owed
       owes-choice e b b-is = rw (ne_eqb (writes w) 0 (λ q. n (token-is ∙ q)), ne_eqb (writes w) 1 (λ q. k (token-is ∙ q)), sym c-is ∙ e) b-is
 

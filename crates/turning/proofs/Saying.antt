@@ -14,24 +14,24 @@ use Rattle.message.specs.declared.Header.{Header}
 use Rattle.message.specs.declared.Read.{Read}
 use Rattle.message.specs.declared.Read.TheVariants as answer
 use Rattle.message.specs.Layout.{head_of, size, front}
-use Rattle.message.specs.Check.{commonRows, said as answered, headerVerdict}
+use Rattle.message.specs.Check.{common_rows, said as answered, header_verdict}
 use Rattle.schemes.specs.Lists.{place}
-use Rattle.schemes.specs.Answers.{withBit}
+use Rattle.schemes.specs.Answers.{with_bit}
 use Rattle.conversation.specs.declared.Record.{Record}
 use Rattle.conversation.specs.State.{own_of}
-use Rattle.conversation.specs.Turns.{ANSWER, class_of, writing, writes, placeAfter}
+use Rattle.conversation.specs.Turns.{ANSWER, class_of, writing, writes, place_after}
 use Rattle.conversation.specs.Outcomes.{unchanged, wrote}
-use Rattle.conversation.specs.Admitting.{schemeIn}
-use Rattle.conversation.specs.Choosing.{chose, mayChoose}
-use Rattle.sides.specs.Merging.{messagesOf}
-use Rattle.sides.specs.Turning.{withMarks, begun, saidAs, said, said_all, spoke}
+use Rattle.conversation.specs.Admitting.{scheme_in}
+use Rattle.conversation.specs.Choosing.{chose, may_choose}
+use Rattle.sides.specs.Merging.{messages_of}
+use Rattle.sides.specs.Turning.{with_marks, begun, said_as, said, said_all, spoke}
 use Rattle.merging.proofs.Cuts.{header-fits, header-size, header-long, header-left, header_refused}
 use Rattle.merging.proofs.Runs.{messages-on, messages-none}
 
 -- 1. one message
 
-abbrev saidBy : Record → ℕ → ℕ → Bool → Record
-saidBy r told requested attested = record {
+abbrev said_by : Record → ℕ → ℕ → Bool → Record
+said_by r told requested attested = record {
   acceptor = r.acceptor;
   stage = r.stage;
   position = r.position;
@@ -53,27 +53,27 @@ saidBy r told requested attested = record {
 module _ (w : Record) (m : List ℕ) (type : ℕ) (type-is : type ≡ le 4 m 8) (kind : ℕ) (kind-is : kind ≡ class_of w.acceptor type) (token : ℕ)
     (token-is : token ≡ writing w.acceptor w.stage) where
   pub say-is : (told : ℕ) → told ≡ cond (eqb kind 2 && ltb (place (own_of w) (take 16 (drop 40 m))) w.count)
-      (withBit w.metadata (place (own_of w) (take 16 (drop 40 m)))) w.metadata
+      (with_bit w.metadata (place (own_of w) (take 16 (drop 40 m)))) w.metadata
       → (requested : ℕ) → requested ≡ cond (eqb kind 3 && eqb token 0) 0 w.requested → (attested : Bool) → attested ≡ (eqb kind 4 || w.attested)
-      → (next : Record) → next ≡ wrote w (placeAfter w kind) (length m) (unchanged w) → saidBy next told requested attested ≡ said w m
+      → (next : Record) → next ≡ wrote w (place_after w kind) (length m) (unchanged w) → said_by next told requested attested ≡ said w m
   unfolding said head_of
   say-is told told_is requested requested-is attested attested-is next next-is =
       let a : requested ≡ cond (eqb kind 3 && eqb (writes w) 0) 0 w.requested =
       requested-is ∙ ap (λ (k : ℕ). cond (eqb kind 3 && eqb k 0) 0 w.requested) token-is in
-      ap (λ (r : Record). saidBy r told requested attested) next-is
-      ∙ ap (λ (k : ℕ). saidBy (wrote w (placeAfter w kind) (length m) (unchanged w)) k requested attested) told_is
-      ∙ ap (λ (k : ℕ). saidBy (wrote w (placeAfter w kind) (length m) (unchanged w)) (saidAs w kind (schemeIn m)).metadata k attested) a
-      ∙ ap (λ (b : Bool). saidBy (wrote w (placeAfter w kind) (length m) (unchanged w)) (saidAs w kind (schemeIn m)).metadata
-      (saidAs w kind (schemeIn m)).requested b) attested-is
-      ∙ ap (λ (k : ℕ). wrote w (placeAfter w k) (length m) (saidAs w k (schemeIn m))) (kind-is ∙ ap (class_of w.acceptor) type-is)
+      ap (λ (r : Record). said_by r told requested attested) next-is
+      ∙ ap (λ (k : ℕ). said_by (wrote w (place_after w kind) (length m) (unchanged w)) k requested attested) told_is
+      ∙ ap (λ (k : ℕ). said_by (wrote w (place_after w kind) (length m) (unchanged w)) (said_as w kind (scheme_in m)).metadata k attested) a
+      ∙ ap (λ (b : Bool). said_by (wrote w (place_after w kind) (length m) (unchanged w)) (said_as w kind (scheme_in m)).metadata
+      (said_as w kind (scheme_in m)).requested b) attested-is
+      ∙ ap (λ (k : ℕ). wrote w (place_after w k) (length m) (said_as w k (scheme_in m))) (kind-is ∙ ap (class_of w.acceptor) type-is)
 
 -- 2. a turn
 
 begun-keeps : (m : ℕ) (w : Record) → ((begun m w).count ≡ w.count) × (((begun m w).sequence ≡ w.sequence) × ((begun m w).used ≡ w.used))
 unfolding begun
-begun-keeps m w = go (mayChoose w) (eqb (writes w) ANSWER) where
-  go : (a b : Bool) → ((cond a (chose w m) (cond b (withMarks m w) w)).count ≡ w.count)
-      × (((cond a (chose w m) (cond b (withMarks m w) w)).sequence ≡ w.sequence) × ((cond a (chose w m) (cond b (withMarks m w) w)).used ≡ w.used))
+begun-keeps m w = go (may_choose w) (eqb (writes w) ANSWER) where
+  go : (a b : Bool) → ((cond a (chose w m) (cond b (with_marks m w) w)).count ≡ w.count)
+      × (((cond a (chose w m) (cond b (with_marks m w) w)).sequence ≡ w.sequence) × ((cond a (chose w m) (cond b (with_marks m w) w)).used ≡ w.used))
   go true b = (refl, (refl, refl))
   go false true = (refl, (refl, refl))
   go false false = (refl, (refl, refl))
@@ -82,7 +82,7 @@ pub record SpeakOn (t : List ℕ) (s₀ s : Record) (rest : List ℕ) : Type 0 w
   pub few : s.count ≤ 16
   pub numbers : 64 * s.sequence ≤ s.used
   pub room : s.used + length rest ≤ 65535
-  pub come : said_all s₀ (messagesOf t) ≡ said_all s (messagesOf rest)
+  pub come : said_all s₀ (messages_of t) ≡ said_all s (messages_of rest)
 
 pub speak-begins : (w : Record) (m : ℕ) (t : List ℕ) → (w.count ≤ 16) × (64 * w.sequence ≤ w.used) × (w.used + length t ≤ 65535) → (s : Record)
     → s ≡ begun m w → SpeakOn t s s t
@@ -98,26 +98,26 @@ unfolding said_all
 one-said s m ms = refl
 
 -- what the last record is
-spoken : (w : Record) (m : ℕ) (t : List ℕ) (s₀ : Record) → s₀ ≡ begun m w → (s : Record) → said_all s₀ (messagesOf t) ≡ s
-    → s ≡ spoke m w (messagesOf t)
-spoken w m t s₀ is s e = sym e ∙ ap (λ (r : Record). said_all r (messagesOf t)) is
+spoken : (w : Record) (m : ℕ) (t : List ℕ) (s₀ : Record) → s₀ ≡ begun m w → (s : Record) → said_all s₀ (messages_of t) ≡ s
+    → s ≡ spoke m w (messages_of t)
+spoken w m t s₀ is s e = sym e ∙ ap (λ (r : Record). said_all r (messages_of t)) is
 
 module _ (t : List ℕ) (s₀ s : Record) (rest : List ℕ) (on : SpeakOn t s₀ s rest) where
   module _ (w : Record) (marks : ℕ) (s₀-is : s₀ ≡ begun marks w) where
-    none_left : messagesOf rest ≡ [] → s ≡ spoke marks w (messagesOf t)
+    none_left : messages_of rest ≡ [] → s ≡ spoke marks w (messages_of t)
     none_left e = spoken w marks t s₀ s₀-is s (on.come ∙ ap (said_all s) e ∙ (unfold said_all in refl))
 
-    pub speak-ends : length rest ≤ 0 → s ≡ spoke marks w (messagesOf t)
-    unfolding commonRows
+    pub speak-ends : length rest ≤ 0 → s ≡ spoke marks w (messages_of t)
+    unfolding common_rows
     speak-ends h = none_left (go rest h) where
-      go : (l : List ℕ) → length l ≤ 0 → messagesOf l ≡ []
+      go : (l : List ℕ) → length l ≤ 0 → messages_of l ≡ []
       go [] z = messages-none [] refl
       go (x ∷ l) z = absurd (omega arith)
 
-    pub speak-stops : (m : Read) → answered m ≡ headerVerdict rest → (n : ℕ) → m ≡ answer.Refused n → s ≡ spoke marks w (messagesOf t)
+    pub speak-stops : (m : Read) → answered m ≡ header_verdict rest → (n : ℕ) → m ≡ answer.Refused n → s ≡ spoke marks w (messages_of t)
     speak-stops m m-is n e = none_left (messages-none rest (header_refused rest m m-is n e).0)
 
-  module _ (m : Read) (m-is : answered m ≡ headerVerdict rest) (h : Header) (m-reads : m ≡ answer.Message h) where
+  module _ (m : Read) (m-is : answered m ≡ header_verdict rest) (h : Header) (m-reads : m ≡ answer.Message h) where
     long : (64 ≤ h.length) × (h.length ≤ length rest)
     long = header-long rest m m-is h m-reads
 
@@ -151,10 +151,10 @@ module _ (t : List ℕ) (s₀ s : Record) (rest : List ℕ) (on : SpeakOn t s₀
           come =
               on.come
               ∙ ap (said_all s) (messages-on rest (header-fits rest m m-is h m-reads))
-              ∙ one-said s (front rest) (messagesOf (drop (size rest) rest))
-              ∙ ap (λ (k : ℕ). said_all (said s (take k rest)) (messagesOf (drop k rest))) size_is
-              ∙ ap (λ (r : Record). said_all r (messagesOf (drop h.length rest))) (sym s'-is)
-              ∙ ap (λ (l : List ℕ). said_all s' (messagesOf l)) (sym (tail_all rest h.length));
+              ∙ one-said s (front rest) (messages_of (drop (size rest) rest))
+              ∙ ap (λ (k : ℕ). said_all (said s (take k rest)) (messages_of (drop k rest))) size_is
+              ∙ ap (λ (r : Record). said_all r (messages_of (drop h.length rest))) (sym s'-is)
+              ∙ ap (λ (l : List ℕ). said_all s' (messages_of l)) (sym (tail_all rest h.length));
         }
 
 pub ruleset sayings = (speak-begins, speak-ends, speak-stops, speak-part, speak-few, speak-number, speak-room, speak-long, speak-on)

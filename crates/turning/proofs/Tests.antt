@@ -8,20 +8,20 @@ use native.Mathlib.Omega.{arith}
 use lib.ListN.{length}
 use lib.Dec.{eqb, ltb}
 use borrow.Author.Tests.{eq-eqb, ne_eqb, le-ltb, lt-ltb}
-use Rattle.message.specs.Show.{idsAt}
+use Rattle.message.specs.Show.{ids_at}
 use Rattle.schemes.specs.Lists.{place}
-use Rattle.schemes.specs.Answers.{left_of, withBit}
+use Rattle.schemes.specs.Answers.{left_of, with_bit}
 use Rattle.schemes.specs.declared.Left.{Left}
 use Rattle.conversation.specs.declared.Record.{Record}
 use Rattle.conversation.specs.State.{own_of}
-use Rattle.conversation.specs.Choosing.{openTo, firstPlace, chose, mayChoose}
+use Rattle.conversation.specs.Choosing.{open_to, first_place, chose, may_choose}
 use Rattle.conversation.specs.Turns.{writes}
-use Rattle.sides.specs.Turning.{withMarks, begun}
+use Rattle.sides.specs.Turning.{with_marks, begun}
 
-pub may-choose : (w : Record) → w.acceptor ≡ false → eqb w.stage 2 ≡ mayChoose w
+pub may-choose : (w : Record) → w.acceptor ≡ false → eqb w.stage 2 ≡ may_choose w
 may-choose w e = rw e
 
-pub may-not-choose : (w : Record) → w.acceptor ≡ true → false ≡ mayChoose w
+pub may-not-choose : (w : Record) → w.acceptor ≡ true → false ≡ may_choose w
 may-not-choose w e = rw e
 
 module _ (early : Bool) (place requested : ℕ) where
@@ -53,25 +53,25 @@ pub ruleset flags =
 
 -- the first open place
 module _ (ks : List ℕ) (z : Left) (is : z ≡ left_of ks) where
-  pub open_none : z.left ≡ 0 → 255 ≡ firstPlace ks
+  pub open_none : z.left ≡ 0 → 255 ≡ first_place ks
   unfolding left_of
   open_none h = go ks (sym (ap (λ (x : Left). x.left) is) ∙ h) where
-    go : (l : List ℕ) → length l ≡ 0 → 255 ≡ firstPlace l
+    go : (l : List ℕ) → length l ≡ 0 → 255 ≡ first_place l
     go [] e = refl
     go (k ∷ l) e = absurd (omega arith)
 
-  pub open-first : (z.left ≡ 0 → ⊥) → z.place ≡ firstPlace ks
+  pub open-first : (z.left ≡ 0 → ⊥) → z.place ≡ first_place ks
   unfolding left_of
   open-first h = ap (λ (x : Left). x.place) is ∙ go ks (λ e. h (ap (λ (x : Left). x.left) is ∙ e)) where
-    go : (l : List ℕ) → (length l ≡ 0 → ⊥) → (left_of l).place ≡ firstPlace l
+    go : (l : List ℕ) → (length l ≡ 0 → ⊥) → (left_of l).place ≡ first_place l
     go [] g = absurd (g refl)
     go (k ∷ l) g = refl
 
 pub ruleset opens = (open_none, open-first)
 
 -- the record after the choice, and the one in which a turn begins
-abbrev chosenAs : Record → ℕ → ℕ → Bool → Bool → Record
-chosenAs w marks place attested confirmed = record {
+abbrev chosen_as : Record → ℕ → ℕ → Bool → Bool → Record
+chosen_as w marks place attested confirmed = record {
   acceptor = w.acceptor;
   stage = 3;
   position = 0;
@@ -90,14 +90,14 @@ chosenAs w marks place attested confirmed = record {
   used = w.used;
 }
 
-pub chosen_is : (w : Record) (marks place : ℕ) (v h : Bool) → place ≡ firstPlace (openTo w marks) → v ≡ (w.attested && eqb place w.requested)
-    → h ≡ (w.confirmed && eqb place w.requested) → chosenAs w marks place v h ≡ chose w marks
+pub chosen_is : (w : Record) (marks place : ℕ) (v h : Bool) → place ≡ first_place (open_to w marks) → v ≡ (w.attested && eqb place w.requested)
+    → h ≡ (w.confirmed && eqb place w.requested) → chosen_as w marks place v h ≡ chose w marks
 chosen_is w marks place v h p-is v-is h-is =
-    ap (λ (x : Bool). chosenAs w marks place x h) v-is
-    ∙ ap (λ (x : Bool). chosenAs w marks place (w.attested && eqb place w.requested) x) h-is
-    ∙ ap (λ (k : ℕ). chosenAs w marks k (w.attested && eqb k w.requested) (w.confirmed && eqb k w.requested)) p-is
+    ap (λ (x : Bool). chosen_as w marks place x h) v-is
+    ∙ ap (λ (x : Bool). chosen_as w marks place (w.attested && eqb place w.requested) x) h-is
+    ∙ ap (λ (k : ℕ). chosen_as w marks k (w.attested && eqb k w.requested) (w.confirmed && eqb k w.requested)) p-is
 
-module _ (w : Record) (marks : ℕ) (b : Bool) (b-is : b ≡ mayChoose w) where
+module _ (w : Record) (marks : ℕ) (b : Bool) (b-is : b ≡ may_choose w) where
   pub begun-chosen : b ≡ true → (r : Record) → r ≡ chose w marks → r ≡ begun marks w
   unfolding begun
   begun-chosen e r r-is = rw (sym b-is ∙ e) r-is
@@ -107,7 +107,7 @@ module _ (w : Record) (marks : ℕ) (b : Bool) (b-is : b ≡ mayChoose w) where
     unfolding begun
     begun-same h = rw (sym b-is ∙ e, ne_eqb (writes w) 1 (λ z. h (token-is ∙ z)))
 
-    pub begun-marked : token ≡ 1 → withMarks marks w ≡ begun marks w
+    pub begun-marked : token ≡ 1 → with_marks marks w ≡ begun marks w
     unfolding begun
     begun-marked h = rw (sym b-is ∙ e, eq-eqb (writes w) 1 (sym token-is ∙ h))
 
@@ -115,20 +115,20 @@ pub ruleset begins = (chosen_is, begun-chosen, begun-same, begun-marked)
 
 -- metadata that is told
 module _ (w : Record) (kind : ℕ) (id : List ℕ) where
-  abbrev toldThen : ℕ
-  toldThen = cond (eqb kind 2 && ltb (place (own_of w) id) w.count) (withBit w.metadata (place (own_of w) id)) w.metadata
+  abbrev told_then : ℕ
+  told_then = cond (eqb kind 2 && ltb (place (own_of w) id) w.count) (with_bit w.metadata (place (own_of w) id)) w.metadata
 
-  pub told-other : (kind ≡ 2 → ⊥) → w.metadata ≡ toldThen
+  pub told-other : (kind ≡ 2 → ⊥) → w.metadata ≡ told_then
   told-other h = rw (ne_eqb _ _ h)
 
-  module _ (m : kind ≡ 2) (k : ℕ) (k-is : k ≡ place (idsAt w.count w.list) id) where
-    pub told-foreign : w.count ≤ k → w.metadata ≡ toldThen
+  module _ (m : kind ≡ 2) (k : ℕ) (k-is : k ≡ place (ids_at w.count w.list) id) where
+    pub told-foreign : w.count ≤ k → w.metadata ≡ told_then
     told-foreign h = rw (eq-eqb _ _ m, le-ltb (place (own_of w) id) w.count (let z : w.count ≤ place (own_of w) id = omega arith in z))
 
-    pub told-own : k < w.count → (x : ℕ) → x ≡ withBit w.metadata k → x ≡ toldThen
+    pub told-own : k < w.count → (x : ℕ) → x ≡ with_bit w.metadata k → x ≡ told_then
     told-own h x x-is =
         rw (eq-eqb _ _ m, lt-ltb (place (own_of w) id) w.count (let z : place (own_of w) id < w.count = omega arith in z))
-        (x-is ∙ ap (withBit w.metadata) k-is)
+        (x-is ∙ ap (with_bit w.metadata) k-is)
 
 pub list-room : (w : Record) → w.count ≤ 16 → (l : List ℕ) → l ≡ w.list → length l ≡ 256 → w.count * 16 ≤ length l
 list-room w h l e n = omega arith

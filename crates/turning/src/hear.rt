@@ -1,8 +1,8 @@
 // What a turn's reader answers, with 28 after the first message's 15.
 ghost use Rattle.std.specs.Prelude.{◌≡◌, ◌≤◌, length};
 ghost use Rattle.conversation.specs.Outcomes.{leaving};
-ghost use Rattle.sides.specs.Turning.{heardTurn};
-ghost use Rattle.turning.specs.Hearing.{owedBefore};
+ghost use Rattle.sides.specs.Turning.{heard_turn};
+ghost use Rattle.turning.specs.Hearing.{owed_before};
 
 use calls::answer;
 use conversation::{Answer, Record};
@@ -11,7 +11,7 @@ use vector::TokenPlace;
 
 // The refusal of the first message, or else 28: a later message's and 16 come after it.
 fn owed_before(r: Record, a: Answer) -> Answer
-    ensures { result ≡ owedBefore r a }
+    ensures { result ≡ owed_before r a }
 {
     if a.refusal == 16 {
         return answer(28, TokenPlace(0), r);
@@ -25,7 +25,7 @@ fn owed_before(r: Record, a: Answer) -> Answer
 // A turn, read into its reader's record; `good` says that its first message is what its writer's list and marks give.
 pub fn hear(good: bool, r: Record, transcript: &mut [u8], t: &[u8]) -> Answer
     requires { 64 ≤ length t.now }
-    ensures { leaving result transcript.new ≡ heardTurn good r transcript.old t.now }
+    ensures { leaving result transcript.new ≡ heard_turn good r transcript.old t.now }
 {
     if good {
         return read(r, transcript, t);

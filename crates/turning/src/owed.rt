@@ -1,12 +1,12 @@
 // 28: whether the first message of a turn is what its writer's list and marks give.
 ghost use Rattle.std.specs.Prelude.{◌≡◌, not, ◌&&◌, ◌≤◌, length, take, eqb};
-ghost use Rattle.octets.specs.Octets.{sameOctets};
+ghost use Rattle.octets.specs.Octets.{same_octets};
 ghost use Rattle.schemes.specs.Sets.{named};
 ghost use Rattle.conversation.specs.State.{own_of, replied};
-ghost use Rattle.conversation.specs.Writing.{someLeft, first_or};
-ghost use Rattle.conversation.specs.Admitting.{schemeIn, listedBy};
-ghost use Rattle.conversation.specs.Choosing.{openTo, mayChoose};
-ghost use Rattle.sides.specs.Turning.{same_list, withMarks, owed};
+ghost use Rattle.conversation.specs.Writing.{some_left, first_or};
+ghost use Rattle.conversation.specs.Admitting.{scheme_in, listed_by};
+ghost use Rattle.conversation.specs.Choosing.{open_to, may_choose};
+ghost use Rattle.sides.specs.Turning.{same_list, with_marks, owed};
 
 use admitting::fits::same_at;
 use admitting::named::listed;
@@ -21,7 +21,7 @@ const SCHEME_END: usize = field::SCHEME + field::ID;
 
 // Whether octets are the same, one by one.
 fn same_all(a: &[u8], b: &[u8]) -> bool
-    ensures { result ≡ sameOctets a.now b.now }
+    ensures { result ≡ same_octets a.now b.now }
 {
     if a.len() != b.len() {
         return false;
@@ -39,7 +39,7 @@ fn same_all(a: &[u8], b: &[u8]) -> bool
 // Whether octets are the first n of a list, where it stands.
 fn same_front(a: &[u8], list: &[u8], n: usize) -> bool
     requires { n ≤ length list.now }
-    ensures { result ≡ sameOctets a.now (take n list.now) }
+    ensures { result ≡ same_octets a.now (take n list.now) }
 {
     same_all(a, &list[..n])
 }
@@ -47,7 +47,7 @@ fn same_front(a: &[u8], list: &[u8], n: usize) -> bool
 // Whether a NEGO lists its writer's own schemes, in its order.
 fn lists_own(w: Record, t: &[u8]) -> bool
     requires { w.count ≤ 16 }
-    ensures { result ≡ same_list (listedBy t.now) (own_of w) }
+    ensures { result ≡ same_list (listed_by t.now) (own_of w) }
 {
     same_front(listed(t), &w.list, field::ID * w.count)
 }
@@ -55,7 +55,7 @@ fn lists_own(w: Record, t: &[u8]) -> bool
 // Whether a NEGO lists the common schemes less the marks, in its writer's order, and there are some.
 fn lists_reply(w: Record, marks: u16, t: &[u8]) -> bool
     requires { w.count ≤ 16 }
-    ensures { result ≡ (someLeft (replied (withMarks marks w)) && same_list (listedBy t.now) (replied (withMarks marks w))) }
+    ensures { result ≡ (some_left (replied (with_marks marks w)) && same_list (listed_by t.now) (replied (with_marks marks w))) }
 {
     let list = w.list;
     let schemes = gather(list, w.count, w.common & !marks);
@@ -70,8 +70,8 @@ fn lists_reply(w: Record, marks: u16, t: &[u8]) -> bool
 // Whether a message names the first scheme of the reply that its writer has left, and there is one.
 fn names_choice(w: Record, marks: u16, t: &[u8]) -> bool
     requires { (w.count ≤ 16) × (64 ≤ length t.now) }
-    ensures { result ≡ (someLeft (named (own_of w) (openTo w marks)) && sameOctets (schemeIn t.now)
-        (first_or (named (own_of w) (openTo w marks)))) }
+    ensures { result ≡ (some_left (named (own_of w) (open_to w marks)) && same_octets (scheme_in t.now)
+        (first_or (named (own_of w) (open_to w marks)))) }
 {
     let kept = w.kept;
     let left = choose_kept(kept, w.common, marks);
@@ -87,7 +87,7 @@ fn names_choice(w: Record, marks: u16, t: &[u8]) -> bool
 
 // Whether a record may choose.
 pub(crate) fn may_choose(w: Record) -> bool
-    ensures { result ≡ mayChoose w }
+    ensures { result ≡ may_choose w }
 {
     if w.acceptor {
         return false;

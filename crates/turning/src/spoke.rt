@@ -1,10 +1,10 @@
 // The writer's record after its turn, as if it had written it.
 ghost use Rattle.std.specs.Prelude.{◌≡◌, cond, ◌&&◌, ◌||◌, ◌+◌, ◌*◌, ◌≤◌, length, eqb, ltb};
 ghost use Rattle.schemes.specs.Lists.{place};
-ghost use Rattle.schemes.specs.Answers.{withBit};
+ghost use Rattle.schemes.specs.Answers.{with_bit};
 ghost use Rattle.conversation.specs.State.{own_of};
-ghost use Rattle.conversation.specs.Choosing.{openTo, firstPlace, chose};
-ghost use Rattle.sides.specs.Merging.{messagesOf};
+ghost use Rattle.conversation.specs.Choosing.{open_to, first_place, chose};
+ghost use Rattle.sides.specs.Merging.{messages_of};
 ghost use Rattle.sides.specs.Turning.{begun, said, spoke};
 
 use super::owed::may_choose;
@@ -22,7 +22,7 @@ const SCHEME_END: usize = field::SCHEME + field::ID;
 
 // The first place that is open to a choice, or none.
 fn first_open(w: Record, marks: u16) -> usize
-    ensures { result ≡ firstPlace (openTo w marks) }
+    ensures { result ≡ first_place (open_to w marks) }
 {
     let kept = w.kept;
     let left = choose_kept(kept, w.common, marks);
@@ -76,7 +76,7 @@ fn begin(w: Record, marks: u16) -> Record
 fn metadata_after(w: Record, class: u8, id: &[u8]) -> u16
     requires { w.count ≤ 16 }
     ensures { result ≡ cond (eqb class 2 && ltb (place (own_of w) id.now) w.count)
-        (withBit w.metadata (place (own_of w) id.now)) w.metadata }
+        (with_bit w.metadata (place (own_of w) id.now)) w.metadata }
 {
     if class != Class::METADATA {
         return w.metadata;
@@ -131,7 +131,7 @@ fn say(w: Record, m: &[u8]) -> Record
 // The writer's record after its turn t.
 pub fn speak(w: Record, marks: u16, t: &[u8]) -> Record
     requires { (w.count ≤ 16) × (64 * w.sequence ≤ w.used) × (w.used + length t.now ≤ 65535) }
-    ensures { result ≡ spoke marks w (messagesOf t.now) }
+    ensures { result ≡ spoke marks w (messages_of t.now) }
 {
     let mut spoken = begin(w, marks);
     let mut rest = t;

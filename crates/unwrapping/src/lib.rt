@@ -1,5 +1,5 @@
 // Unwrapping a file: the lines of the envelope in it, and the listing of the NEGOEX token in that.
-ghost use Rattle.console.specs.Console.{holds};
+ghost use Rattle.console.specs.Console.{Holds};
 
 use console::{Loaded, load, print};
 use envelope_lines::{begun, envelope_text, token};
@@ -19,7 +19,7 @@ fn show(s: &[u8]) {
 
 // Writes what the envelope in the file with a name says to standard output, by way of a buffer that the caller lends.
 pub fn unwrap_file(name: &[u8], buf: &mut [u8]) -> Loaded
-    ensures { holds result buf.new }
+    ensures { Holds result buf.new }
 {
     let loaded = load(name, buf);
     match loaded {

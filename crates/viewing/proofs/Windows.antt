@@ -11,88 +11,88 @@ use lib.Dec.{leb}
 use mir.Syntax.{w64}
 use mir.Val.{SFits, to_z, of_z}
 use borrow.Author.Tests.{le-leb, lt-leb}
-use Rattle.token.specs.Token.{Reading, tokenOf}
-use Rattle.token.specs.Walk.{messagesOf, Accepts}
+use Rattle.token.specs.Token.{Reading, token_of}
+use Rattle.token.specs.Walk.{messages_of, Accepts}
 use Rattle.token.proofs.Walks.{accepted-short}
 use Rattle.put.specs.Put.{Written}
 use Rattle.entries.specs.declared.Entry.{Entry}
-use Rattle.entries.specs.Entries.{entriesOf, entryOctets}
-use Rattle.entries.specs.Lookup.{noEntry, Filled}
+use Rattle.entries.specs.Entries.{entries_of, entry_octets}
+use Rattle.entries.specs.Lookup.{no_entry, Filled}
 use Rattle.entries.proofs.Walked.{entries-few}
-use Rattle.replies.specs.Replies.{Reply, given, refused, and_then, readingReply, item_at, answer_of, lent, writtenIn}
+use Rattle.replies.specs.Replies.{Reply, given, refused, and_then, reading_reply, item_at, answer_of, lent, written_in}
 use Rattle.replies.proofs.Answers.{same}
 use Rattle.replies.proofs.Messages.{item-given, item_refused}
-use Rattle.viewing.specs.Viewing.{entryCountAnswer, entriesWindow, entriesAnswer}
+use Rattle.viewing.specs.Viewing.{entry_count_answer, entries_window, entries_answer}
 
-module _ (s : List ℕ) (a : Accepts s) (n : ℕ) (n-is : n ≡ length (entriesOf (messagesOf (tokenOf s)))) where
+module _ (s : List ℕ) (a : Accepts s) (n : ℕ) (n-is : n ≡ length (entries_of (messages_of (token_of s)))) where
   pub count_small : n < 2 ^ 63
-  count_small = omega (arith, entries-few s (messagesOf (tokenOf s)) a, accepted-short s a)
+  count_small = omega (arith, entries-few s (messages_of (token_of s)) a, accepted-short s a)
 
-  pub count-given : (z : ℤ) → SFits w64 z → z ≡ pos n → to_z w64 (of_z w64 z) ≡ entryCountAnswer s
+  pub count-given : (z : ℤ) → SFits w64 z → z ≡ pos n → to_z w64 (of_z w64 z) ≡ entry_count_answer s
   count-given z f e =
-      same z f (pos n) e ∙ ap pos n-is ∙ sym (ap (λ (r : Reading). answer_of (and_then (readingReply r) (λ ms. given (length (entriesOf ms))))) a)
+      same z f (pos n) e ∙ ap pos n-is ∙ sym (ap (λ (r : Reading). answer_of (and_then (reading_reply r) (λ ms. given (length (entries_of ms))))) a)
 
   module _ (k : ℕ) (d : List ℕ) where
-    answer-is : writtenIn d (entriesWindow (entriesOf (messagesOf (tokenOf s))) k (length d)) ≡ entriesAnswer s k d
-    answer-is = sym (ap (λ (r : Reading). writtenIn d (and_then (readingReply r) (λ ms. entriesWindow (entriesOf ms) k (length d)))) a)
+    answer-is : written_in d (entries_window (entries_of (messages_of (token_of s))) k (length d)) ≡ entries_answer s k d
+    answer-is = sym (ap (λ (r : Reading). written_in d (and_then (reading_reply r) (λ ms. entries_window (entries_of ms) k (length d)))) a)
 
-    pub entries-beyond : n ≤ k → (z : ℤ) → SFits w64 z → z ≡ neg_ℤ (pos 19) → lent (to_z w64 (of_z w64 z)) d ≡ entriesAnswer s k d
+    pub entries-beyond : n ≤ k → (z : ℤ) → SFits w64 z → z ≡ neg_ℤ (pos 19) → lent (to_z w64 (of_z w64 z)) d ≡ entries_answer s k d
     entries-beyond h z f e =
         ap (λ (x : ℤ). lent x d) (same z f (neg_ℤ (pos 19)) e)
         ∙ sym (ap
-        (λ (r : Reply Entry). writtenIn d
+        (λ (r : Reply Entry). written_in d
         (and_then r
-        (λ e. cond (leb 24 (length d)) (given (entryOctets (take (length d / 24) (drop k (entriesOf (messagesOf (tokenOf s))))))) (refused 16))))
-        (item_refused (entriesOf (messagesOf (tokenOf s))) k (omega arith)))
+        (λ e. cond (leb 24 (length d)) (given (entry_octets (take (length d / 24) (drop k (entries_of (messages_of (token_of s))))))) (refused 16))))
+        (item_refused (entries_of (messages_of (token_of s))) k (omega arith)))
         ∙ answer-is
 
     module _ (h : k < n) where
-      here : item_at (entriesOf (messagesOf (tokenOf s))) k ≡ given (get_or (entriesOf (messagesOf (tokenOf s))) k noEntry)
-      here = item-given (entriesOf (messagesOf (tokenOf s))) k noEntry (omega arith)
+      here : item_at (entries_of (messages_of (token_of s))) k ≡ given (get_or (entries_of (messages_of (token_of s))) k no_entry)
+      here = item-given (entries_of (messages_of (token_of s))) k no_entry (omega arith)
 
-      window-is : writtenIn d
-          (cond (leb 24 (length d)) (given (entryOctets (take (length d / 24) (drop k (entriesOf (messagesOf (tokenOf s))))))) (refused 16))
-          ≡ entriesAnswer s k d
+      window-is : written_in d
+          (cond (leb 24 (length d)) (given (entry_octets (take (length d / 24) (drop k (entries_of (messages_of (token_of s))))))) (refused 16))
+          ≡ entries_answer s k d
       window-is =
           sym (ap
-          (λ (r : Reply Entry). writtenIn d
+          (λ (r : Reply Entry). written_in d
           (and_then r
-          (λ e. cond (leb 24 (length d)) (given (entryOctets (take (length d / 24) (drop k (entriesOf (messagesOf (tokenOf s)))))))
+          (λ e. cond (leb 24 (length d)) (given (entry_octets (take (length d / 24) (drop k (entries_of (messages_of (token_of s)))))))
           (refused 16)))) here)
           ∙ answer-is
 
-      pub entries-full : length d < 24 → (z : ℤ) → SFits w64 z → z ≡ neg_ℤ (pos 16) → lent (to_z w64 (of_z w64 z)) d ≡ entriesAnswer s k d
+      pub entries-full : length d < 24 → (z : ℤ) → SFits w64 z → z ≡ neg_ℤ (pos 16) → lent (to_z w64 (of_z w64 z)) d ≡ entries_answer s k d
       entries-full g z f e = ap (λ (x : ℤ). lent x d) (same z f (neg_ℤ (pos 16)) e) ∙ sym (simp (lt-leb _ _ g)) ∙ window-is
 
-      pub entries-written : 24 ≤ length d → (d' : List ℕ) (r : ℕ) → Filled d 0 (drop k (entriesOf (messagesOf (tokenOf s)))) d' r → (z : ℤ)
-          → SFits w64 z → z ≡ pos r → lent (to_z w64 (of_z w64 z)) d' ≡ entriesAnswer s k d
+      pub entries-written : 24 ≤ length d → (d' : List ℕ) (r : ℕ) → Filled d 0 (drop k (entries_of (messages_of (token_of s)))) d' r → (z : ℤ)
+          → SFits w64 z → z ≡ pos r → lent (to_z w64 (of_z w64 z)) d' ≡ entries_answer s k d
       unfolding Filled
       entries-written g d' r w z f e =
           let room : length d - 0 ≡ length d = omega arith in
-          let A = take (length d / 24) (drop k (entriesOf (messagesOf (tokenOf s)))) in
-          let v : Written d 0 (24 * length A) (entryOctets A) d' r =
-          subst (λ (j : ℕ). Written d 0 (24 * length (take (j / 24) (drop k (entriesOf (messagesOf (tokenOf s))))))
-          (entryOctets (take (j / 24) (drop k (entriesOf (messagesOf (tokenOf s)))))) d' r) room w in
-          let r-is : r ≡ length (entryOctets A) = omega (arith, v.after, v.size) in
+          let A = take (length d / 24) (drop k (entries_of (messages_of (token_of s)))) in
+          let v : Written d 0 (24 * length A) (entry_octets A) d' r =
+          subst (λ (j : ℕ). Written d 0 (24 * length (take (j / 24) (drop k (entries_of (messages_of (token_of s))))))
+          (entry_octets (take (j / 24) (drop k (entries_of (messages_of (token_of s)))))) d' r) room w in
+          let r-is : r ≡ length (entry_octets A) = omega (arith, v.after, v.size) in
           ap (λ (x : ℤ). lent x d') (same z f (pos r) e)
           ∙ ap (λ (x : ℕ). lent (pos x) d') r-is
-          ∙ ap (lent (pos (length (entryOctets A)))) v.holds
+          ∙ ap (lent (pos (length (entry_octets A)))) v.holds
           ∙ sym (simp (le-leb _ _ g))
           ∙ window-is
 
 -- what is written are no more than all entries
-pub filled-short : (s : List ℕ) → Accepts s → (k : ℕ) (d d' : List ℕ) (r : ℕ) → Filled d 0 (drop k (entriesOf (messagesOf (tokenOf s)))) d' r
+pub filled-short : (s : List ℕ) → Accepts s → (k : ℕ) (d d' : List ℕ) (r : ℕ) → Filled d 0 (drop k (entries_of (messages_of (token_of s)))) d' r
     → r < 2 ^ 63
 unfolding Filled
 filled-short s a k d d' r w =
-    let es = entriesOf (messagesOf (tokenOf s)) in
+    let es = entries_of (messages_of (token_of s)) in
     omega (
       arith,
       w.after,
       length-take ((length d - 0) / 24) (drop k es),
       length-drop k es,
       entries-few s
-          (messagesOf (tokenOf s)) a,
+          (messages_of (token_of s)) a,
       accepted-short s a,
     )
 

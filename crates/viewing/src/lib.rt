@@ -1,11 +1,11 @@
 // What a viewer is answered of a token as entries: a number, or a refusal's number negated.
 ghost use Rattle.std.specs.Prelude.{◌≡◌, ◌∷◌, [], length, replicate};
 ghost use Rattle.token.specs.Walk.{Accepts};
-ghost use Rattle.blanking.specs.Masked.{coverageOf};
-ghost use Rattle.entries.specs.Entries.{entryOctets};
-ghost use Rattle.faults.specs.Faults.{faultOf};
-ghost use Rattle.replies.specs.Replies.{fits, lent, writtenIn};
-ghost use Rattle.viewing.specs.Viewing.{entryCountAnswer, entriesAnswer, faultAnswer, coverageAnswer, envelopePlaceAnswer, envelopeLengthAnswer};
+ghost use Rattle.blanking.specs.Masked.{coverage_of};
+ghost use Rattle.entries.specs.Entries.{entry_octets};
+ghost use Rattle.faults.specs.Faults.{fault_of};
+ghost use Rattle.replies.specs.Replies.{fits, lent, written_in};
+ghost use Rattle.viewing.specs.Viewing.{entry_count_answer, entries_answer, fault_answer, coverage_answer, envelope_place_answer, envelope_length_answer};
 
 use blanking::covering::cover;
 use entries::{SIZE, count_entries, put_entries, put_entry};
@@ -16,7 +16,7 @@ use token::{Answer, read_token};
 
 // The number of entries.
 pub fn entry_count(token: &[u8]) -> i64
-    ensures { result ≡ entryCountAnswer token.now }
+    ensures { result ≡ entry_count_answer token.now }
 {
     let reading = read_token(token);
     match reading {
@@ -28,7 +28,7 @@ pub fn entry_count(token: &[u8]) -> i64
 // Entries of an accepted token.
 fn fill_entries(token: &[u8], first: usize, buffer: &mut [u8]) -> i64
     requires { Accepts token.now }
-    ensures { lent result buffer.new ≡ entriesAnswer token.now first buffer.old }
+    ensures { lent result buffer.new ≡ entries_answer token.now first buffer.old }
 {
     if count_entries(token) <= first {
         return refusal(19);
@@ -41,7 +41,7 @@ fn fill_entries(token: &[u8], first: usize, buffer: &mut [u8]) -> i64
 
 // As many whole entries from number `first` on as fit, at the buffer's front.
 pub fn write_entries(token: &[u8], first: usize, buffer: &mut [u8]) -> i64
-    ensures { lent result buffer.new ≡ entriesAnswer token.now first buffer.old }
+    ensures { lent result buffer.new ≡ entries_answer token.now first buffer.old }
 {
     let reading = read_token(token);
     match reading {
@@ -52,8 +52,8 @@ pub fn write_entries(token: &[u8], first: usize, buffer: &mut [u8]) -> i64
 
 // The fault of a refused token.
 fn fill_fault(token: &[u8], buffer: &mut [u8]) -> i64
-    ensures { lent result buffer.new ≡ writtenIn buffer.old
-        (fits (length buffer.old) (entryOctets (faultOf token.now ∷ []))) }
+    ensures { lent result buffer.new ≡ written_in buffer.old
+        (fits (length buffer.old) (entry_octets (fault_of token.now ∷ []))) }
 {
     if buffer.len() < SIZE {
         return refusal(16);
@@ -63,7 +63,7 @@ fn fill_fault(token: &[u8], buffer: &mut [u8]) -> i64
 
 // The octets at fault, as one entry at the buffer's front; nothing where the token is accepted.
 pub fn write_fault(token: &[u8], buffer: &mut [u8]) -> i64
-    ensures { lent result buffer.new ≡ faultAnswer token.now buffer.old }
+    ensures { lent result buffer.new ≡ fault_answer token.now buffer.old }
 {
     let reading = read_token(token);
     match reading {
@@ -86,7 +86,7 @@ fn fill_ones(d: &mut [u8])
 // The coverage of an accepted token, in a mask as long as it.
 fn mask_token(token: &[u8], mask: &mut [u8])
     requires { Accepts token.now × (length mask.old ≡ length token.now) }
-    ensures { mask.new ≡ coverageOf token.now }
+    ensures { mask.new ≡ coverage_of token.now }
 {
     fill_ones(mask);
     cover(token, mask);
@@ -95,7 +95,7 @@ fn mask_token(token: &[u8], mask: &mut [u8])
 // The coverage of an accepted token.
 fn fill_coverage(token: &[u8], buffer: &mut [u8]) -> i64
     requires { Accepts token.now }
-    ensures { lent result buffer.new ≡ coverageAnswer token.now buffer.old }
+    ensures { lent result buffer.new ≡ coverage_answer token.now buffer.old }
 {
     let length = token.len();
     if buffer.len() < length {
@@ -107,7 +107,7 @@ fn fill_coverage(token: &[u8], buffer: &mut [u8]) -> i64
 
 // An octet for each of the token's: 1 where it is covered, 0 where nothing covers it.
 pub fn write_coverage(token: &[u8], buffer: &mut [u8]) -> i64
-    ensures { lent result buffer.new ≡ coverageAnswer token.now buffer.old }
+    ensures { lent result buffer.new ≡ coverage_answer token.now buffer.old }
 {
     let reading = read_token(token);
     match reading {
@@ -118,7 +118,7 @@ pub fn write_coverage(token: &[u8], buffer: &mut [u8]) -> i64
 
 // The place of the token in an envelope.
 pub fn envelope_place(envelope: &[u8]) -> i64
-    ensures { result ≡ envelopePlaceAnswer envelope.now }
+    ensures { result ≡ envelope_place_answer envelope.now }
 {
     let carried = find_token(envelope);
     match carried {
@@ -129,7 +129,7 @@ pub fn envelope_place(envelope: &[u8]) -> i64
 
 // Its length in octets.
 pub fn envelope_length(envelope: &[u8]) -> i64
-    ensures { result ≡ envelopeLengthAnswer envelope.now }
+    ensures { result ≡ envelope_length_answer envelope.now }
 {
     let carried = find_token(envelope);
     match carried {

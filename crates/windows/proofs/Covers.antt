@@ -15,7 +15,7 @@ use Rattle.put.specs.Put.{joined, put}
 use Rattle.put.proofs.Laws.{joined-append}
 use Rattle.text.proofs.Pieces.{take_put}
 use Rattle.windows.specs.declared.Shown.{Shown}
-use Rattle.windows.specs.Windows.{fitting, range, Window, asWindow, windowOf, text_of, Request, following, reached, EachShows, GetsOn, WindowsJoined, WindowsAll}
+use Rattle.windows.specs.Windows.{fitting, range, Window, as_window, window_of, text_of, Request, following, reached, EachShows, GetsOn, WindowsJoined, WindowsAll}
 use Rattle.windows.proofs.Windows.{fitting-room}
 
 -- what fits is the front of the lines
@@ -45,40 +45,40 @@ first_of ls first end h =
 
 module _ (ls : List (List ℕ)) (first end : ℕ) (d : List ℕ) where
   -- the lines that a window shows
-  shownBy : List (List ℕ)
-  shownBy = fitting (length d) (range first end ls)
+  shown_by : List (List ℕ)
+  shown_by = fitting (length d) (range first end ls)
 
-  lines_are : (windowOf ls first end d).lines ≡ length shownBy
-  unfolding windowOf shownBy
+  lines_are : (window_of ls first end d).lines ≡ length shown_by
+  unfolding window_of shown_by
   lines_are = refl
 
-  octets-are : (windowOf ls first end d).octets ≡ length (joined shownBy)
-  unfolding windowOf shownBy
+  octets-are : (window_of ls first end d).octets ≡ length (joined shown_by)
+  unfolding window_of shown_by
   octets-are = refl
 
-  text-is : text_of (windowOf ls first end d) ≡ joined shownBy
-  unfolding windowOf shownBy
+  text-is : text_of (window_of ls first end d) ≡ joined shown_by
+  unfolding window_of shown_by
   text-is =
       let fs = fitting (length d) (range first end ls) in
       let e : length (joined fs) ≡ 0 + length (joined fs) = omega arith in
       ap (λ (k : ℕ). take k (put d 0 (joined fs))) e ∙ take_put d 0 (joined fs) (omega (arith, fitting-room (length d) (range first end ls)))
 
   -- they are the lines from the first on, as many as the window has
-  front-is : shownBy ≡ take (windowOf ls first end d).lines (drop first ls)
-  unfolding windowOf shownBy
+  front-is : shown_by ≡ take (window_of ls first end d).lines (drop first ls)
+  unfolding window_of shown_by
   front-is =
       let n : length (fitting (length d) (range first end ls)) ≤ end - first =
       omega (arith, length-fitting (length d) (range first end ls), length-take (end - first) (drop first ls)) in
       fitting-front (length d) (range first end ls) ∙ take-take (length (fitting (length d) (range first end ls))) (end - first) (drop first ls) n
 
   -- what a window answers: octets of its buffer, lines of its range and of the whole
-  module _ (d' : List ℕ) (r : Shown) (is : asWindow r d' ≡ windowOf ls first end d) where
+  module _ (d' : List ℕ) (r : Shown) (is : as_window r d' ≡ window_of ls first end d) where
     pub window-octets : r.octets ≤ length d
-    unfolding shownBy
+    unfolding shown_by
     window-octets = omega (arith, ap (λ (w : Window). w.octets) is, octets-are, fitting-room (length d) (range first end ls))
 
     pub window-range : r.lines ≤ end - first
-    unfolding shownBy
+    unfolding shown_by
     window-range =
         omega (
           arith,
@@ -90,7 +90,7 @@ module _ (ls : List (List ℕ)) (first end : ℕ) (d : List ℕ) where
         )
 
     pub window-lines : r.lines ≤ length ls - first
-    unfolding shownBy
+    unfolding shown_by
     window-lines =
         omega (
           arith,
@@ -104,7 +104,7 @@ module _ (ls : List (List ℕ)) (first end : ℕ) (d : List ℕ) where
 
 -- a window whose buffer has room for its first line shows it
 pub gets-on : GetsOn
-unfolding shownBy
+unfolding shown_by
 gets-on ls first end d before inside h =
     let some : 0 < length (range first end ls) = omega (arith, length-take (end - first) (drop first ls), length-drop first ls) in
     let n : length (get_or (range first end ls) 0 []) ≤ length d = omega (arith, ap length (first_of ls first end some)) in
@@ -114,17 +114,17 @@ gets-on ls first end d before inside h =
 reached-on : (ls : List (List ℕ)) (first : ℕ) (qs : List Request) → first ≤ reached ls first qs
 unfolding reached
 reached-on ls first [] = omega arith
-reached-on ls first (q ∷ qs) = omega (arith, reached-on ls (first + (windowOf ls first q.end q.buffer).lines) qs)
+reached-on ls first (q ∷ qs) = omega (arith, reached-on ls (first + (window_of ls first q.end q.buffer).lines) qs)
 
 following-joined : (ls : List (List ℕ)) (first : ℕ) (qs : List Request)
     → following ls first qs ≡ joined (take (reached ls first qs - first) (drop first ls))
 unfolding following reached
 following-joined ls first [] = let e : 0 ≡ first - first = omega arith in ap (λ (k : ℕ). joined (take k (drop first ls))) e
 following-joined ls first (q ∷ qs) =
-    let k = (windowOf ls first q.end q.buffer).lines in
+    let k = (window_of ls first q.end q.buffer).lines in
     let far = reached ls (first + k) qs in
     let e : k + (far - (first + k)) ≡ far - first = omega (arith, reached-on ls (first + k) qs) in
-    ap (λ (x : List ℕ). text_of (windowOf ls first q.end q.buffer) ++ x) (following-joined ls (first + k) qs)
+    ap (λ (x : List ℕ). text_of (window_of ls first q.end q.buffer) ++ x) (following-joined ls (first + k) qs)
     ∙ ap (λ (x : List ℕ). x ++ joined (take (far - (first + k)) (drop (first + k) ls)))
     (text-is ls first q.end q.buffer ∙ ap joined (front-is ls first q.end q.buffer))
     ∙ ap (λ (x : List (List ℕ)). joined (take k (drop first ls)) ++ joined (take (far - (first + k)) x)) (sym (drop-drop k first ls))
@@ -140,17 +140,17 @@ pub reached-all : (ls : List (List ℕ)) (first : ℕ) (qs : List Request) → E
 unfolding reached EachShows
 reached-all ls first [] h g = omega arith
 reached-all ls first (q ∷ qs) h g =
-    go (which (leb (suc first) (length ls))) (reached-all ls (first + (windowOf ls first q.end q.buffer).lines) qs h.1) where
+    go (which (leb (suc first) (length ls))) (reached-all ls (first + (window_of ls first q.end q.buffer).lines) qs h.1) where
       go : (leb (suc first) (length ls) ≡ true) ⊎ (leb (suc first) (length ls) ≡ false)
-          → (length ls ≤ first + (windowOf ls first q.end q.buffer).lines + length qs
-          → length ls ≤ reached ls (first + (windowOf ls first q.end q.buffer).lines) qs)
-          → length ls ≤ reached ls (first + (windowOf ls first q.end q.buffer).lines) qs
+          → (length ls ≤ first + (window_of ls first q.end q.buffer).lines + length qs
+          → length ls ≤ reached ls (first + (window_of ls first q.end q.buffer).lines) qs)
+          → length ls ≤ reached ls (first + (window_of ls first q.end q.buffer).lines) qs
       go (inl e) ih =
           let more : suc first ≤ length ls = leb-true _ _ e in
           let some : first < length ls = omega arith in
           ih (omega (arith, h.0 some))
       go (inr e) ih =
-          let none : length ls < suc first = leb-false _ _ e in omega (arith, reached-on ls (first + (windowOf ls first q.end q.buffer).lines) qs)
+          let none : length ls < suc first = leb-false _ _ e in omega (arith, reached-on ls (first + (window_of ls first q.end q.buffer).lines) qs)
 
 pub windows-all : WindowsAll
 windows-all ls qs h g = windows-joined ls qs ∙ ap joined (take_all (reached ls 0 qs) ls (reached-all ls 0 qs h (omega arith)))

@@ -17,29 +17,29 @@ use Rattle.text.specs.Text.{Text, text, appended, written}
 use Rattle.put.proofs.Laws.{length-put}
 use Rattle.windows.specs.declared.Progress.{Progress}
 use Rattle.windows.specs.Windows.{texts}
-use Rattle.windows.specs.Steps.{State, within, state, placed, stepFrom, step, steps, Going}
+use Rattle.windows.specs.Steps.{State, within, state, placed, step_from, step, steps, Going}
 
 -- the answers of `put_line`
 module _ (p : Progress) (d l : List ℕ) where
   pub put-done : p.left ≡ 0 → within p d ≡ step (within p d) l
-  unfolding stepFrom
+  unfolding step_from
   put-done e = simp (eq-eqb _ _ e)
 
   module _ (more : p.left ≡ 0 → ⊥) where
     pub put-skip : (p.skip ≡ 0 → ⊥) → state (p.skip - 1) p.left p.lines p.octets d ≡ step (within p d) l
-    unfolding stepFrom
+    unfolding step_from
     put-skip e = simp (ne_eqb _ _ more, ne_eqb _ _ e)
 
     module _ (here : p.skip ≡ 0) (going : Going p (length d)) where
       pub put_full : length d - p.octets < length l → state 0 0 p.lines p.octets d ≡ step (within p d) l
-      unfolding stepFrom
+      unfolding step_from
       put_full h =
           let g : length d < p.octets + length l = omega (arith, going.within) in
           simp (ne_eqb _ _ more, eq-eqb _ _ here, lt-leb _ _ g)
 
       pub put-fits : length l ≤ length d - p.octets → (d' : List ℕ) (next : ℕ) → text d' next ≡ written (l ∷ []) (text d p.octets)
           → state 0 (p.left - 1) (p.lines + 1) next d' ≡ step (within p d) l
-      unfolding stepFrom written appended
+      unfolding step_from written appended
       put-fits h d' next e =
           let g : p.octets + length l ≤ length d = omega (arith, going.within) in
           let w : text d' next ≡ text (put d p.octets l) (p.octets + length l) = simp (le-leb _ _ g) at e in
@@ -50,7 +50,7 @@ pub ruleset puts = (put-done, put-skip, put_full, put-fits)
 
 -- a window stays inside its buffer, whose length stays
 step-length : (t : State) (l : List ℕ) → length (step t l).buffer ≡ length t.buffer
-unfolding stepFrom
+unfolding step_from
 step-length t l = go (eqb t.progress.left 0) (eqb t.progress.skip 0) (which (leb (t.progress.octets + length l) (length t.buffer))) where
   go : (a b : Bool)
       → (leb (t.progress.octets + length l) (length t.buffer) ≡ true) ⊎ (leb (t.progress.octets + length l) (length t.buffer) ≡ false)
@@ -64,7 +64,7 @@ step-length t l = go (eqb t.progress.left 0) (eqb t.progress.skip 0) (which (leb
   go false true (inr e) = rw e
 
 step-going : (t : State) (l : List ℕ) → Going t.progress (length t.buffer) → Going (step t l).progress (length t.buffer)
-unfolding stepFrom
+unfolding step_from
 step-going t l g =
     go (which (eqb t.progress.left 0)) (eqb t.progress.skip 0) (which (leb (t.progress.octets + length l) (length t.buffer))) where
       go : (eqb t.progress.left 0 ≡ true) ⊎ (eqb t.progress.left 0 ≡ false) → (b : Bool)
@@ -159,11 +159,11 @@ unfolding texts
 length-texts [] = refl
 length-texts (l ∷ ls) = ap suc (length-texts ls)
 
-pub getD-texts : (ls : List (List (List ℕ))) (i : ℕ) → get_or (texts ls) i [] ≡ joined (get_or ls i [])
+pub get_or-texts : (ls : List (List (List ℕ))) (i : ℕ) → get_or (texts ls) i [] ≡ joined (get_or ls i [])
 unfolding texts
-getD-texts [] i = refl
-getD-texts (l ∷ ls) zero = refl
-getD-texts (l ∷ ls) (suc i) = getD-texts ls i
+get_or-texts [] i = refl
+get_or-texts (l ∷ ls) zero = refl
+get_or-texts (l ∷ ls) (suc i) = get_or-texts ls i
 
 pub texts-append : (xs ys : List (List (List ℕ))) → texts (xs ++ ys) ≡ texts xs ++ texts ys
 unfolding texts

@@ -1,6 +1,6 @@
 // Windows of any lines: a caller goes through its lines in order, and `put_line` passes over, shows or leaves out each.
 ghost use Rattle.std.specs.Prelude.{◌≡◌, length};
-ghost use Rattle.windows.specs.Steps.{within, start_of, step, shownSoFar, Going};
+ghost use Rattle.windows.specs.Steps.{within, start_of, step, shown_so_far, Going};
 
 use text::append;
 
@@ -75,7 +75,7 @@ pub fn put_line(p: Progress, d: &mut [u8], line: &[u8]) -> Progress
 
 // What a window shows at its end.
 pub fn finish(p: Progress) -> Shown
-    ensures { result ≡ shownSoFar p }
+    ensures { result ≡ shown_so_far p }
 {
     Shown {
         lines: p.lines,

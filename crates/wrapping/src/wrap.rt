@@ -1,5 +1,5 @@
 // Wrapping a text: its lines in order, and the line that the writer answers with.
-ghost use Rattle.console.specs.Console.{holds};
+ghost use Rattle.console.specs.Console.{Holds};
 
 use super::draft::{Draft, bad, empty, started, with_octets, with_state};
 use bytes::scan::find;
@@ -138,7 +138,7 @@ fn wrap_front(buf: &[u8], n: usize) {
 
 // Wraps the text in the file with a name, by way of a buffer that the caller lends, and writes the answer to standard output.
 pub fn wrap_file(name: &[u8], buf: &mut [u8]) -> Loaded
-    ensures { holds result buf.new }
+    ensures { Holds result buf.new }
 {
     let loaded = load(name, buf);
     match loaded {

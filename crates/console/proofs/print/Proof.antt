@@ -6,7 +6,7 @@ use native.Mathlib.Omega.{arith}
 use lib.ListN.{length, length-take}
 use Rattle.listing.specs.Listing.{lines_of}
 use Rattle.listing.proofs.Covers.{short-lines}
-use Rattle.console.proofs.Printing.{within-buffer, behind-inside, all_shown, listed-few}
+use Rattle.console.proofs.Printing.{within-buffer, behind-inside, all_shown_lem, listed-few}
 use Rattle.console.proofs.print.Statement.{statement}
 use Rattle.console.proofs.print.Tie as tie
 
@@ -27,7 +27,7 @@ window-requires c κs = search rules
 
 returns : tie.Need-returns invariant-loop decreases-loop
 returns c =
-    all_shown _ (listed-few _ (search rules)) (short-lines _) _ (search rules) _ _ (search rules) _ c.before.before.before.window.ensures
+    all_shown_lem _ (listed-few _ (search rules)) (short-lines _) _ (search rules) _ _ (search rules) _ c.before.before.before.window.ensures
     (search rules)
 
 array-share-prefix-text : tie.Need-array-share-prefix-text invariant-loop decreases-loop

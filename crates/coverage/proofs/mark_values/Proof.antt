@@ -1,20 +1,20 @@
 -- Assumes nothing.
 use Rattle.coverage.proofs.Marks.{sweeps}
-use Rattle.coverage.proofs.Marks.{valuesFrom}
+use Rattle.coverage.proofs.Marks.{values_from}
 use borrow.Author.Rules.{rules}
 use Prim.Native.Nat.{◌+◌, ◌*◌, ◌≤◌}
 use mathlib.Core.Path.{◌≡◌, refl}
 use native.Mathlib.Omega.{arith}
 use lib.ListN.{length}
-use Rattle.message.specs.Layout.{values_of, elementsOf}
-use Rattle.coverage.specs.Sweep.{markedAll}
+use Rattle.message.specs.Layout.{values_of, elements_of}
+use Rattle.coverage.specs.Sweep.{marked_all}
 use Rattle.coverage.proofs.mark_values.Statement.{statement}
 use Rattle.coverage.proofs.mark_values.Tie as tie
 
 abbrev invariant-loop : tie.invariant-loop
 invariant-loop map₀ array left₀ at₀ map left at =
     (at + left * 12 ≤ length array) × (length map ≡ length map₀)
-    × (markedAll map₀ (values_of (elementsOf array)) ≡ markedAll map (valuesFrom left array at))
+    × (marked_all map₀ (values_of (elements_of array)) ≡ marked_all map (values_from left array at))
 
 abbrev decreases-loop : tie.decreases-loop
 decreases-loop map₀ array left₀ at₀ map left at = left

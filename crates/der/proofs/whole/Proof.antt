@@ -3,7 +3,7 @@ use borrow.Author.Rules.{rules}
 use Prim.Native.Nat.{◌-◌, ◌≤◌}
 use mathlib.Core.Path.{◌≡◌, refl}
 use lib.ListN.{length, drop}
-use Rattle.der.specs.Element.{numberFrom}
+use Rattle.der.specs.Element.{number_from}
 use Rattle.der.specs.Holder.{capped}
 use Rattle.der.proofs.Wholes.{wholes}
 use Rattle.der.proofs.whole.Statement.{statement}
@@ -13,7 +13,7 @@ use Rattle.der.proofs.whole.Lts as lts
 use Rattle.der.proofs.more.Reads as more-reads
 
 abbrev invariant-loop : tie.invariant-loop
-invariant-loop v value₀ i₀ value i = (value ≤ 65536) × (capped (numberFrom 0 v) ≡ capped (numberFrom value (drop i v)))
+invariant-loop v value₀ i₀ value i = (value ≤ 65536) × (capped (number_from 0 v) ≡ capped (number_from value (drop i v)))
 
 abbrev decreases-loop : tie.decreases-loop
 decreases-loop v value₀ i₀ value i = length v - i

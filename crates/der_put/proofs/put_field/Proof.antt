@@ -1,7 +1,7 @@
 -- Assumes nothing.
 use mathlib.Core.Path.{refl}
 use lib.ListN.{length}
-use Rattle.der_put.specs.Size.{elementSize}
+use Rattle.der_put.specs.Size.{element_size}
 use Rattle.der_put.proofs.Heads.{field_room, field_put, field-absent}
 use borrow.Author.Rules.{rules}
 use Rattle.der_put.proofs.put_field.Statement.{statement}
@@ -14,7 +14,7 @@ use Rattle.der_put.proofs.put_head.Reads as put-head-reads
 
 element-size-requires : tie.Need-element-size-requires
 element-size-requires c κs = let s = c.before.before.before.before in
-    let r = field_room _ _ (elementSize (length s.args.v.now)) _ _ c.before.if1.true refl s.requires.0 s.requires.1 in
+    let r = field_room _ _ (element_size (length s.args.v.now)) _ _ c.before.if1.true refl s.requires.0 s.requires.1 in
     search rules
 
 put-head-requires : tie.Need-put-head-requires

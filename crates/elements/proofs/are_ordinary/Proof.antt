@@ -2,7 +2,7 @@
 use mathlib.Core.Path.{◌≡◌}
 use Prim.Native.Nat.{◌-◌}
 use borrow.Author.Rules.{rules}
-use Rattle.elements.specs.Elements.{ordinaryFrom}
+use Rattle.elements.specs.Elements.{ordinary_from}
 use Rattle.elements.proofs.Limits.{ordinaries}
 use Rattle.elements.proofs.are_ordinary.Statement.{statement}
 use Rattle.elements.proofs.are_ordinary.Tie as tie
@@ -10,7 +10,7 @@ use Rattle.elements.proofs.are_ordinary.Reads as reads
 use Rattle.elements.proofs.is_critical.Reads as is-critical-reads
 
 abbrev invariant-loop : tie.invariant-loop
-invariant-loop count types i₀ i = ordinaryFrom count 0 types ≡ ordinaryFrom (count - i) i types
+invariant-loop count types i₀ i = ordinary_from count 0 types ≡ ordinary_from (count - i) i types
 
 abbrev decreases-loop : tie.decreases-loop
 decreases-loop count types i₀ i = count - i

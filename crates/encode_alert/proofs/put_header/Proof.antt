@@ -6,7 +6,7 @@ use mir.Facts.{to_z-of_z}
 use lib.ListN.{length, length-append}
 use Rattle.put.specs.Put.{unsigned32}
 use Rattle.put.proofs.Laws.{wrote, step, group, done, as_number}
-use Rattle.encode.specs.Encode.{headFields, vectorFields}
+use Rattle.encode.specs.Encode.{head_fields, vector_fields}
 use borrow.Author.Rules.{rules}
 use Rattle.encode_alert.proofs.put_header.Statement.{statement}
 use Rattle.encode_alert.proofs.put_header.Tie as tie
@@ -60,10 +60,10 @@ returns c =
     let c2 = c3.before.before.before.before in
     let c1 = c2.before.before.before.before.before in
     wrote 72
-    (group (headFields a.heading a.size) c1.put-head.ensures
+    (group (head_fields a.heading a.size) c1.put-head.ensures
     (step c2.put-octets.ensures
     (step (as_number 4 (ap unsigned32 (to_z-of_z f)) c3.put-i32.ensures)
-    (group (vectorFields a.offset.0 a.alerts) c4.put_vector.ensures (step c5.put-u32.ensures done)))))
+    (group (vector_fields a.offset.0 a.alerts) c4.put_vector.ensures (step c5.put-u32.ensures done)))))
     (simp (length-append, id, whole))
     s.pre
 

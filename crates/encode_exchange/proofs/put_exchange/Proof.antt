@@ -3,7 +3,7 @@ use Prim.Native.Nat.{◌+◌}
 use mathlib.Core.Path.{◌≡◌}
 use lib.ListN.{length}
 use Rattle.put.proofs.Laws.{wrote, step, group, done}
-use Rattle.encode.specs.Encode.{encoded, Payload, ofExchange, headFields, octetVectorFields}
+use Rattle.encode.specs.Encode.{encoded, Payload, of_exchange, head_fields, octet_vector_fields}
 use Rattle.encode.proofs.Sizes.{length-encoded}
 use borrow.Author.Rules.{rules}
 use Rattle.encode_exchange.proofs.put_exchange.Statement.{statement}
@@ -50,9 +50,9 @@ returns c =
     let c2 = c3.before.before.before.before in
     let c1 = c2.before.before.before.before.before in
     wrote (64 + n)
-    (group (headFields s.args.heading (64 + n)) c1.put-head.ensures
-    (step c2.put-octets.ensures (group (octetVectorFields 64 n) c3.put-octet-vector.ensures (step c4.put-octets2.ensures done))))
-    (length-encoded s.args.heading id (ofExchange p) whole)
+    (group (head_fields s.args.heading (64 + n)) c1.put-head.ensures
+    (step c2.put-octets.ensures (group (octet_vector_fields 64 n) c3.put-octet-vector.ensures (step c4.put-octets2.ensures done))))
+    (length-encoded s.args.heading id (of_exchange p) whole)
     s.pre.0
 
 pub put-exchange-spec : {M : Type 1} → statement M

@@ -2,7 +2,7 @@
 use mathlib.Core.Path.{◌≡◌}
 use lib.ListN.{length, length-append}
 use Rattle.put.proofs.Laws.{wrote, step, group, done}
-use Rattle.encode.specs.Encode.{headFields, vectorFields}
+use Rattle.encode.specs.Encode.{head_fields, vector_fields}
 use borrow.Author.Rules.{rules}
 use Rattle.encode_nego.proofs.put_header.Statement.{statement}
 use Rattle.encode_nego.proofs.put_header.Tie as tie
@@ -55,11 +55,11 @@ returns c =
     let c2 = c3.before.before.before.before.before in
     let c1 = c2.before.before.before.before.before in
     wrote 96
-    (group (headFields a.heading a.size) c1.put-head.ensures
+    (group (head_fields a.heading a.size) c1.put-head.ensures
     (step c2.put-octets.ensures
     (step c3.put-octets2.ensures
-    (group (vectorFields 96 a.schemes) c4.put_vector.ensures
-    (group (vectorFields a.offset.0 a.extensions) c5.put-vector2.ensures done)))))
+    (group (vector_fields 96 a.schemes) c4.put_vector.ensures
+    (group (vector_fields a.offset.0 a.extensions) c5.put-vector2.ensures done)))))
     (simp (length-append, id, whole))
     s.pre
 

@@ -8,7 +8,7 @@ use Rattle.put.specs.Put.{unsigned32}
 use native.Mathlib.Omega.{arith}
 use lib.ListN.{length}
 use Rattle.put.proofs.Laws.{wrote, room-behind, step, group, done, as_number}
-use Rattle.encode.specs.Encode.{encoded, Checksum, ofVerify, headFields, octetVectorFields}
+use Rattle.encode.specs.Encode.{encoded, Checksum, of_verify, head_fields, octet_vector_fields}
 use Rattle.encode.proofs.Sizes.{length-encoded}
 use borrow.Author.Rules.{rules}
 use Rattle.encode_verify.proofs.put_verify.Statement.{statement}
@@ -104,13 +104,13 @@ returns c =
     let n = length s.args.value.now in
     let k : Checksum = record { scheme = s.args.t4; type = s.args.checksum; value = s.args.value.now } in
     wrote (80 + n)
-    (group (headFields s.args.heading (80 + n)) c1.put-head.ensures
+    (group (head_fields s.args.heading (80 + n)) c1.put-head.ensures
     (step c2.put-octets.ensures
     (step c3.put-u32.ensures
     (step c4.put-u322.ensures
     (step (as_number 4 (ap unsigned32 (to_z-of_z f)) c5.put-i32.ensures)
-    (group (octetVectorFields 80 n) c6.put-octet-vector.ensures (step c7.put-u323.ensures (step c8.put-octets2.ensures done))))))))
-    (length-encoded s.args.heading (id s) (ofVerify k) (whole s))
+    (group (octet_vector_fields 80 n) c6.put-octet-vector.ensures (step c7.put-u323.ensures (step c8.put-octets2.ensures done))))))))
+    (length-encoded s.args.heading (id s) (of_verify k) (whole s))
     s.requires.0
 
 pub put-verify-spec : {M : Type 1} → statement M

@@ -1,15 +1,15 @@
 -- Assumes nothing.
 use borrow.Author.Rules.{rules}
 use Rattle.entries.proofs.Walked.{Counted, counting}
-use Rattle.entries.specs.Entries.{entriesOf}
-use Rattle.token.specs.Walk.{messagesOf}
-use Rattle.token.specs.Token.{tokenOf}
+use Rattle.entries.specs.Entries.{entries_of}
+use Rattle.token.specs.Walk.{messages_of}
+use Rattle.token.specs.Token.{token_of}
 use lib.ListN.{length}
 use Rattle.entries.proofs.count_entries.Statement.{statement}
 use Rattle.entries.proofs.count_entries.Tie as tie
 
 abbrev invariant-loop : tie.invariant-loop
-invariant-loop token rest₀ count₀ rest count = Counted (entriesOf (messagesOf (tokenOf token))) rest count
+invariant-loop token rest₀ count₀ rest count = Counted (entries_of (messages_of (token_of token))) rest count
 
 abbrev decreases-loop : tie.decreases-loop
 decreases-loop token rest₀ count₀ rest count = length rest

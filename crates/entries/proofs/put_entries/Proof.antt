@@ -1,9 +1,9 @@
 -- Assumes nothing.
 use borrow.Author.Rules.{rules}
 use Rattle.entries.proofs.Walked.{Shown, shows}
-use Rattle.entries.specs.Entries.{entriesOf}
-use Rattle.token.specs.Walk.{messagesOf}
-use Rattle.token.specs.Token.{tokenOf}
+use Rattle.entries.specs.Entries.{entries_of}
+use Rattle.token.specs.Walk.{messages_of}
+use Rattle.token.specs.Token.{token_of}
 use lib.ListN.{length}
 use mathlib.Core.Path.{◌≡◌, refl}
 use Rattle.entries.proofs.put_entries.Statement.{statement}
@@ -11,7 +11,7 @@ use Rattle.entries.proofs.put_entries.Tie as tie
 
 abbrev invariant-loop : tie.invariant-loop
 invariant-loop d₀ token from rest₀ place₀ message₀ skip₀ next₀ d rest place message skip next =
-    (length d ≡ length d₀) × Shown (entriesOf (messagesOf (tokenOf token))) d₀ from rest place.0 message skip d next
+    (length d ≡ length d₀) × Shown (entries_of (messages_of (token_of token))) d₀ from rest place.0 message skip d next
 
 abbrev decreases-loop : tie.decreases-loop
 decreases-loop d₀ token from rest₀ place₀ message₀ skip₀ next₀ d rest place message skip next = length rest

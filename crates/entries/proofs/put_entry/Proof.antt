@@ -2,7 +2,7 @@
 use mathlib.Core.Path.{refl}
 use Rattle.put.proofs.Laws.{wrote, step, done}
 use Rattle.table.specs.Table.{numbers}
-use Rattle.entries.specs.Entries.{entryOctets}
+use Rattle.entries.specs.Entries.{entry_octets}
 use borrow.Author.Rules.{rules}
 use Rattle.entries.proofs.put_entry.Statement.{statement}
 use Rattle.entries.proofs.put_entry.Tie as tie
@@ -29,7 +29,7 @@ same_length : tie.Need-same-length
 same_length c = search rules
 
 returns : tie.Need-returns
-unfolding entryOctets numbers
+unfolding entry_octets numbers
 returns c =
     let c6 = c.before.before in
     let c5 = c6.before.before.before.before in

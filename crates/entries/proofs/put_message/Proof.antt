@@ -1,8 +1,8 @@
 -- Assumes nothing.
 use borrow.Author.Rules.{rules}
 use Rattle.entries.proofs.Bounds.{held-zero}
-use Rattle.entries.specs.Lookup.{countIn}
-use Rattle.entries.specs.Entries.{entriesIn, entryOctets}
+use Rattle.entries.specs.Lookup.{count_in}
+use Rattle.entries.specs.Entries.{entries_in, entry_octets}
 use Rattle.put.specs.Put.{Written}
 use lib.ListN.{length, take, drop}
 use mathlib.Core.Path.{◌≡◌, refl}
@@ -13,8 +13,8 @@ use Rattle.entries.proofs.put_message.Tie as tie
 
 abbrev invariant-loop : tie.invariant-loop
 invariant-loop d₀ at place message m from all begin count next₀ k₀ d next k =
-    (k ≤ count) × (all ≡ countIn m) × (begin ≡ min from all) × (count ≡ min (all - begin) ((length d₀ - at) / 24)) × (length d ≡ length d₀)
-    × Written d₀ at (24 * k) (entryOctets (take k (drop begin (entriesIn place.0 message m)))) d next
+    (k ≤ count) × (all ≡ count_in m) × (begin ≡ min from all) × (count ≡ min (all - begin) ((length d₀ - at) / 24)) × (length d ≡ length d₀)
+    × Written d₀ at (24 * k) (entry_octets (take k (drop begin (entries_in place.0 message m)))) d next
 
 abbrev decreases-loop : tie.decreases-loop
 decreases-loop d₀ at place message m from all begin count next₀ k₀ d next k = count - k

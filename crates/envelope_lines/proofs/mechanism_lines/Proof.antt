@@ -5,8 +5,8 @@ use mathlib.Core.Path.{◌≡◌, refl}
 use lib.ListN.{length, drop}
 use Rattle.text.specs.Text.{text, written}
 use Rattle.der.specs.Holder.{part}
-use Rattle.envelope.specs.Answers.{mechanismsIn}
-use Rattle.envelope_lines.specs.Lines.{mechanismLines}
+use Rattle.envelope.specs.Answers.{mechanisms_in}
+use Rattle.envelope_lines.specs.Lines.{mechanism_lines}
 use Rattle.envelope_lines.proofs.Chains.{turns}
 use Rattle.envelope_lines.proofs.mechanism_lines.Statement.{statement}
 use Rattle.envelope_lines.proofs.mechanism_lines.Tie as tie
@@ -18,8 +18,8 @@ use Rattle.envelope_parts.proofs.mechanism.Reads as mechanism-reads
 abbrev invariant-loop : tie.invariant-loop
 invariant-loop d₀ at s list end count next₀ k₀ d next k =
     (length d ≡ length d₀)
-    × (written (mechanismLines 0 (mechanismsIn (part s list end))) (text d₀ at)
-    ≡ written (mechanismLines k (drop k (mechanismsIn (part s list end)))) (text d next))
+    × (written (mechanism_lines 0 (mechanisms_in (part s list end))) (text d₀ at)
+    ≡ written (mechanism_lines k (drop k (mechanisms_in (part s list end)))) (text d next))
 
 abbrev decreases-loop : tie.decreases-loop
 decreases-loop d₀ at s list end count next₀ k₀ d next k = count - k

@@ -3,7 +3,7 @@ use Prim.Native.Nat.{◌-◌}
 use mathlib.Core.Path.{◌≡◌, refl}
 use borrow.Author.Rules.{rules}
 use Rattle.der.specs.Holder.{Holder, part}
-use Rattle.envelope_parts.specs.Parts.{identifierOf}
+use Rattle.envelope_parts.specs.Parts.{identifier_of}
 use Rattle.envelope_parts.proofs.Nths.{nths}
 use Rattle.envelope_parts.proofs.identifier.Statement.{statement}
 use Rattle.envelope_parts.proofs.identifier.Tie as tie
@@ -12,7 +12,7 @@ use Rattle.envelope_parts.proofs.identifier.Lts as lts
 use Rattle.der.proofs.cut_at.Reads as cut-at-reads
 
 abbrev invariant-loop : tie.invariant-loop
-invariant-loop s at end k next₀ left₀ next left = (Holder s next end) × (identifierOf k (part s at end) ≡ identifierOf left (part s next end))
+invariant-loop s at end k next₀ left₀ next left = (Holder s next end) × (identifier_of k (part s at end) ≡ identifier_of left (part s next end))
 
 abbrev decreases-loop : tie.decreases-loop
 decreases-loop s at end k next₀ left₀ next left = end - next

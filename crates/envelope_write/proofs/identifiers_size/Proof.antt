@@ -4,7 +4,7 @@ use mathlib.Core.Path.{◌≡◌}
 use borrow.Author.Rules.{rules}
 use lib.ListN.{length, drop}
 use Rattle.der.specs.Holder.{capped}
-use Rattle.envelope_write.specs.Given.{identifiersSize}
+use Rattle.envelope_write.specs.Given.{identifiers_size}
 use Rattle.envelope_write.proofs.Sums.{sizes, sizes-start}
 use Rattle.envelope_write.proofs.identifiers_size.Statement.{statement}
 use Rattle.envelope_write.proofs.identifiers_size.Tie as tie
@@ -13,7 +13,7 @@ use Rattle.envelope_write.proofs.identifiers_size.Lts as lts
 use Rattle.envelope_write.proofs.with_element.Reads as with-element-reads
 
 abbrev invariant-loop : tie.invariant-loop
-invariant-loop sizes size₀ i₀ size i = (size ≤ 65536) × (capped (identifiersSize sizes) ≡ capped (size + identifiersSize (drop i sizes)))
+invariant-loop sizes size₀ i₀ size i = (size ≤ 65536) × (capped (identifiers_size sizes) ≡ capped (size + identifiers_size (drop i sizes)))
 
 abbrev decreases-loop : tie.decreases-loop
 decreases-loop sizes size₀ i₀ size i = length sizes - i

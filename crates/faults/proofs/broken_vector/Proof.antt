@@ -1,8 +1,8 @@
 -- Assumes nothing.
 use borrow.Author.Rules.{rules}
 use Rattle.faults.proofs.Spots.{broken, type-room}
-use Rattle.faults.specs.Faults.{firstBroken, brokenIn}
-use Rattle.coverage.specs.Coverage.{vectorsIn}
+use Rattle.faults.specs.Faults.{first_broken, broken_in}
+use Rattle.coverage.specs.Coverage.{vectors_in}
 use lib.ListN.{length, drop}
 use mathlib.Core.Path.{◌≡◌}
 use Prim.Native.Nat.{◌-◌, ◌≤◌}
@@ -10,7 +10,7 @@ use Rattle.faults.proofs.broken_vector.Statement.{statement}
 use Rattle.faults.proofs.broken_vector.Tie as tie
 
 abbrev invariant-loop : tie.invariant-loop
-invariant-loop m header count k₀ k = (k ≤ count) × (count ≡ length (vectorsIn m)) × (brokenIn m ≡ firstBroken header (length m) (drop k (vectorsIn m)) k)
+invariant-loop m header count k₀ k = (k ≤ count) × (count ≡ length (vectors_in m)) × (broken_in m ≡ first_broken header (length m) (drop k (vectors_in m)) k)
 
 abbrev decreases-loop : tie.decreases-loop
 decreases-loop m header count k₀ k = count - k

@@ -1,8 +1,8 @@
 -- Assumes nothing.
 use borrow.Author.Rules.{rules}
 use Rattle.faults.proofs.Spots.{critical}
-use Rattle.faults.specs.Faults.{firstCritical}
-use Rattle.message.specs.Layout.{elementsAt, elementsOf}
+use Rattle.faults.specs.Faults.{first_critical}
+use Rattle.message.specs.Layout.{elements_at, elements_of}
 use lib.ListN.{length}
 use mathlib.Core.Path.{◌≡◌}
 use Prim.Native.Nat.{◌-◌, ◌*◌, ◌/◌, ◌≤◌}
@@ -11,7 +11,7 @@ use Rattle.faults.proofs.critical_element.Tie as tie
 
 abbrev invariant-loop : tie.invariant-loop
 invariant-loop array count k₀ k =
-    (k ≤ count) × (count ≡ length array / 12) × (firstCritical (elementsOf array) 0 ≡ firstCritical (elementsAt (count - k) array (12 * k)) k)
+    (k ≤ count) × (count ≡ length array / 12) × (first_critical (elements_of array) 0 ≡ first_critical (elements_at (count - k) array (12 * k)) k)
 
 abbrev decreases-loop : tie.decreases-loop
 decreases-loop array count k₀ k = count - k

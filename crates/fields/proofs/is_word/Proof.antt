@@ -3,13 +3,13 @@ use borrow.Author.Rules.{rules}
 use Prim.Native.Nat.{◌-◌}
 use mathlib.Core.Path.{◌≡◌, refl}
 use lib.ListN.{length, drop}
-use Rattle.octets.specs.Octets.{sameOctets}
+use Rattle.octets.specs.Octets.{same_octets}
 use Rattle.fields.proofs.Words.{words}
 use Rattle.fields.proofs.is_word.Statement.{statement}
 use Rattle.fields.proofs.is_word.Tie as tie
 
 abbrev invariant-loop : tie.invariant-loop
-invariant-loop s word i₀ i = (length s ≡ length word) × (sameOctets s word ≡ sameOctets (drop i s) (drop i word))
+invariant-loop s word i₀ i = (length s ≡ length word) × (same_octets s word ≡ same_octets (drop i s) (drop i word))
 
 abbrev decreases-loop : tie.decreases-loop
 decreases-loop s word i₀ i = length s - i

@@ -1,15 +1,15 @@
 -- Assumes nothing.
 use borrow.Author.Rules.{rules}
 use lib.ListN.{length}
-use Rattle.token.specs.Token.{tokenOf}
-use Rattle.token.specs.Walk.{messagesOf}
-use Rattle.listing.specs.Listing.{allLines}
+use Rattle.token.specs.Token.{token_of}
+use Rattle.token.specs.Walk.{messages_of}
+use Rattle.listing.specs.Listing.{all_lines}
 use Rattle.host.proofs.Counting.{Counted, counting}
 use Rattle.host.proofs.message_lines.Statement.{statement}
 use Rattle.host.proofs.message_lines.Tie as tie
 
 abbrev invariant-loop : tie.invariant-loop
-invariant-loop token rest₀ lines₀ rest lines = Counted (length (allLines (messagesOf (tokenOf token)))) rest lines
+invariant-loop token rest₀ lines₀ rest lines = Counted (length (all_lines (messages_of (token_of token)))) rest lines
 
 abbrev decreases-loop : tie.decreases-loop
 decreases-loop token rest₀ lines₀ rest lines = length rest

@@ -3,7 +3,7 @@ use borrow.Author.Rules.{rules}
 use Prim.Native.Nat.{◌-◌}
 use mathlib.Core.Path.{◌≡◌, refl}
 use lib.ListN.{length, drop}
-use Rattle.lines.specs.Lines.{messageLines}
+use Rattle.lines.specs.Lines.{message_lines}
 use Rattle.windows.specs.Windows.{texts}
 use Rattle.windows.specs.Steps.{within, steps, Going}
 use Rattle.windows.proofs.Stepping.{stepped-going}
@@ -14,8 +14,8 @@ use Rattle.listing.proofs.show_lines.Tie as tie
 abbrev invariant-loop : tie.invariant-loop
 invariant-loop d₀ place m first count progress₀ index₀ d progress index =
     (length d ≡ length d₀) × (Going progress (length d₀))
-    × (steps (drop index₀ (texts (messageLines place.0 m))) (within progress₀ d₀)
-    ≡ steps (drop index (texts (messageLines place.0 m))) (within progress d))
+    × (steps (drop index₀ (texts (message_lines place.0 m))) (within progress₀ d₀)
+    ≡ steps (drop index (texts (message_lines place.0 m))) (within progress d))
 
 abbrev decreases-loop : tie.decreases-loop
 decreases-loop d₀ place m first count progress₀ index₀ d progress index = count - index

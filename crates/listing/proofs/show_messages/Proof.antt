@@ -3,12 +3,12 @@ use borrow.Author.Rules.{rules}
 use Prim.Native.Nat.{◌+◌, ◌≤◌}
 use mathlib.Core.Path.{◌≡◌, refl}
 use lib.ListN.{length}
-use Rattle.token.specs.Token.{tokenOf}
-use Rattle.token.specs.Walk.{messagesOf}
+use Rattle.token.specs.Token.{token_of}
+use Rattle.token.specs.Walk.{messages_of}
 use Rattle.windows.specs.Windows.{texts}
 use Rattle.windows.specs.Steps.{within, steps, Going}
 use Rattle.windows.proofs.Stepping.{steps-going-on}
-use Rattle.listing.specs.Listing.{allLines}
+use Rattle.listing.specs.Listing.{all_lines}
 use Rattle.listing.proofs.Turns.{Going-on, walks}
 use Rattle.listing.proofs.show_messages.Statement.{statement}
 use Rattle.listing.proofs.show_messages.Tie as tie
@@ -16,7 +16,7 @@ use Rattle.listing.proofs.show_messages.Tie as tie
 abbrev invariant-loop : tie.invariant-loop
 invariant-loop d₀ token progress₀ rest₀ place₀ d progress rest place =
     (length token ≤ 65535) × (length d ≡ length d₀) × (Going progress (length d₀)) × (place.0 + length rest ≡ length token)
-    × Going-on (steps (texts (allLines (messagesOf (tokenOf token)))) (within progress₀ d₀)) rest place.0 (within progress d)
+    × Going-on (steps (texts (all_lines (messages_of (token_of token)))) (within progress₀ d₀)) rest place.0 (within progress d)
 
 abbrev decreases-loop : tie.decreases-loop
 decreases-loop d₀ token progress₀ rest₀ place₀ d progress rest place = length rest

@@ -5,13 +5,13 @@ use mathlib.Core.Path.{◌≡◌}
 use mathlib.Core.Bool.{◌&&◌}
 use mathlib.Core.Logic.{⊎_elim}
 use lib.ListN.{length, drop}
-use Rattle.octets.specs.Octets.{sameId, sameOctets}
+use Rattle.octets.specs.Octets.{same_id, same_octets}
 use Rattle.octets.proofs.Same.{ids}
 use Rattle.octets.proofs.same_octets.Statement.{statement}
 use Rattle.octets.proofs.same_octets.Tie as tie
 
 abbrev invariant-loop : tie.invariant-loop
-invariant-loop a b same₀ i₀ same i = (length a ≡ 16) × (length b ≡ 16) × (sameId a b ≡ same && sameOctets (drop i a) (drop i b))
+invariant-loop a b same₀ i₀ same i = (length a ≡ 16) × (length b ≡ 16) × (same_id a b ≡ same && same_octets (drop i a) (drop i b))
 
 abbrev decreases-loop : tie.decreases-loop
 decreases-loop a b same₀ i₀ same i = 16 - i

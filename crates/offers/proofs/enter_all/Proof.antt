@@ -6,14 +6,14 @@ use mathlib.Core.Path.{◌≡◌, refl}
 use native.Mathlib.Omega.{arith}
 use native.Mathlib.Nat.{add-sub_cancel_left}
 use lib.ListN.{length, drop, length-take, length-drop}
-use Rattle.message.specs.Show.{idsAt, ids_of}
-use Rattle.offers.specs.Table.{enteredAllIn}
+use Rattle.message.specs.Show.{ids_at, ids_of}
+use Rattle.offers.specs.Table.{entered_all_in}
 use Rattle.offers.proofs.enter_all.Statement.{statement}
 use Rattle.offers.proofs.enter_all.Tie as tie
 
 abbrev invariant-loop : tie.invariant-loop
 invariant-loop list entered₀ at₀ left₀ entered at left =
-    (at + left * 16 ≤ length list) × (entered.count ≤ 64) × (enteredAllIn entered₀ (ids_of list) ≡ enteredAllIn entered (idsAt left (drop at list)))
+    (at + left * 16 ≤ length list) × (entered.count ≤ 64) × (entered_all_in entered₀ (ids_of list) ≡ entered_all_in entered (ids_at left (drop at list)))
 
 abbrev decreases-loop : tie.decreases-loop
 decreases-loop list entered₀ at₀ left₀ entered at left = left

@@ -5,14 +5,14 @@ use Prim.Native.Nat.{◌+◌, ◌*◌, ◌≤◌}
 use mathlib.Core.Path.{◌≡◌, refl}
 use native.Mathlib.Omega.{arith}
 use lib.ListN.{length, drop}
-use Rattle.message.specs.Show.{idsAt, ids_of}
-use Rattle.offers.specs.Offers.{allIn}
+use Rattle.message.specs.Show.{ids_at, ids_of}
+use Rattle.offers.specs.Offers.{all_in}
 use Rattle.offers.proofs.one_beyond.Statement.{statement}
 use Rattle.offers.proofs.one_beyond.Tie as tie
 
 abbrev invariant-loop : tie.invariant-loop
 invariant-loop ids n list at₀ left₀ at left =
-    (at + left * 16 ≤ length list) × (allIn (ids_of list) (idsAt n ids) ≡ allIn (idsAt left (drop at list)) (idsAt n ids))
+    (at + left * 16 ≤ length list) × (all_in (ids_of list) (ids_at n ids) ≡ all_in (ids_at left (drop at list)) (ids_at n ids))
 
 abbrev decreases-loop : tie.decreases-loop
 decreases-loop ids n list at₀ left₀ at left = left

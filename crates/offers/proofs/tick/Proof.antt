@@ -7,14 +7,14 @@ use mathlib.Core.Path.{◌≡◌, refl}
 use native.Mathlib.Omega.{arith}
 use lib.ListN.{length, get_or, length-set}
 use Rattle.message.specs.Show.{ids_of}
-use Rattle.offers.specs.Table.{tickedFrom}
+use Rattle.offers.specs.Table.{ticked_from}
 use Rattle.offers.proofs.tick.Statement.{statement}
 use Rattle.offers.proofs.tick.Tie as tie
 
 abbrev invariant-loop : tie.invariant-loop
 invariant-loop ids n list ticked₀ k₀ left₀ ticked k left =
     (k + left ≡ n) × (length ticked ≡ 64) × ((j : ℕ) → k ≤ j → get_or ticked j 0 < 9223372036854775808)
-    × (tickedFrom ids (ids_of list) n 0 ticked₀ ≡ tickedFrom ids (ids_of list) left k ticked)
+    × (ticked_from ids (ids_of list) n 0 ticked₀ ≡ ticked_from ids (ids_of list) left k ticked)
 
 abbrev decreases-loop : tie.decreases-loop
 decreases-loop ids n list ticked₀ k₀ left₀ ticked k left = left

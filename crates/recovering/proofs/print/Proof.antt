@@ -4,18 +4,18 @@ use Prim.Native.Nat.{◌-◌, ◌<◌, ◌≤◌}
 use mathlib.Core.Path.{◌≡◌}
 use native.Mathlib.Omega.{arith}
 use lib.ListN.{length, length-take}
-use Rattle.recovery.specs.Recovery.{recoveredLines}
+use Rattle.recovery.specs.Recovery.{recovered_lines}
 use Rattle.recovery.proofs.Bounds.{short-recovered}
-use Rattle.console.proofs.Printing.{within-buffer, behind-inside, all_shown}
+use Rattle.console.proofs.Printing.{within-buffer, behind-inside, all_shown_lem}
 use Rattle.recovering.proofs.Printing.{recovered-few}
 use Rattle.recovering.proofs.print.Statement.{statement}
 use Rattle.recovering.proofs.print.Tie as tie
 
 abbrev invariant-loop : tie.invariant-loop
-invariant-loop fd file text₀ first₀ text first = (length file < 18446744073709551614) × (length text ≡ 65536) × (first ≤ length (recoveredLines file))
+invariant-loop fd file text₀ first₀ text first = (length file < 18446744073709551614) × (length text ≡ 65536) × (first ≤ length (recovered_lines file))
 
 abbrev decreases-loop : tie.decreases-loop
-decreases-loop fd file text₀ first₀ text first = length (recoveredLines file) - first
+decreases-loop fd file text₀ first₀ text first = length (recovered_lines file) - first
 
 loop-holds : tie.Need-loop-init invariant-loop decreases-loop
 loop-holds c = (search rules, search rules, search rules)
@@ -28,7 +28,7 @@ window-requires c κs = search rules
 
 returns : tie.Need-returns invariant-loop decreases-loop
 returns c =
-    all_shown _ (recovered-few _ (search rules)) (short-recovered _) _ (search rules) _ _ (search rules) _
+    all_shown_lem _ (recovered-few _ (search rules)) (short-recovered _) _ (search rules) _ _ (search rules) _
     c.before.before.before.window.ensures (search rules)
 
 array-share-prefix-text : tie.Need-array-share-prefix-text invariant-loop decreases-loop

@@ -5,14 +5,14 @@ use mathlib.Core.Path.{◌≡◌, refl}
 use lib.ListN.{length}
 use Rattle.windows.specs.Windows.{texts}
 use Rattle.windows.specs.Steps.{within, steps}
-use Rattle.recovery.specs.Recovery.{taken_of, pieces_of, allPieceLines}
+use Rattle.recovery.specs.Recovery.{taken_of, pieces_of, all_piece_lines}
 use Rattle.recovery.proofs.Scanning.{OnWay, ways}
 use Rattle.recovery.proofs.show_pieces.Statement.{statement}
 use Rattle.recovery.proofs.show_pieces.Tie as tie
 
 abbrev invariant-loop : tie.invariant-loop
 invariant-loop d₀ file scan₀ d scan =
-    (length d ≡ length d₀) × OnWay file (steps (texts (allPieceLines (pieces_of file))) (within scan₀.progress d₀)) (length (taken_of file)) scan d
+    (length d ≡ length d₀) × OnWay file (steps (texts (all_piece_lines (pieces_of file))) (within scan₀.progress d₀)) (length (taken_of file)) scan d
 
 abbrev decreases-loop : tie.decreases-loop
 decreases-loop d₀ file scan₀ d scan = length file - scan.place.0

@@ -4,12 +4,12 @@ use borrow.Author.Rules.{rules}
 use Prim.Native.Nat.{◌-◌}
 use mathlib.Core.Path.{◌≡◌, refl}
 use lib.ListN.{length}
-use Rattle.replay_case.specs.Steps.{countedFrom}
+use Rattle.replay_case.specs.Steps.{counted_from}
 use Rattle.replay_case.proofs.next_line.Statement.{statement}
 use Rattle.replay_case.proofs.next_line.Tie as tie
 
 abbrev invariant-loop : tie.invariant-loop
-invariant-loop text at from₀ from = countedFrom text at ≡ countedFrom text from
+invariant-loop text at from₀ from = counted_from text at ≡ counted_from text from
 
 abbrev decreases-loop : tie.decreases-loop
 decreases-loop text at from₀ from = length text - from

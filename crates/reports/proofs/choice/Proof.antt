@@ -1,6 +1,6 @@
 -- Assumes nothing.
 use Rattle.reports.proofs.Chains.{choice-then}
-use Rattle.reports.specs.Reports.{choiceText}
+use Rattle.reports.specs.Reports.{choice_text}
 use borrow.Author.Rules.{rules}
 use Rattle.reports.proofs.choice.Statement.{statement}
 use Rattle.reports.proofs.choice.Tie as tie
@@ -33,7 +33,7 @@ same_length : tie.Need-same-length
 same_length c = search rules
 
 returns : tie.Need-returns
-unfolding choiceText
+unfolding choice_text
 returns c = search choice-then
 
 pub choice-spec : {M : Type 1} → statement M

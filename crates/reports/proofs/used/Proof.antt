@@ -1,6 +1,6 @@
 -- Assumes nothing.
 use Rattle.reports.proofs.Chains.{two_fields}
-use Rattle.reports.specs.Reports.{usedLine}
+use Rattle.reports.specs.Reports.{used_line}
 use borrow.Author.Rules.{rules}
 use Rattle.reports.proofs.used.Statement.{statement}
 use Rattle.reports.proofs.used.Tie as tie
@@ -27,7 +27,7 @@ same_length : tie.Need-same-length
 same_length c = search rules
 
 returns : tie.Need-returns
-unfolding usedLine
+unfolding used_line
 returns c = search two_fields
 
 pub used-spec : {M : Type 1} → statement M

@@ -1,5 +1,5 @@
 -- Assumes nothing.
-use Rattle.reports.specs.Reports.{wroteText}
+use Rattle.reports.specs.Reports.{wrote_text}
 use Rattle.reports.proofs.Chains.{field-then}
 use borrow.Author.Rules.{rules}
 use Rattle.reports.proofs.wrote.Statement.{statement}
@@ -24,7 +24,7 @@ same_length : tie.Need-same-length
 same_length c = search rules
 
 returns : tie.Need-returns
-unfolding wroteText
+unfolding wrote_text
 returns c = search field-then
 
 pub wrote-spec : {M : Type 1} → statement M

@@ -4,7 +4,7 @@ use lib.ListN.{length}
 use borrow.Author.Rules.{rules}
 use mir.Syntax.{w32}
 use mir.Val.{SFits, to_z, of_z}
-use Rattle.encode.specs.Encode.{ofVerify}
+use Rattle.encode.specs.Encode.{of_verify}
 use mir.Facts.{to_z-of_z}
 use Rattle.calls.proofs.Sizes.{sized}
 use Rattle.calls.proofs.Writes.{appends}
@@ -34,7 +34,7 @@ returns c =
     let h = c.before.before.before.before.before.heading-of in
     let f : SFits w32 s.args.checksum = search rules in
     appends _ (sized _ _ s.well-formed.0) _ _ _ full s.requires _ h.ensures w.result _
-    (ofVerify (record { scheme = s.args.id; type = to_z w32 (of_z w32 s.args.checksum); value = s.args.value.now })) w.ensures
+    (of_verify (record { scheme = s.args.id; type = to_z w32 (of_z w32 s.args.checksum); value = s.args.value.now })) w.ensures
     (rw (to_z-of_z f)) _ c.after-message.ensures
 
 pub append-verify-spec : {M : Type 1} → statement M

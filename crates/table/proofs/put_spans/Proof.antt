@@ -3,17 +3,17 @@ use borrow.Author.Rules.{rules}
 use Prim.Native.Nat.{◌-◌, ◌*◌, ◌≤◌}
 use mathlib.Core.Path.{◌≡◌, refl}
 use lib.ListN.{length, take}
-use Rattle.coverage.specs.Coverage.{vectorsIn}
+use Rattle.coverage.specs.Coverage.{vectors_in}
 use Rattle.put.specs.Put.{Written}
-use Rattle.table.specs.Table.{spansIn, numbers}
+use Rattle.table.specs.Table.{spans_in, numbers}
 use Rattle.table.proofs.Numbers.{written-spans}
 use Rattle.table.proofs.put_spans.Statement.{statement}
 use Rattle.table.proofs.put_spans.Tie as tie
 
 abbrev invariant-loop : tie.invariant-loop
 invariant-loop d₀ at place m count next₀ k₀ d next k =
-    (k ≤ count) × (count ≡ length (vectorsIn m)) × (length d ≡ length d₀)
-    × Written d₀ at (8 * k) (numbers (spansIn place.0 (take k (vectorsIn m)))) d next
+    (k ≤ count) × (count ≡ length (vectors_in m)) × (length d ≡ length d₀)
+    × Written d₀ at (8 * k) (numbers (spans_in place.0 (take k (vectors_in m)))) d next
 
 abbrev decreases-loop : tie.decreases-loop
 decreases-loop d₀ at place m count next₀ k₀ d next k = count - k

@@ -2,8 +2,8 @@
 use borrow.Author.Rules.{rules}
 use mathlib.Core.Path.{◌≡◌, refl}
 use lib.ListN.{length}
-use Rattle.token.specs.Token.{tokenOf}
-use Rattle.token.specs.Walk.{messagesOf}
+use Rattle.token.specs.Token.{token_of}
+use Rattle.token.specs.Walk.{messages_of}
 use Rattle.table.specs.Table.{table_of}
 use Rattle.table.proofs.Entries.{Stored, stores}
 use Rattle.table.proofs.put_table.Statement.{statement}
@@ -11,7 +11,7 @@ use Rattle.table.proofs.put_table.Tie as tie
 
 abbrev invariant-loop : tie.invariant-loop
 invariant-loop d₀ token rest₀ place₀ next₀ d rest place next =
-    (length d ≡ length d₀) × Stored (table_of (messagesOf (tokenOf token))) d₀ rest place.0 d next
+    (length d ≡ length d₀) × Stored (table_of (messages_of (token_of token))) d₀ rest place.0 d next
 
 abbrev decreases-loop : tie.decreases-loop
 decreases-loop d₀ token rest₀ place₀ next₀ d rest place next = length rest

@@ -1,15 +1,15 @@
 -- Assumes nothing.
 use borrow.Author.Rules.{rules}
 use lib.ListN.{length}
-use Rattle.token.specs.Token.{tokenOf}
-use Rattle.token.specs.Walk.{messagesOf}
+use Rattle.token.specs.Token.{token_of}
+use Rattle.token.specs.Walk.{messages_of}
 use Rattle.table.specs.Table.{table_of}
 use Rattle.table.proofs.Entries.{Sized, sizes}
 use Rattle.table.proofs.table_size.Statement.{statement}
 use Rattle.table.proofs.table_size.Tie as tie
 
 abbrev invariant-loop : tie.invariant-loop
-invariant-loop token rest₀ size₀ rest size = Sized (table_of (messagesOf (tokenOf token))) rest size
+invariant-loop token rest₀ size₀ rest size = Sized (table_of (messages_of (token_of token))) rest size
 
 abbrev decreases-loop : tie.decreases-loop
 decreases-loop token rest₀ size₀ rest size = length rest

@@ -5,7 +5,7 @@ use mathlib.Core.Path.{◌≡◌, refl}
 use native.Mathlib.Omega.{arith}
 use lib.ListN.{length, drop}
 use Rattle.text.specs.Text.{text, written}
-use Rattle.tally_lines.specs.Lines.{answerLines}
+use Rattle.tally_lines.specs.Lines.{answer_lines}
 use borrow.Author.Rules.{rules}
 use Rattle.tally_lines.proofs.refused_lines.Statement.{statement}
 use Rattle.tally_lines.proofs.refused_lines.Tie as tie
@@ -13,7 +13,7 @@ use Rattle.tally_lines.proofs.refused_lines.Tie as tie
 abbrev invariant-loop : tie.invariant-loop
 invariant-loop d₀ at answers next₀ k₀ d next k =
     (k ≤ length answers) × (length d ≡ length d₀)
-    × (written (answerLines 0 answers) (text d₀ at) ≡ written (answerLines k (drop k answers)) (text d next))
+    × (written (answer_lines 0 answers) (text d₀ at) ≡ written (answer_lines k (drop k answers)) (text d next))
 
 abbrev decreases-loop : tie.decreases-loop
 decreases-loop d₀ at answers next₀ k₀ d next k = length answers - k

@@ -5,8 +5,8 @@ use mathlib.Core.Path.{◌≡◌, refl}
 use native.Mathlib.Omega.{arith}
 use lib.ListN.{length, drop, take}
 use Rattle.text.specs.Text.{text, written}
-use Rattle.message.specs.Show.{idsAt}
-use Rattle.tally_lines.specs.Lines.{schemeLines}
+use Rattle.message.specs.Show.{ids_at}
+use Rattle.tally_lines.specs.Lines.{scheme_lines}
 use borrow.Author.Rules.{rules}
 use Rattle.tally_lines.proofs.scheme_lines.Statement.{statement}
 use Rattle.tally_lines.proofs.scheme_lines.Tie as tie
@@ -14,8 +14,8 @@ use Rattle.tally_lines.proofs.scheme_lines.Tie as tie
 abbrev invariant-loop : tie.invariant-loop
 invariant-loop d₀ at ids counts count next₀ k₀ left₀ d next k left =
     (k + left ≡ count) × (length d ≡ length d₀)
-    × (written (schemeLines (idsAt count ids) (take count counts)) (text d₀ at)
-    ≡ written (schemeLines (idsAt left (drop (k * 16) ids)) (take left (drop k counts))) (text d next))
+    × (written (scheme_lines (ids_at count ids) (take count counts)) (text d₀ at)
+    ≡ written (scheme_lines (ids_at left (drop (k * 16) ids)) (take left (drop k counts))) (text d next))
 
 abbrev decreases-loop : tie.decreases-loop
 decreases-loop d₀ at ids counts count next₀ k₀ left₀ d next k left = left

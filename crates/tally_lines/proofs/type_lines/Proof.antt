@@ -5,14 +5,14 @@ use mathlib.Core.Path.{◌≡◌, refl}
 use native.Mathlib.Omega.{arith}
 use lib.ListN.{length, drop}
 use Rattle.text.specs.Text.{text, written}
-use Rattle.tally_lines.specs.Lines.{typeLines}
+use Rattle.tally_lines.specs.Lines.{type_lines}
 use borrow.Author.Rules.{rules}
 use Rattle.tally_lines.proofs.type_lines.Statement.{statement}
 use Rattle.tally_lines.proofs.type_lines.Tie as tie
 
 abbrev invariant-loop : tie.invariant-loop
 invariant-loop d₀ at types next₀ k₀ t6 d next k =
-    (k ≤ length types) × (length d ≡ length d₀) × (written (typeLines 0 types) (text d₀ at) ≡ written (typeLines k (drop k types)) (text d next))
+    (k ≤ length types) × (length d ≡ length d₀) × (written (type_lines 0 types) (text d₀ at) ≡ written (type_lines k (drop k types)) (text d next))
 
 abbrev decreases-loop : tie.decreases-loop
 decreases-loop d₀ at types next₀ k₀ t6 d next k = length types - k

@@ -4,13 +4,13 @@ use Prim.Native.Nat.{◌-◌, ◌≤◌}
 use mathlib.Core.Path.{◌≡◌, refl}
 use native.Mathlib.Omega.{arith}
 use lib.ListN.{length, drop}
-use Rattle.tallying.specs.Tally.{allWithin}
+use Rattle.tallying.specs.Tally.{all_within}
 use Rattle.tallying.proofs.Steps.{withins}
 use Rattle.tallying.proofs.all_within.Statement.{statement}
 use Rattle.tallying.proofs.all_within.Tie as tie
 
 abbrev invariant-loop : tie.invariant-loop
-invariant-loop a i₀ i = (i ≤ length a) × (allWithin a ≡ allWithin (drop i a))
+invariant-loop a i₀ i = (i ≤ length a) × (all_within a ≡ all_within (drop i a))
 
 abbrev decreases-loop : tie.decreases-loop
 decreases-loop a i₀ i = length a - i

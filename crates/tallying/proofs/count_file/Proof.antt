@@ -44,7 +44,7 @@ use denote.Triple.Table.{entered, cited}
 use denote.Triple.Walked.{says, Stays, stay_ref, stay_none_slice, walk_of, Goes-ref, Goes-none_slice, Walks, ends_at, walked, walk_Meets}
 use denote.Exit.{yes}
 use Rattle.tallying.specs.Files.{Opened}
-use Rattle.tallying.specs.Tally.{countedOf}
+use Rattle.tallying.specs.Tally.{counted_of}
 use Rattle.tallying.specs.declared.Tally.{Tally}
 use Rattle.tallying.specs.declared.Counted.{Counted}
 use Rattle.tallying.specs.contracts.Tally as T
@@ -102,7 +102,7 @@ module _ {M : Type 1} {𝓤 : Ura M} (𝓛 : Logic 𝓤) (at_mem : Memory → SP
   vals = (vptr b o ∷ [], (s ∷ [], tt))
 
   abbrev found : Counted
-  found = countedOf h (Opened f.now)
+  found = counted_of h (Opened f.now)
 
   abbrev Post : Val → SProp 𝓤
   Post = (walk_of 𝓛 count-file.ended stayed (count-file.clauses 𝓛 at_mem run)).post (((κ, (κ', tt)), (q, (q', tt)), bounds, a, vals), tt)

@@ -44,7 +44,7 @@ use denote.Triple.Table.{entered, cited}
 use denote.Triple.Walked.{says, Stays, stay_none, stay_none_slice, walk_of, Goes-none, Goes-none_slice, Walks, ends_at, walked, walk_Meets}
 use denote.Exit.{yes}
 use Rattle.tallying.specs.Files.{Opened}
-use Rattle.tallying.specs.Tally.{countedOf}
+use Rattle.tallying.specs.Tally.{counted_of}
 use Rattle.tallying.specs.declared.Tally.{Tally}
 use Rattle.tallying.specs.declared.Counted.{Counted}
 use Rattle.tallying.specs.contracts.Tally as T
@@ -83,9 +83,9 @@ CountFile 𝓛 at_mem run = triple_of 𝓛 count-file.signature (count-file.spec
 
 module _ {M : Type 1} {𝓤 : Ura M} (𝓛 : Logic 𝓤) (l : ℕ) (h : Tally) where
   -- a cell that holds the record, and what the record owns, are the record in memory; and back
-  lies_in : ent 𝓤 (⋆ 𝓛 (‵ (cell_at full_share R.mir (mach h ∷ []) l 0) ∷ ‵ (R.own h (mach h ∷ [])) ∷ [])) (sem 𝓛 ((mem R).own_at h l 0))
+  lies_in_lem : ent 𝓤 (⋆ 𝓛 (‵ (cell_at full_share R.mir (mach h ∷ []) l 0) ∷ ‵ (R.own h (mach h ∷ [])) ∷ [])) (sem 𝓛 ((mem R).own_at h l 0))
   unfolding part_of
-  lies_in = qed 𝓛 (‵ (cell_at full_share R.mir (mach h ∷ []) l 0) ∷ ‵ (R.own h (mach h ∷ [])) ∷ []) ∵ fjoin ! $
+  lies_in_lem = qed 𝓛 (‵ (cell_at full_share R.mir (mach h ∷ []) l 0) ∷ ‵ (R.own h (mach h ∷ [])) ∷ []) ∵ fjoin ! $
       fpack ! (List Val) (λ vs. fsep (cell_at full_share R.mir vs l 0) (R.own h vs)) (mach h ∷ []) $ done !
 
   lies_out : ent 𝓤 (sem 𝓛 ((mem R).own_at h l 0)) (⋆ 𝓛 (‵ (cell_at full_share R.mir (mach h ∷ []) l 0) ∷ ‵ (R.own h (mach h ∷ [])) ∷ []))
@@ -113,7 +113,7 @@ module _ {M : Type 1} {𝓤 : Ura M} (𝓛 : Logic 𝓤) (at_mem : Memory → SP
   vals = (mach h ∷ [], (s ∷ [], tt))
 
   abbrev found : Counted
-  found = countedOf h (Opened f.now)
+  found = counted_of h (Opened f.now)
 
   abbrev Post : Val → SProp 𝓤
   Post = (walk_of 𝓛 count_next.ended stayed (count_next.clauses 𝓛 at_mem run)).post (((κ, tt), (q, tt), tt, a, vals), tt)
@@ -168,7 +168,7 @@ module _ {M : Type 1} {𝓤 : Ura M} (𝓛 : Logic 𝓤) (at_mem : Memory → SP
         ((shr_slice_copy 𝓛 (named 0) κ u8).twice f (s ∷ [])) $ split ! $
         -- [the file; the file; true; the record; _6; …; _5; …; _4; …; _3; …; _2; …; _1; …; _0; …; the token]: the local is lent
         move ! (10 ∷ []) $ use1 𝓛 (‵ (cell_at full_share R.mir (mach h ∷ []) l₃ 0)) (𝓛.laws.at_raw full_share T'.mir l₃ 0 (mach h)) $
-        move ! (0 ∷ 4 ∷ []) $ use2 𝓛 (‵ ((mem R).own_at h l₃ 0)) (lies_in 𝓛 l₃ h) $ lft_new ! tt (λ ν. move ! (1 ∷ []) $
+        move ! (0 ∷ 4 ∷ []) $ use2 𝓛 (‵ ((mem R).own_at h l₃ 0)) (lies_in_lem 𝓛 l₃ h) $ lft_new ! tt (λ ν. move ! (1 ∷ []) $
         use1 𝓛 (later (some (λ (γ : GName). ‵ (Lent l₃ ν γ) ⊛ ‵ (flent (ν ∷ []) (Body (mem R) l₃ 0 γ)))))
         (lends_ref 𝓛 R (named 0) (ν ∷ []) h l₃ 0) $ await ! tt $ pick ! (λ γ. split ! $
         -- [the borrow; the lender's part; ν; the file; the file; true; _6; …; _5; …; _4; …; what frees _3; _2; …; _1; …; _0; …; the token]

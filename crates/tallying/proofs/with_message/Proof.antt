@@ -60,7 +60,7 @@ returns c =
     let back10 = back7.before.before.before in
     let back15 = back10.before.before.before.before.before in
     let back17 = back15.before.before in
-    message-is b.args.t b.args.m.now _ back17.le-u32.ensures _ back15.count-octets.ensures _ back10.one_more.ensures _
+    message-is b.args.t b.args.m.now _ back17.le-u32.ensures _ back15.count-octets.ensures _ back10.one_more_lem.ensures _
     back7.with-offer.ensures
 
 pub with-message-spec : {M : Type 1} → statement M

@@ -2,17 +2,17 @@
 use borrow.Author.Rules.{rules}
 use mathlib.Core.Path.{◌≡◌, refl}
 use lib.ListN.{length}
-use Rattle.token.specs.Token.{tokenOf}
-use Rattle.token.specs.Walk.{messagesOf}
-use Rattle.tallying.specs.Files.{allOctets}
-use Rattle.tallying.specs.Tally.{withMessages}
+use Rattle.token.specs.Token.{token_of}
+use Rattle.token.specs.Walk.{messages_of}
+use Rattle.tallying.specs.Files.{all_octets}
+use Rattle.tallying.specs.Tally.{with_messages}
 use Rattle.tallying.proofs.Steps.{Going-on, walks}
 use Rattle.tallying.proofs.with_messages.Statement.{statement}
 use Rattle.tallying.proofs.with_messages.Tie as tie
 
 abbrev invariant-loop : tie.invariant-loop
 invariant-loop map₀ file counted₀ rest₀ map counted rest =
-    (length map ≡ length map₀) × Going-on (withMessages counted₀ (allOctets (messagesOf (tokenOf file)))) file rest counted
+    (length map ≡ length map₀) × Going-on (with_messages counted₀ (all_octets (messages_of (token_of file)))) file rest counted
 
 abbrev decreases-loop : tie.decreases-loop
 decreases-loop map₀ file counted₀ rest₀ map counted rest = length rest

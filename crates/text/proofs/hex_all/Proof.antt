@@ -3,13 +3,13 @@ use borrow.Author.Rules.{rules}
 use Prim.Native.Nat.{◌-◌}
 use mathlib.Core.Path.{◌≡◌, refl}
 use lib.ListN.{length, drop}
-use Rattle.text.specs.Text.{digitsOf, text, written}
+use Rattle.text.specs.Text.{digits_of, text, written}
 use Rattle.text.proofs.Pieces.{digits}
 use Rattle.text.proofs.hex_all.Statement.{statement}
 use Rattle.text.proofs.hex_all.Tie as tie
 
 abbrev invariant-loop : tie.invariant-loop
-invariant-loop d₀ at v next₀ i₀ d next i = (length d ≡ length d₀) × (written (digitsOf v) (text d₀ at) ≡ written (digitsOf (drop i v)) (text d next))
+invariant-loop d₀ at v next₀ i₀ d next i = (length d ≡ length d₀) × (written (digits_of v) (text d₀ at) ≡ written (digits_of (drop i v)) (text d next))
 
 abbrev decreases-loop : tie.decreases-loop
 decreases-loop d₀ at v next₀ i₀ d next i = length v - i

@@ -3,14 +3,14 @@ use borrow.Author.Rules.{rules}
 use Prim.Native.Nat.{◌-◌, ◌*◌, ◌/◌, ◌≤◌}
 use mathlib.Core.Path.{◌≡◌, refl}
 use lib.ListN.{length, take, drop}
-use Rattle.fields.specs.Fields.{behindAll, pairsOf}
+use Rattle.fields.specs.Fields.{behind_all, pairs_of}
 use Rattle.fields.proofs.Decoding.{pair-octets}
 use Rattle.fields.proofs.hex.decode.Statement.{statement}
 use Rattle.fields.proofs.hex.decode.Tie as tie
 
 abbrev invariant-loop : tie.invariant-loop
 invariant-loop s d₀ count i₀ d i = (i ≤ count) × (count ≡ length s / 2) × (count ≤ length d) × (length d ≡ length d₀) × (drop count d ≡ drop count d₀)
-    × (pairsOf s ≡ behindAll (take i d) (pairsOf (drop (2 * i) s)))
+    × (pairs_of s ≡ behind_all (take i d) (pairs_of (drop (2 * i) s)))
 
 abbrev decreases-loop : tie.decreases-loop
 decreases-loop s d₀ count i₀ d i = count - i

@@ -4,14 +4,14 @@ use native.Mathlib.Omega.{arith}
 use Prim.Native.Nat.{◌-◌}
 use mathlib.Core.Path.{◌≡◌}
 use lib.ListN.{length, take, drop}
-use Rattle.fields.specs.Fields.{behindAll, octetsAt}
+use Rattle.fields.specs.Fields.{behind_all, octets_at}
 use Rattle.fields.proofs.Decoding.{ids}
 use Rattle.fields.proofs.hex.octets_at.Statement.{statement}
 use Rattle.fields.proofs.hex.octets_at.Tie as tie
 
 abbrev invariant-loop : tie.invariant-loop
 invariant-loop s places octets₀ i₀ octets i =
-    (length places ≡ 16) × (length octets ≡ 16) × (octetsAt s places ≡ behindAll (take i octets) (octetsAt s (drop i places)))
+    (length places ≡ 16) × (length octets ≡ 16) × (octets_at s places ≡ behind_all (take i octets) (octets_at s (drop i places)))
 
 abbrev decreases-loop : tie.decreases-loop
 decreases-loop s places octets₀ i₀ octets i = 16 - i

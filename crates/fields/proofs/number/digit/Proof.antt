@@ -1,42 +1,42 @@
 -- Assumes nothing.
 use Rattle.fields.proofs.Numerals.{tests}
-use Rattle.fields.specs.Fields.{digitOf}
+use Rattle.fields.specs.Fields.{digit_of}
 use borrow.Author.Rules.{rules}
 use Rattle.fields.proofs.number.digit.Statement.{statement}
 use Rattle.fields.proofs.number.digit.Tie as tie
 
 returns : tie.Need-returns
-unfolding digitOf
+unfolding digit_of
 returns c = search (rules, tests)
 
 returns-2 : tie.Need-returns-2
-unfolding digitOf
+unfolding digit_of
 returns-2 c = search (rules, tests)
 
 returns-3 : tie.Need-returns-3
-unfolding digitOf
+unfolding digit_of
 returns-3 c = search (rules, tests)
 
 sub-result : tie.Need-overflow-sub-result
 sub-result c = search rules
 
 returns-4 : tie.Need-returns-4
-unfolding digitOf
+unfolding digit_of
 returns-4 c = search (rules, tests)
 
 returns-5 : tie.Need-returns-5
-unfolding digitOf
+unfolding digit_of
 returns-5 c = search (rules, tests)
 
 sub-result-2 : tie.Need-overflow-sub-result-2
 sub-result-2 c = search rules
 
 returns-6 : tie.Need-returns-6
-unfolding digitOf
+unfolding digit_of
 returns-6 c = search (rules, tests)
 
 returns-7 : tie.Need-returns-7
-unfolding digitOf
+unfolding digit_of
 returns-7 c = search (rules, tests)
 
 pub digit-spec : {M : Type 1} → statement M

@@ -5,13 +5,13 @@ use native.Mathlib.Nat.{mul-le-mul}
 use native.Mathlib.Omega.{arith}
 use mathlib.Core.Path.{◌≡◌, refl}
 use lib.ListN.{length, drop}
-use Rattle.fields.specs.Fields.{numeralFrom}
+use Rattle.fields.specs.Fields.{numeral_from}
 use Rattle.fields.proofs.Numerals.{numerals}
 use Rattle.fields.proofs.number.numeral.Statement.{statement}
 use Rattle.fields.proofs.number.numeral.Tie as tie
 
 abbrev invariant-loop : tie.invariant-loop
-invariant-loop s base most number₀ i₀ number i = (number ≤ most) × (numeralFrom base most 0 s ≡ numeralFrom base most number (drop i s))
+invariant-loop s base most number₀ i₀ number i = (number ≤ most) × (numeral_from base most 0 s ≡ numeral_from base most number (drop i s))
 
 abbrev decreases-loop : tie.decreases-loop
 decreases-loop s base most number₀ i₀ number i = length s - i

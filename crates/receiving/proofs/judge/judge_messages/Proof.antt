@@ -4,7 +4,7 @@ use Prim.Native.Nat.{◌+◌, ◌<◌, ◌≤◌}
 use mathlib.Core.Path.{◌≡◌}
 use native.Mathlib.Omega.{arith}
 use lib.ListN.{length}
-use Rattle.token.specs.Token.{chainOf}
+use Rattle.token.specs.Token.{chain_of}
 use Rattle.conversation.specs.Reading.{start_of, judge}
 use Rattle.receiving.proofs.Judging.{whole_length, place-fits, judgings}
 use Rattle.receiving.proofs.judge.judge_messages.Statement.{statement}
@@ -13,7 +13,7 @@ use Rattle.receiving.proofs.judge.judge_messages.Tie as tie
 abbrev invariant-loop : tie.invariant-loop
 invariant-loop r t conversation rest₀ place₀ sequence₀ scan₀ count₀ rest place sequence scan count =
     (count + length rest ≤ length t) × (place.0 + length rest ≡ length t) × (sequence ≡ r.sequence + count) × (scan.named ≤ count)
-    × (judge r t 0 (start_of r) (chainOf t 0 0 r.sequence conversation) ≡ judge r t count scan (chainOf rest 0 place.0 sequence conversation))
+    × (judge r t 0 (start_of r) (chain_of t 0 0 r.sequence conversation) ≡ judge r t count scan (chain_of rest 0 place.0 sequence conversation))
 
 abbrev decreases-loop : tie.decreases-loop
 decreases-loop r t conversation rest₀ place₀ sequence₀ scan₀ count₀ rest place sequence scan count = length rest

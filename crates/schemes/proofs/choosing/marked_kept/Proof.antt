@@ -3,13 +3,13 @@ use borrow.Author.Rules.{rules}
 use Prim.Native.Nat.{◌≤◌}
 use mathlib.Core.Path.{◌≡◌}
 use lib.ListN.{drop}
-use Rattle.schemes.specs.Answers.{markedAt}
+use Rattle.schemes.specs.Answers.{marked_at}
 use Rattle.schemes.proofs.Builds.{markings}
 use Rattle.schemes.proofs.choosing.marked_kept.Statement.{statement}
 use Rattle.schemes.proofs.choosing.marked_kept.Tie as tie
 
 abbrev invariant-loop : tie.invariant-loop
-invariant-loop marks kept set₀ k₀ set k = (k ≤ 16) × (set ≡ markedAt (drop k kept) marks)
+invariant-loop marks kept set₀ k₀ set k = (k ≤ 16) × (set ≡ marked_at (drop k kept) marks)
 
 abbrev decreases-loop : tie.decreases-loop
 decreases-loop marks kept set₀ k₀ set k = k

@@ -4,7 +4,7 @@ use native.Mathlib.Omega.{arith}
 use lib.ListN.{length-drop}
 use Prim.Native.Nat.{◌-◌, ◌≤◌}
 use mathlib.Core.Path.{◌≡◌}
-use Rattle.message.specs.Show.{idsAt}
+use Rattle.message.specs.Show.{ids_at}
 use Rattle.schemes.specs.Lists.{distinct}
 use Rattle.octets.proofs.Slices.{tail_all}
 use Rattle.schemes.proofs.Ids.{rest, repeats}
@@ -12,7 +12,7 @@ use Rattle.schemes.proofs.list.distinct_ids.Statement.{statement}
 use Rattle.schemes.proofs.list.distinct_ids.Tie as tie
 
 abbrev invariant-loop : tie.invariant-loop
-invariant-loop list n k₀ k = (k ≤ n) × (distinct (idsAt n list) ≡ distinct (rest n list k))
+invariant-loop list n k₀ k = (k ≤ n) × (distinct (ids_at n list) ≡ distinct (rest n list k))
 
 abbrev decreases-loop : tie.decreases-loop
 decreases-loop list n k₀ k = n - k

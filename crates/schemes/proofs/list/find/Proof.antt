@@ -2,14 +2,14 @@
 use borrow.Author.Rules.{rules}
 use Prim.Native.Nat.{◌+◌, ◌-◌, ◌≤◌}
 use mathlib.Core.Path.{◌≡◌}
-use Rattle.message.specs.Show.{idsAt}
+use Rattle.message.specs.Show.{ids_at}
 use Rattle.schemes.specs.Lists.{place}
 use Rattle.schemes.proofs.Ids.{rest, searches}
 use Rattle.schemes.proofs.list.find.Statement.{statement}
 use Rattle.schemes.proofs.list.find.Tie as tie
 
 abbrev invariant-loop : tie.invariant-loop
-invariant-loop list n id k₀ k = (k ≤ n) × (place (idsAt n list) id ≡ k + place (rest n list k) id)
+invariant-loop list n id k₀ k = (k ≤ n) × (place (ids_at n list) id ≡ k + place (rest n list k) id)
 
 abbrev decreases-loop : tie.decreases-loop
 decreases-loop list n id k₀ k = n - k

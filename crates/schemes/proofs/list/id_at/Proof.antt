@@ -3,13 +3,13 @@ use borrow.Author.Rules.{rules}
 use Prim.Native.Nat.{◌-◌, ◌≤◌}
 use mathlib.Core.Path.{◌≡◌, refl}
 use lib.ListN.{take, drop}
-use Rattle.schemes.specs.Sets.{padTo}
+use Rattle.schemes.specs.Sets.{pad_to}
 use Rattle.schemes.proofs.Pads.{copies}
 use Rattle.schemes.proofs.list.id_at.Statement.{statement}
 use Rattle.schemes.proofs.list.id_at.Tie as tie
 
 abbrev invariant-loop : tie.invariant-loop
-invariant-loop s at id₀ j₀ id j = (j ≤ 16) × (id ≡ padTo 16 (take j (drop at s)))
+invariant-loop s at id₀ j₀ id j = (j ≤ 16) × (id ≡ pad_to 16 (take j (drop at s)))
 
 abbrev decreases-loop : tie.decreases-loop
 decreases-loop s at id₀ j₀ id j = 16 - j

@@ -4,15 +4,15 @@ use native.Mathlib.Omega.{arith}
 use lib.ListN.{length}
 use Prim.Native.Nat.{◌-◌, ◌≤◌}
 use mathlib.Core.Path.{◌≡◌}
-use Rattle.message.specs.Show.{idsAt}
+use Rattle.message.specs.Show.{ids_at}
 use Rattle.schemes.specs.Sets.{left}
-use Rattle.schemes.specs.Answers.{schemesOf}
+use Rattle.schemes.specs.Answers.{schemes_of}
 use Rattle.schemes.proofs.Offers.{gather-room, gather-take, gatherings}
 use Rattle.schemes.proofs.offer.gather.Statement.{statement}
 use Rattle.schemes.proofs.offer.gather.Tie as tie
 
 abbrev invariant-loop : tie.invariant-loop
-invariant-loop list n set schemes₀ k₀ schemes k = (k ≤ n) × (schemes ≡ schemesOf (left (idsAt k list) set 0))
+invariant-loop list n set schemes₀ k₀ schemes k = (k ≤ n) × (schemes ≡ schemes_of (left (ids_at k list) set 0))
 
 abbrev decreases-loop : tie.decreases-loop
 decreases-loop list n set schemes₀ k₀ schemes k = n - k

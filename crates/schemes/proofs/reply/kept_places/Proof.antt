@@ -2,15 +2,15 @@
 use borrow.Author.Rules.{rules}
 use Prim.Native.Nat.{◌-◌, ◌≤◌}
 use mathlib.Core.Path.{◌≡◌}
-use Rattle.message.specs.Show.{idsAt}
-use Rattle.schemes.specs.Sets.{keptPlaces}
-use Rattle.schemes.specs.Answers.{keptOf}
+use Rattle.message.specs.Show.{ids_at}
+use Rattle.schemes.specs.Sets.{kept_places}
+use Rattle.schemes.specs.Answers.{kept_of}
 use Rattle.schemes.proofs.Mentions.{keepings}
 use Rattle.schemes.proofs.reply.kept_places.Statement.{statement}
 use Rattle.schemes.proofs.reply.kept_places.Tie as tie
 
 abbrev invariant-loop : tie.invariant-loop
-invariant-loop own n peer count kept₀ j₀ kept j = (j ≤ count) × (kept ≡ keptOf (keptPlaces (idsAt n own) (idsAt j peer)))
+invariant-loop own n peer count kept₀ j₀ kept j = (j ≤ count) × (kept ≡ kept_of (kept_places (ids_at n own) (ids_at j peer)))
 
 abbrev decreases-loop : tie.decreases-loop
 decreases-loop own n peer count kept₀ j₀ kept j = count - j

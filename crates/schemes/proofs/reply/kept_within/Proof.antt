@@ -3,13 +3,13 @@ use borrow.Author.Rules.{rules}
 use Prim.Native.Nat.{◌-◌, ◌≤◌}
 use mathlib.Core.Path.{◌≡◌}
 use lib.ListN.{drop}
-use Rattle.schemes.specs.Sets.{keptBelow}
+use Rattle.schemes.specs.Sets.{kept_below}
 use Rattle.schemes.proofs.Limits.{limits}
 use Rattle.schemes.proofs.reply.kept_within.Statement.{statement}
 use Rattle.schemes.proofs.reply.kept_within.Tie as tie
 
 abbrev invariant-loop : tie.invariant-loop
-invariant-loop common n kept set₀ k₀ set k = (k ≤ 16) × (keptBelow n kept common ≡ keptBelow n (drop k kept) set)
+invariant-loop common n kept set₀ k₀ set k = (k ≤ 16) × (kept_below n kept common ≡ kept_below n (drop k kept) set)
 
 abbrev decreases-loop : tie.decreases-loop
 decreases-loop common n kept set₀ k₀ set k = 16 - k

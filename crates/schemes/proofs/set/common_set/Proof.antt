@@ -3,14 +3,14 @@ use borrow.Author.Rules.{rules}
 use Prim.Native.Nat.{◌≤◌}
 use mathlib.Core.Path.{◌≡◌}
 use Rattle.message.specs.Show.{ids_of}
-use Rattle.schemes.specs.Sets.{commonSet}
+use Rattle.schemes.specs.Sets.{common_set}
 use Rattle.schemes.proofs.Ids.{rest}
 use Rattle.schemes.proofs.Builds.{commons}
 use Rattle.schemes.proofs.set.common_set.Statement.{statement}
 use Rattle.schemes.proofs.set.common_set.Tie as tie
 
 abbrev invariant-loop : tie.invariant-loop
-invariant-loop own n peer count set₀ k₀ set k = (k ≤ n) × (set ≡ commonSet (rest n own k) (ids_of peer))
+invariant-loop own n peer count set₀ k₀ set k = (k ≤ n) × (set ≡ common_set (rest n own k) (ids_of peer))
 
 abbrev decreases-loop : tie.decreases-loop
 decreases-loop own n peer count set₀ k₀ set k = k

@@ -5,13 +5,13 @@ use native.Mathlib.Omega.{arith}
 use Prim.Native.Nat.{◌+◌, ◌-◌, ◌≤◌}
 use mathlib.Core.Path.{◌≡◌}
 use lib.ListN.{length}
-use Rattle.script.specs.Grammar.{fields_of, placeFrom, place_of}
-use Rattle.script.specs.Places.{fieldsFrom}
+use Rattle.script.specs.Grammar.{fields_of, place_from, place_of}
+use Rattle.script.specs.Places.{fields_from}
 use Rattle.script.proofs.field.place.Statement.{statement}
 use Rattle.script.proofs.field.place.Tie as tie
 
 abbrev invariant-loop : tie.invariant-loop
-invariant-loop word text at₀ k₀ at k = (k ≤ at + 1) × (place_of word (fields_of text) ≡ placeFrom k word (fieldsFrom text at))
+invariant-loop word text at₀ k₀ at k = (k ≤ at + 1) × (place_of word (fields_of text) ≡ place_from k word (fields_from text at))
 
 abbrev decreases-loop : tie.decreases-loop
 decreases-loop word text at₀ k₀ at k = length text + 1 - at

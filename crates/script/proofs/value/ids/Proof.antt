@@ -5,15 +5,15 @@ use native.Mathlib.Omega.{arith}
 use Prim.Native.Nat.{◌+◌, ◌-◌, ◌≤◌}
 use mathlib.Core.Path.{◌≡◌, refl}
 use lib.ListN.{length, take}
-use Rattle.fields.specs.Fields.{behindAll}
+use Rattle.fields.specs.Fields.{behind_all}
 use Rattle.script.specs.Grammar.{ids_of}
-use Rattle.script.specs.Places.{fieldsFrom}
+use Rattle.script.specs.Places.{fields_from}
 use Rattle.script.proofs.value.ids.Statement.{statement}
 use Rattle.script.proofs.value.ids.Tie as tie
 
 abbrev invariant-loop : tie.invariant-loop
 invariant-loop line from d₀ at₀ filled₀ d at filled = (filled ≤ length d) × (length d ≡ length d₀)
-    × (ids_of (fieldsFrom line from) ≡ behindAll (take filled d) (ids_of (fieldsFrom line at)))
+    × (ids_of (fields_from line from) ≡ behind_all (take filled d) (ids_of (fields_from line at)))
 
 abbrev decreases-loop : tie.decreases-loop
 decreases-loop line from d₀ at₀ filled₀ d at filled = length line + 1 - at

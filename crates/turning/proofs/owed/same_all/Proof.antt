@@ -3,13 +3,13 @@ use borrow.Author.Rules.{rules}
 use Prim.Native.Nat.{◌-◌}
 use mathlib.Core.Path.{◌≡◌, refl}
 use lib.ListN.{length, drop}
-use Rattle.octets.specs.Octets.{sameOctets}
+use Rattle.octets.specs.Octets.{same_octets}
 use Rattle.turning.proofs.Owing.{alls}
 use Rattle.turning.proofs.owed.same_all.Statement.{statement}
 use Rattle.turning.proofs.owed.same_all.Tie as tie
 
 abbrev invariant-loop : tie.invariant-loop
-invariant-loop a b i₀ i = (length a ≡ length b) × (sameOctets a b ≡ sameOctets (drop i a) (drop i b))
+invariant-loop a b i₀ i = (length a ≡ length b) × (same_octets a b ≡ same_octets (drop i a) (drop i b))
 
 abbrev decreases-loop : tie.decreases-loop
 decreases-loop a b i₀ i = length a - i
