@@ -1,9 +1,11 @@
 // Writes the token in the file whose name stands on standard input's first line with each octet zero that nothing points at.
+#![tactic(auto)]
+
 use blanking::blank;
-use bytes::scan::find;
 use console::{Loaded, load};
 use libc::{STDERR_FILENO, STDIN_FILENO, STDOUT_FILENO};
 use lines::refused_text;
+use scan::find;
 use token::Answer;
 use vector::TokenPlace;
 

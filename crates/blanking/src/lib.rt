@@ -1,4 +1,6 @@
 // A token with each octet that nothing points at zero.
+#![tactic(auto)]
+
 ghost use Rattle.std.specs.Prelude.{◌≡◌, cond, ◌&&◌, ◌||◌, ◌≤◌, ◌<◌, ◌^◌, leb, ltb, length};
 ghost use Rattle.message.specs.Layout.{head_of, shape_of, header_of, pads_of};
 ghost use Rattle.token.specs.Token.{told};

@@ -1,4 +1,6 @@
 // What the calls of an end share: answers, the room, the stage, whether the reply lists a scheme, and the next message.
+#![tactic(auto)]
+
 ghost use Rattle.std.specs.Prelude.{◌≡◌, ◌+◌, min};
 ghost use Rattle.schemes.specs.Lists.{mem, place};
 ghost use Rattle.conversation.specs.State.{own_of, replied};

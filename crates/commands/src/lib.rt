@@ -1,4 +1,6 @@
 // The calls of the library that a script's commands stand for.
+#![tactic(auto)]
+
 ghost use Rattle.std.specs.Prelude.{◌≡◌, ◌%◌, drop};
 ghost use Rattle.conversation.specs.Outcomes.{leaving};
 ghost use Rattle.commands.specs.Commands.{random_in, nego_of, writer_of, chooser_of, call_of};

@@ -1,10 +1,12 @@
 // What the programs share: a file's octets in a lent buffer, and a token's listing on a file descriptor.
+#![tactic(auto)]
+
 ghost use Rattle.std.specs.Prelude.{◌≡◌, length};
 ghost use Rattle.listing.specs.Listing.{lines_of};
 ghost use Rattle.console.specs.Console.{Holds};
 
 // What loading a file answers: how many octets stand at the buffer's front, or that there is no file to be read.
-#[derive(Drop)]
+#[derive(Clone, Copy)]
 pub enum Loaded {
     Octets(usize),
     Nothing,

@@ -1,7 +1,9 @@
 // Plays the script in the file whose name stands on standard input's first line.
-use bytes::scan::find;
+#![tactic(auto)]
+
 use libc::STDIN_FILENO;
 use playing::play::play_file;
+use scan::find;
 
 fn main() {
     let mut input = io::buffer();

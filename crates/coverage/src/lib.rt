@@ -1,4 +1,6 @@
 // The octets of a message that its vectors cover, and its vectors one by one.
+#![tactic(auto)]
+
 ghost use Rattle.std.specs.Prelude.{◌≡◌, ◌≤◌, ◌<◌, min, max, ◌^◌, ltb, length};
 ghost use Rattle.vector.specs.Vector.{part as Vector·part};
 ghost use Rattle.message.specs.Layout.{nego, alert, head_of, shape_of, header_of, values_of, elements_of, vectors_of, content_of};
@@ -15,7 +17,7 @@ use vector::Vector;
 pub mod vectors;
 
 // How many octets of a message lie in its header, in a vector, and in neither.
-#[derive(Drop)]
+#[derive(Clone, Copy)]
 pub struct Octets {
     pub headers: u32,
     pub vectors: u32,

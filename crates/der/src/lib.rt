@@ -1,18 +1,20 @@
 // Elements in DER. A holder is the part of the buffer from `at` to `end`.
+#![tactic(auto)]
+
 ghost use Rattle.std.specs.Prelude.{◌≡◌, ◌+◌, ◌-◌, ◌*◌, ◌≤◌, ◌||◌};
 ghost use Rattle.octets.specs.Octets.{same_octets};
 ghost use Rattle.der.specs.Element.{number, length_in, shortest as Element·shortest, framed_from, frame, indefinite, cut, any, exactly, at_most};
 ghost use Rattle.der.specs.Holder.{Holder, part, capped, Frames, Cuts, verdict};
 
 // An element taken apart: its length from the first place on, its contents from the second to the third; or a refusal's number.
-#[derive(Drop)]
+#[derive(Clone, Copy)]
 pub enum Framed {
     At(usize, usize, usize),
     Refused(u32),
 }
 
 // An element's contents, from a place to a place; or a refusal's number.
-#[derive(Drop)]
+#[derive(Clone, Copy)]
 pub enum Cut {
     Element(usize, usize),
     Refused(u32),

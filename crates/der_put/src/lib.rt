@@ -1,4 +1,6 @@
 // Elements in DER, written into a lent slice. Each writer answers the place behind what it wrote.
+#![tactic(auto)]
+
 ghost use Rattle.std.specs.Prelude.{◌≡◌, ◌+◌, ◌≤◌, length};
 ghost use Rattle.put.specs.Put.{Written};
 ghost use Rattle.der.specs.Element.{element};

@@ -1,4 +1,6 @@
 // Extensions and alerts, as a caller hands them over and as they are written: an array of elements, and their values behind it.
+#![tactic(auto)]
+
 ghost use Rattle.std.specs.Prelude.{◌≡◌, true, ◌+◌, ◌*◌, ◌≤◌, ◌<◌, length};
 ghost use Rattle.octets.specs.Octets.{signed32, negative};
 ghost use Rattle.put.specs.Put.{Written, joined};
@@ -10,7 +12,7 @@ use put::{put_octets, put_u32};
 use vector::MessageOffset;
 
 // How many there are, their types as 32-bit numbers, and the sizes of their values. The values come joined, in a slice of their own.
-#[derive(Drop)]
+#[derive(Clone, Copy)]
 pub struct Elements {
     pub count: usize,
     pub types: [u32; 8],

@@ -1,4 +1,6 @@
 // INITIATOR_META_DATA, ACCEPTOR_META_DATA, CHALLENGE and AP_REQUEST.
+#![tactic(auto)]
+
 ghost use Rattle.std.specs.Prelude.{◌≡◌, ◌+◌, ◌≤◌, length};
 ghost use Rattle.put.specs.Put.{Written};
 ghost use Rattle.encode.specs.Encode.{encoded, exchange_of, told, storing};

@@ -1,4 +1,6 @@
 // INITIATOR_NEGO and ACCEPTOR_NEGO.
+#![tactic(auto)]
+
 ghost use Rattle.std.specs.Prelude.{◌≡◌, true, ◌++◌, ◌+◌, ◌*◌, ◌≤◌, length};
 ghost use Rattle.put.specs.Put.{Written, joined};
 ghost use Rattle.elements.specs.Elements.{items_of, elements_fit};

@@ -1,4 +1,6 @@
 // VERIFY.
+#![tactic(auto)]
+
 ghost use Rattle.std.specs.Prelude.{◌≡◌, ◌+◌, ◌≤◌, length};
 ghost use Rattle.put.specs.Put.{Written};
 ghost use Rattle.encode.specs.Encode.{encoded, verify_of, told, storing};

@@ -1,4 +1,6 @@
 // All that a viewer shows of a token, as entries of one size.
+#![tactic(auto)]
+
 ghost use Rattle.std.specs.Prelude.{◌≡◌, ◌+◌, ◌≤◌, min, ◌∷◌, [], length, drop};
 ghost use Rattle.token.specs.Token.{token_of};
 ghost use Rattle.token.specs.Walk.{messages_of, Accepts};
@@ -16,7 +18,7 @@ pub mod lookup;
 pub mod name;
 
 // One entry: what it is (name.rt), its message, its number in its list, its value, its place in the token and its length in octets.
-#[derive(Drop)]
+#[derive(Clone, Copy)]
 pub struct Entry {
     pub what: u32,
     pub message: u32,

@@ -1,4 +1,6 @@
 // NegTokenInit in its wrapper, and NegTokenResp, read where they stand in the caller's buffer. A holder is the part of the buffer from `at` to `end`.
+#![tactic(auto)]
+
 ghost use Rattle.std.specs.Prelude.{◌≡◌, length};
 ghost use Rattle.der.specs.Element.{any};
 ghost use Rattle.der.specs.Grammar.{only, starts, optional};
@@ -10,14 +12,14 @@ ghost use Rattle.envelope.specs.Answers.{sole_field, Optionals, count_of, told_c
 use der::{Cut, cut_at, cut_at_most, cut_exactly};
 
 // A field's octets, from a place to a place; or that it is not there.
-#[derive(Drop)]
+#[derive(Clone, Copy)]
 pub enum Field {
     At(usize, usize),
     Absent,
 }
 
 // A NegTokenInit: the contents of its list of mechanisms stand from `list` to `end`, and `count` says how many they are.
-#[derive(Drop)]
+#[derive(Clone, Copy)]
 pub struct Init {
     pub list: usize,
     pub end: usize,
@@ -28,7 +30,7 @@ pub struct Init {
 }
 
 // A NegTokenResp.
-#[derive(Drop)]
+#[derive(Clone, Copy)]
 pub struct Resp {
     pub state: Field,
     pub mechanism: Field,
@@ -36,7 +38,7 @@ pub struct Resp {
     pub checksum: Field,
 }
 
-#[derive(Drop)]
+#[derive(Clone, Copy)]
 pub enum Read {
     Init(Init),
     Resp(Resp),
@@ -44,28 +46,28 @@ pub enum Read {
 }
 
 // A field, with the place behind it.
-#[derive(Drop)]
+#[derive(Clone, Copy)]
 enum Optional {
     Field(Field, usize),
     Refused(u32),
 }
 
 // How many identifiers are still allowed behind a list.
-#[derive(Drop)]
+#[derive(Clone, Copy)]
 enum Counted {
     Left(usize),
     Refused(u32),
 }
 
 // The contents of the list of mechanisms, from a place to a place, how many they are, and the place behind the list.
-#[derive(Drop)]
+#[derive(Clone, Copy)]
 enum Listed {
     At(usize, usize, usize, usize),
     Refused(u32),
 }
 
 // The three fields behind the first.
-#[derive(Drop)]
+#[derive(Clone, Copy)]
 enum Tailed {
     Fields(Field, Field, Field),
     Refused(u32),

@@ -1,4 +1,6 @@
 // The text of an envelope, appended in a lent slice: each writer is given the place behind what is written already, and answers the next one.
+#![tactic(auto)]
+
 ghost use Rattle.std.specs.Prelude.{◌≡◌, ◌∷◌, [], ◌++◌, length, get_or};
 ghost use Rattle.text.specs.Text.{text, written, quoted};
 ghost use Rattle.der.specs.Holder.{part};

@@ -1,4 +1,6 @@
 // The parts of an envelope that was read, where they stand in the caller's buffer.
+#![tactic(auto)]
+
 ghost use Rattle.std.specs.Prelude.{◌≡◌};
 ghost use Rattle.der.specs.Holder.{Holder, part};
 ghost use Rattle.envelope_parts.specs.Parts.{octets_in, identifier_of, mechanism_of, is_negoex};

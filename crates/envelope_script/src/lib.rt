@@ -1,4 +1,6 @@
 // The text that `wrap` takes: a line read into what it says.
+#![tactic(auto)]
+
 ghost use Rattle.std.specs.Prelude.{◌≡◌, length, drop};
 ghost use Rattle.fields.specs.Fields.{fit, octets_of};
 ghost use Rattle.envelope_script.specs.Grammar.{said_as, begins, state_said, octets_said, field_of, line_of};
@@ -8,7 +10,7 @@ use fields::number::{Number, room};
 use fields::{is_word, part};
 
 // What a line says: the state, or octets of a kind, of which so many stand at the front of the lent slice.
-#[derive(Drop)]
+#[derive(Clone, Copy)]
 pub enum Line {
     Bad,
     Init,

@@ -1,4 +1,6 @@
 // Where the token stands in an envelope.
+#![tactic(auto)]
+
 ghost use Rattle.std.specs.Prelude.{◌≡◌};
 ghost use Rattle.envelope.specs.Answers.{shown};
 ghost use Rattle.envelope_token.specs.Tokens.{span_in, carried_of, said, TokenAt};
@@ -6,7 +8,7 @@ ghost use Rattle.envelope_token.specs.Tokens.{span_in, carried_of, said, TokenAt
 use envelope::{Field, Read, read_envelope};
 
 // The token's place and length, or why there is none.
-#[derive(Drop)]
+#[derive(Clone, Copy)]
 pub enum Carried {
     At(u32, u32),
     Refused(u32),

@@ -1,4 +1,6 @@
 // The envelope written into a lent buffer, from its first octet on. A field comes with whether it is there.
+#![tactic(auto)]
+
 ghost use Rattle.std.specs.Prelude.{◌≡◌, true, ◌∷◌, [], ◌+◌, ◌≤◌, length, eqb};
 ghost use Rattle.std.proofs.Math.Option.{some};
 ghost use Rattle.put.specs.Put.{Written};
@@ -12,7 +14,7 @@ ghost use Rattle.envelope_write.specs.Writing.{told, storing, storing_init};
 use der_put::{cap, element_size, field_size, put_element, put_field, put_head};
 
 // How many octets were written; or a refusal's number.
-#[derive(Drop)]
+#[derive(Clone, Copy)]
 pub enum Stored {
     Size(usize),
     Refused(u32),

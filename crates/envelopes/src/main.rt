@@ -1,11 +1,13 @@
 // Shows the envelopes in the files whose names stand on standard input, one a line.
+#![tactic(auto)]
+
 ghost use Rattle.std.specs.Prelude.{◌<◌, length};
 
-use bytes::scan::find;
 use console::{Loaded, load};
 use envelope_lines::envelope_text;
 use fields::part;
 use libc::{STDIN_FILENO, STDOUT_FILENO};
+use scan::find;
 
 // What an envelope says, without the listing of a token in it.
 fn say(s: &[u8]) {

@@ -1,8 +1,10 @@
 // Lists the tokens in the files whose names stand on standard input, one a line.
+#![tactic(auto)]
+
 ghost use Rattle.std.specs.Prelude.{◌<◌, length};
 
-use bytes::scan::find;
 use libc::{STDIN_FILENO, STDOUT_FILENO};
+use scan::find;
 
 // The name of a file, and the listing of the token in it.
 fn show(name: &[u8]) {

@@ -1,4 +1,6 @@
 // The octets at fault of a refused token: the field whose test fails first.
+#![tactic(auto)]
+
 ghost use Rattle.std.specs.Prelude.{◌≡◌, ◌+◌, ◌≤◌, ◌<◌, length, take, drop};
 ghost use Rattle.message.specs.Layout.{nego, alert, elements_of, shape_of, header_of};
 ghost use Rattle.token.specs.Token.{token_of};
@@ -20,7 +22,7 @@ use token::{Answer, read_token};
 use vector::{MessageOffset, TokenPlace, keeps_rule};
 
 // A field of a message: what it is, its number in its list, where it stands, and its size.
-#[derive(Drop)]
+#[derive(Clone, Copy)]
 pub struct Spot {
     pub what: u32,
     pub number: u32,

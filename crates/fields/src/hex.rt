@@ -6,14 +6,14 @@ use super::number::digit;
 use super::{is_word, octet};
 
 // What a field of octets says: how many stand at the front of the lent slice, or that it is none.
-#[derive(Drop)]
+#[derive(Clone, Copy)]
 pub enum Decoded {
     Octets(usize),
     Bad,
 }
 
 // What a field with an id says.
-#[derive(Drop)]
+#[derive(Clone, Copy)]
 pub struct IdText {
     pub ok: bool,
     pub octets: [u8; 16],

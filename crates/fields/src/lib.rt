@@ -1,4 +1,6 @@
 // What a field of a text says: words, and in their own files numbers, octets and ids.
+#![tactic(auto)]
+
 ghost use Rattle.std.specs.Prelude.{◌≡◌, min, get_or};
 ghost use Rattle.octets.specs.Octets.{same_octets};
 ghost use Rattle.fields.specs.Fields.{part as Fields·part};

@@ -1,5 +1,7 @@
 // The library for C hosts, over numbers and byte slices: wrappers over the structural reading and the listing's windows. A refusal is its number negated.
 // negoex.h, beside this file's folder, has the prototypes.
+#![tactic(auto)]
+
 ghost use Rattle.std.specs.Prelude.{◌≡◌, length};
 ghost use Rattle.token.specs.Token.{token_of};
 ghost use Rattle.token.specs.Walk.{messages_of, Accepts};

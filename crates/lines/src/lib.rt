@@ -1,4 +1,6 @@
 // The lines of a message that passed its checks, and the last line of a listing, each in an array of 128 octets, which has room for every line.
+#![tactic(auto)]
+
 ghost use Rattle.std.specs.Prelude.{◌≡◌, ◌+◌, [], length, get_or};
 ghost use Rattle.lines.specs.Lines.{message_lines, end_line, refused_line};
 ghost use Rattle.lines.specs.Fit.{Fit, shape_in, lines_in, LineIs};

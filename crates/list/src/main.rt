@@ -1,6 +1,8 @@
 // Lists the token in the file whose name stands on standard input's first line.
-use bytes::scan::find;
+#![tactic(auto)]
+
 use libc::{STDIN_FILENO, STDOUT_FILENO};
+use scan::find;
 
 fn main() {
     let mut input = io::buffer();

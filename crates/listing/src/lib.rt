@@ -1,4 +1,6 @@
 // The lines of a token, and windows of them.
+#![tactic(auto)]
+
 ghost use Rattle.std.specs.Prelude.{◌≡◌, ◌-◌, [], length, drop, get_or};
 ghost use Rattle.token.specs.Token.{token_of};
 ghost use Rattle.token.specs.Walk.{messages_of, Accepts};

@@ -1,4 +1,6 @@
 // Two files of a conversation, one a direction: cut into messages, and merged into turns by their numbers.
+#![tactic(auto)]
+
 ghost use Rattle.std.specs.Prelude.{◌≡◌, ◌+◌, ◌≤◌, length, eqb};
 ghost use Rattle.message.specs.Check.{said};
 ghost use Rattle.sides.specs.Merging.{cut_of, messages_of, turns_of, together};
@@ -8,7 +10,7 @@ use message::{Read, read_header};
 use vector::{MessageOffset, TokenPlace, in_token};
 
 // A file cut into messages: the number and the place of the refusal that ends it, 0 for none, and how many messages stand before.
-#[derive(Drop)]
+#[derive(Clone, Copy)]
 pub struct Cut {
     pub number: u32,
     pub place: TokenPlace,
@@ -16,7 +18,7 @@ pub struct Cut {
 }
 
 // A run of messages that are numbered on, at the front of octets.
-#[derive(Drop)]
+#[derive(Clone, Copy)]
 pub struct Run {
     pub octets: usize,
     pub messages: u32,
@@ -24,7 +26,7 @@ pub struct Run {
 
 // The next turn: whether it is the acceptor's, how many octets it has of the initiator's file and of the acceptor's, one of which is none, and how many
 // messages; no messages where there is no turn.
-#[derive(Drop)]
+#[derive(Clone, Copy)]
 pub struct Next {
     pub acceptors: bool,
     pub initiator: usize,

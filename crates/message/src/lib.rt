@@ -1,4 +1,6 @@
 // One message: its kind, its header, and its checks by itself.
+#![tactic(auto)]
+
 ghost use Rattle.std.specs.Prelude.{◌≡◌, ◌≤◌, length};
 ghost use Rattle.message.specs.Layout.{shape_of, header_of};
 ghost use Rattle.message.specs.Check.{said, refusal_of, header_verdict, message_verdict, body_verdict, Passed};
@@ -14,7 +16,7 @@ pub mod verify;
 pub mod walk;
 
 // A message's kind, by its type number.
-#[derive(Drop)]
+#[derive(Clone, Copy)]
 pub struct Kind(pub u32);
 
 impl Kind {
@@ -134,7 +136,7 @@ impl Kind {
 }
 
 // The fields of a common header that passed its checks.
-#[derive(Drop)]
+#[derive(Clone, Copy)]
 pub struct Header {
     pub kind: Kind,
     pub sequence: u32,
@@ -143,7 +145,7 @@ pub struct Header {
 }
 
 // What reading a message answers: its header, or the number of the check that refuses it.
-#[derive(Drop)]
+#[derive(Clone, Copy)]
 pub enum Read {
     Message(Header),
     Refused(u32),

@@ -1,5 +1,6 @@
 // The library's door: every entry point under its plain name. Each is the function of the crate named beside it, with the contract that it has there;
 // the crates behind the door are many so that a change is proved in seconds (docs/GATE.md).
+#![tactic(auto)]
 
 // The structural reading of a token: checks 1 to 13, and its messages by their place in the list.
 pub use token::{Answer as TokenAnswer, has_message, message_at, place_at, read_token};

@@ -1,4 +1,6 @@
 // The schemes that NEGO messages list.
+#![tactic(auto)]
+
 ghost use Rattle.std.specs.Prelude.{◌≡◌, ℕ, ◌≤◌, ◌<◌, ◌*◌, not, length, get_or};
 ghost use Rattle.message.specs.Show.{ids_at, ids_of};
 ghost use Rattle.offers.specs.Table.{entered_in, entered_all_in, ticked_from, offered_in, Counting};
@@ -11,7 +13,7 @@ use put::put_octets;
 use schemes::list::has_id;
 
 // The table of schemes: the ids in order of their first mention, how many NEGO messages list each, and how many list any other.
-#[derive(Drop)]
+#[derive(Clone, Copy)]
 pub struct Table {
     pub ids: [u8; 1024],
     pub counts: [u64; 64],

@@ -1,5 +1,7 @@
 // The readers of a message's contents: vectors, as parts of the octets that the caller lends, and signed numbers. Each takes any slice; where it has no room
 // for the header, or the vector breaks its rule, there is nothing to show, and a number is 0.
+#![tactic(auto)]
+
 ghost use Rattle.std.specs.Prelude.{◌≡◌, ◌+◌, ◌≤◌};
 ghost use Rattle.vector.specs.Vector.{shown};
 ghost use Rattle.message.specs.Layout.{scheme_vector, extension_vector, exchange_vector, checksum_vector, alert_vector};

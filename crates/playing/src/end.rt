@@ -7,7 +7,7 @@ use negotiating::opening::open;
 use script::Command;
 
 // One end: whether it is open, where its transcript's buffer stands among the octets for both, where its turn starts in it, and its record.
-#[derive(Drop)]
+#[derive(Clone, Copy)]
 pub(crate) struct End {
     pub(crate) open: bool,
     pub(crate) from: usize,
@@ -16,7 +16,7 @@ pub(crate) struct End {
     pub(crate) record: Record,
 }
 
-#[derive(Drop)]
+#[derive(Clone, Copy)]
 pub(crate) struct Ends {
     pub(crate) initiator: End,
     pub(crate) acceptor: End,

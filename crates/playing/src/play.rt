@@ -2,12 +2,12 @@
 ghost use Rattle.console.specs.Console.{Holds};
 
 use super::end::{End, Ends, both_closed, end_of, held, moved, used, with_end};
-use bytes::scan::find;
 use commands::make;
 use console::{Loaded, load};
 use fields::part;
 use libc::STDOUT_FILENO;
 use reports::report;
+use scan::find;
 use script::{Command, read_command};
 use text::append;
 

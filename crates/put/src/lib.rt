@@ -1,4 +1,6 @@
 // Octets and numbers written into a lent slice. Each writer answers the place behind what it wrote.
+#![tactic(auto)]
+
 ghost use Rattle.std.specs.Prelude.{◌≡◌, ◌+◌, ◌≤◌, length};
 ghost use Rattle.put.specs.Put.{Written, octets_of, unsigned32};
 

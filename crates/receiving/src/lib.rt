@@ -1,4 +1,6 @@
 // Reading a peer's token into a conversation record.
+#![tactic(auto)]
+
 ghost use Rattle.std.specs.Prelude.{◌≡◌, ◌+◌, ◌≤◌, length};
 ghost use Rattle.conversation.specs.Outcomes.{leaving, closed_by};
 ghost use Rattle.conversation.specs.Reading.{accepted, finish, token_rows, reading_token};
@@ -18,7 +20,7 @@ mod judge;
 mod taken;
 
 // What 2 to 15 say of a token: the number of its messages, with what is carried out of it, or the first refusal with its place.
-#[derive(Drop)]
+#[derive(Clone, Copy)]
 pub enum Judgement {
     Whole(u32, Scan),
     Halted(u32, TokenPlace),

@@ -1,8 +1,10 @@
 // Lists what can still be read of the damaged captures in the files whose names stand on standard input, one a line.
+#![tactic(auto)]
+
 ghost use Rattle.std.specs.Prelude.{◌<◌, length};
 
-use bytes::scan::find;
 use libc::{STDIN_FILENO, STDOUT_FILENO};
+use scan::find;
 
 // The name of a file, and the lines of what can still be read of it.
 fn show(name: &[u8]) {

@@ -1,4 +1,6 @@
 // The lines of a damaged capture on a file descriptor.
+#![tactic(auto)]
+
 ghost use Rattle.std.specs.Prelude.{◌≡◌, length};
 ghost use Rattle.console.specs.Console.{Holds};
 ghost use Rattle.recovery.specs.Recovery.{recovered_lines};

@@ -1,4 +1,6 @@
 // Reading a damaged capture: every message that can still be read, and the stretches between them; and windows of their lines.
+#![tactic(auto)]
+
 ghost use Rattle.std.specs.Prelude.{◌≡◌, ◌≤◌, length};
 ghost use Rattle.text.specs.Text.{text, written};
 ghost use Rattle.windows.specs.Windows.{as_window, window_of};
@@ -13,7 +15,7 @@ use vector::{MessageOffset, TokenPlace, in_token};
 use windows::{Progress, Shown, finish, put_line, start};
 
 // How far a reading is: what its window shows, the next place, the end of the last message taken, and how many are taken.
-#[derive(Drop)]
+#[derive(Clone, Copy)]
 pub struct Scan {
     pub progress: Progress,
     pub place: TokenPlace,

@@ -1,7 +1,9 @@
 // Replays the case in the file whose name stands on standard input's first line.
-use bytes::scan::find;
+#![tactic(auto)]
+
 use libc::STDIN_FILENO;
 use replay_files::replay_file;
+use scan::find;
 
 fn main() {
     let mut input = io::buffer();

@@ -11,7 +11,7 @@ use lib.Seq.{take-length, drop-drop}
 use lib.Dec.{eqb, ltb}
 use borrow.Author.Tests.{ltb-true, ltb-false, lt-ltb, le-ltb}
 use Rattle.octets.proofs.Bools.{which, no_true}
-use Rattle.bytes.specs.Bytes.{index_of, index_after, slice}
+use Rattle.scan.specs.Scan.{index_of, index_after, slice}
 use Rattle.fields.specs.Fields.{part}
 use Rattle.replay_case.specs.Case.{on_first, text_lines, counts, counted_lines}
 use Rattle.replay_case.specs.Steps.{counted_from, NextLine}

@@ -10,7 +10,7 @@ use script::value::{number_in, rest_in};
 use script::{IDS, MARKS};
 
 // What a line `E MARKS ID ID ..` says: the marks, and how many octets of ids stand at the front of the lent slice; or that it is none.
-#[derive(Drop)]
+#[derive(Clone, Copy)]
 pub struct GivenText {
     pub ok: bool,
     pub marks: u32,

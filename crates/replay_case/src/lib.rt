@@ -1,23 +1,25 @@
 // The text of a case: four lines, in their order. Where they stand is found first, then each is read.
+#![tactic(auto)]
+
 ghost use Rattle.std.specs.Prelude.{◌≡◌, false, cond, ◌&&◌, ltb, length};
 ghost use Rattle.replay_case.specs.Case.{case_as, case_in, counts as Case·counts};
 ghost use Rattle.replay_case.specs.Steps.{NextLine, NameLine, FourLines};
 
-use bytes::scan::find;
 use fields::part;
 use given::{GivenText, read_behind, read_given};
+use scan::find;
 
 pub mod given;
 
 // A part of a text: from a place on, up to another.
-#[derive(Drop)]
+#[derive(Clone, Copy)]
 pub struct Place {
     pub from: usize,
     pub end: usize,
 }
 
 // What a case says: where the names of the two files stand in its text, and the marks and the number of the ids' octets of each side; or that it is bad.
-#[derive(Drop)]
+#[derive(Clone, Copy)]
 pub struct CaseText {
     pub ok: bool,
     pub initiator: Place,
@@ -27,7 +29,7 @@ pub struct CaseText {
 }
 
 // Where the names of the two files stand, and the lines of marks and ids; and whether there are four lines, the first two with names.
-#[derive(Drop)]
+#[derive(Clone, Copy)]
 struct Places {
     ok: bool,
     initiator: Place,

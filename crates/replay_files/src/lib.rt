@@ -1,4 +1,6 @@
 // Replaying a case: its text and its two files read, and what the replay says written to standard output.
+#![tactic(auto)]
+
 ghost use Rattle.console.specs.Console.{Holds};
 
 use console::{Loaded, load};
@@ -11,7 +13,7 @@ use turns::show_replay;
 mod turns;
 
 // Whether a file was read, and how many octets of it.
-#[derive(Drop)]
+#[derive(Clone, Copy)]
 struct Opened {
     found: bool,
     octets: usize,

@@ -1,4 +1,6 @@
 // What a replay prints beside the listings of its turns, as lines of text from the front of a lent slice on.
+#![tactic(auto)]
+
 ghost use Rattle.std.specs.Prelude.{◌≡◌, cond, [], ◌∷◌};
 ghost use Rattle.std.proofs.Math.Option.{none, some};
 ghost use Rattle.text.specs.Text.{text, written};

@@ -1,9 +1,11 @@
 // Replays the cases in the files whose names stand on standard input, one a line.
+#![tactic(auto)]
+
 ghost use Rattle.std.specs.Prelude.{◌<◌, length};
 
-use bytes::scan::find;
 use libc::{STDIN_FILENO, STDOUT_FILENO};
 use replay_files::replay_file;
+use scan::find;
 
 // The name of a case, and what its replay says.
 fn show(name: &[u8]) {

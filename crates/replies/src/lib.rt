@@ -1,4 +1,6 @@
 // What a host is answered of a token, its messages and their vectors: a number, or a refusal's number negated.
+#![tactic(auto)]
+
 ghost use Rattle.std.specs.Prelude.{◌≡◌, ◌<◌, ◌^◌, pos, neg_ℤ};
 ghost use Rattle.token.specs.Token.{token_of};
 ghost use Rattle.token.specs.Walk.{Accepts};

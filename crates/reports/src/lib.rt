@@ -1,4 +1,6 @@
 // What a script's calls answer, as lines of text from the front of a lent slice on.
+#![tactic(auto)]
+
 ghost use Rattle.std.specs.Prelude.{◌≡◌};
 ghost use Rattle.text.specs.Text.{text, written};
 ghost use Rattle.reports.specs.Reports.{wrote_text, choice_text, names_choice, numbers_line, used_line, report_of};

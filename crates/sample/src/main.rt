@@ -1,5 +1,7 @@
 // How a program calls the library: an initiator offers two schemes, an acceptor reads the offer and replies, and the initiator reads the reply and chooses.
 // Then the offer is read as a token alone.
+#![tactic(auto)]
+
 ghost use Rattle.std.specs.Prelude.{◌≡◌, ◌/◌, length};
 ghost use Rattle.vector.specs.Vector.{shown};
 ghost use Rattle.message.specs.Layout.{scheme_vector};

@@ -1,4 +1,6 @@
 // Lists of schemes, sets of their places, and the choice. An own list is its octets, 16 a scheme.
+#![tactic(auto)]
+
 pub mod choosing;
 pub mod list;
 pub mod offer;
@@ -9,21 +11,21 @@ pub mod set;
 pub const MOST: usize = 16;
 
 // The own places of the reply's schemes, in the reply's order, with zeros behind them.
-#[derive(Drop)]
+#[derive(Clone, Copy)]
 pub struct Kept {
     pub places: [u8; 16],
     pub count: u32,
 }
 
 // The lowest own place left, and how many were left; zeros where none was.
-#[derive(Drop)]
+#[derive(Clone, Copy)]
 pub struct Left {
     pub place: u32,
     pub left: u32,
 }
 
 // Schemes as octets, 16 each, with zeros behind them.
-#[derive(Drop)]
+#[derive(Clone, Copy)]
 pub struct Schemes {
     pub octets: [u8; 256],
     pub count: u32,

@@ -11,7 +11,7 @@ use lib.Seq.{take-nil, take-length, drop-drop}
 use lib.Dec.{eqb, ltb, leb-suc-suc}
 use borrow.Author.Tests.{ltb-true, ltb-false, lt-ltb, le-ltb}
 use Rattle.octets.proofs.Bools.{which}
-use Rattle.bytes.specs.Bytes.{index_of, index_after, slice}
+use Rattle.scan.specs.Scan.{index_of, index_after, slice}
 use Rattle.octets.specs.Octets.{same_octets}
 use Rattle.fields.specs.Fields.{part}
 use Rattle.script.specs.Grammar.{longer, fields_of, first, others, only, place_from, place_of}

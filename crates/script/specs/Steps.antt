@@ -8,7 +8,7 @@
 --   ItemRead          what is said of the item of a field
 --   one_more e t n     the elements e and one behind them, of type t, whose value has n octets
 use Rattle.std.specs.Prelude.{ℕ, ◌+◌, ◌≤◌, ◌≡◌, cond, List, [], ◌∷◌, length, take, set, leb, ltb}
-use Rattle.bytes.specs.Bytes.{index_of, slice}
+use Rattle.scan.specs.Scan.{index_of, slice}
 use Rattle.put.specs.Put.{joined}
 use Rattle.elements.specs.declared.Elements.{Elements}
 use Rattle.elements.specs.Elements.{item_values}

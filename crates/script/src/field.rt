@@ -5,8 +5,8 @@ ghost use Rattle.script.specs.Grammar.{fields_of, first, only, place_of, past as
 ghost use Rattle.script.specs.Places.{fields_from, Behind};
 ghost use Rattle.script.specs.Steps.{FieldEnd};
 
-use bytes::scan::find;
 use fields::{is_word, part};
+use scan::find;
 
 // Where the field that starts at `from` ends.
 fn field_end(s: &[u8], from: usize) -> usize

@@ -11,7 +11,7 @@ use fields::number::{Number, hexadecimal};
 use fields::{is_word, octet, part};
 
 // What a field that should be an extension or an alert says: its type, and how many octets its value has.
-#[derive(Drop)]
+#[derive(Clone, Copy)]
 pub(crate) struct ItemText {
     pub(crate) ok: bool,
     pub(crate) kind: u32,

@@ -1,4 +1,6 @@
 // The text of a script: a line read into one command.
+#![tactic(auto)]
+
 ghost use Rattle.std.specs.Prelude.{◌≡◌, ◌≤◌, length, take};
 ghost use Rattle.script.specs.Places.{fields_from};
 ghost use Rattle.script.specs.Grammar.{verbs, ends, speeches, place_of, verb_of, speech_verb, has_id, items_in, line_as, line as Grammar·line, bad_line, items_then, from_random, from_rest, from_id, from_number, called, chosen, command_of};
@@ -18,7 +20,7 @@ pub mod value;
 // What a line says: the call, its end, the MARKS of a choice, its number (ROOM, a reply's MARKS, TYPE or CODE), its id (CONVERSATION or ID), whether it is a
 // test call, its extensions or alerts, and how many octets it is given (RANDOM and the values of the extensions, the values of the alerts, OCTETS, or the
 // ids of a list). A field that a call does not have is zero.
-#[derive(Drop)]
+#[derive(Clone, Copy)]
 pub struct Command {
     pub verb: usize,
     pub acceptor: bool,

@@ -1,9 +1,11 @@
 // Plays the scripts in the files whose names stand on standard input, one a line.
+#![tactic(auto)]
+
 ghost use Rattle.std.specs.Prelude.{◌<◌, length};
 
-use bytes::scan::find;
 use libc::{STDIN_FILENO, STDOUT_FILENO};
 use playing::play::play_file;
+use scan::find;
 
 // The name of a script, and what its calls answer.
 fn show(name: &[u8]) {

@@ -1,4 +1,6 @@
 // What the writers of an exchange, VERIFY and ALERT share: the rule's scheme, and their refusals.
+#![tactic(auto)]
+
 ghost use Rattle.std.specs.Prelude.{◌≡◌, ◌+◌, ◌≤◌, ◌<◌};
 ghost use Rattle.conversation.specs.State.{scheme_at};
 ghost use Rattle.conversation.specs.Writing.{scheme_now, first_of_reply, scheme_allowed, named_rows};

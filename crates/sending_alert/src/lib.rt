@@ -1,4 +1,6 @@
 // ALERT.
+#![tactic(auto)]
+
 ghost use Rattle.std.specs.Prelude.{◌≡◌, true};
 ghost use Rattle.elements.specs.Elements.{items_of, elements_fit};
 ghost use Rattle.encode.specs.Encode.{alert_of};

@@ -1,4 +1,6 @@
 // Writing the NEGO of each end.
+#![tactic(auto)]
+
 mod nego;
 pub mod offer;
 pub mod reply;

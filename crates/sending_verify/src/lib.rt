@@ -1,4 +1,6 @@
 // VERIFY.
+#![tactic(auto)]
+
 ghost use Rattle.std.specs.Prelude.{◌≡◌};
 ghost use Rattle.encode.specs.Encode.{of_verify};
 ghost use Rattle.conversation.specs.Turns.{VERIFY};

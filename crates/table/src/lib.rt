@@ -1,4 +1,6 @@
 // What a viewer shows of a message in numbers, and the table of all messages of a token.
+#![tactic(auto)]
+
 ghost use Rattle.std.specs.Prelude.{◌≡◌, ◌+◌, ◌*◌, ◌≤◌, ◌<◌, ◌^◌, ◌∷◌, [], ◌++◌, length};
 ghost use Rattle.vector.specs.Vector.{extent};
 ghost use Rattle.token.specs.Token.{token_of};

@@ -1,7 +1,9 @@
 // Counts the files whose names stand on standard input, one a line, and prints the tally. Names beyond 1,000 aren't opened.
-use bytes::scan::find;
+#![tactic(auto)]
+
 use console::{Loaded, load};
 use libc::{STDERR_FILENO, STDIN_FILENO, STDOUT_FILENO};
+use scan::find;
 use tally_lines::tally_text;
 use tallying::{Tally, count_missing, count_next, empty};
 use text::append;
@@ -9,7 +11,7 @@ use text::append;
 const MOST: u64 = 1000;
 
 // The tally, how many names were met, and how many octets of the next one are held.
-#[derive(Drop)]
+#[derive(Clone, Copy)]
 struct Week {
     tally: Tally,
     names: u64,

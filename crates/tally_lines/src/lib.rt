@@ -1,4 +1,6 @@
 // The text of a tally, in a lent slice.
+#![tactic(auto)]
+
 ghost use Rattle.std.specs.Prelude.{◌≡◌, ◌≤◌, ◌*◌, length, take};
 ghost use Rattle.message.specs.Show.{ids_at};
 ghost use Rattle.text.specs.Text.{text, written};

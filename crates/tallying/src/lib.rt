@@ -1,4 +1,6 @@
 // The tally record: what a week of captures holds, one file after the other.
+#![tactic(auto)]
+
 ghost use Rattle.std.specs.Prelude.{◌≡◌, leb, length};
 ghost use Rattle.message.specs.Show.{schemes_in};
 ghost use Rattle.token.specs.Token.{token_of};
@@ -18,7 +20,7 @@ use parts::schemes;
 use token::{Answer, read_token};
 
 // Counts by message type, answers by number (0 for accepted files), the table of schemes, and the octets in headers, in vectors and in neither.
-#[derive(Drop)]
+#[derive(Clone, Copy)]
 pub struct Tally {
     pub types: [u64; 8],
     pub answers: [u64; 32],
@@ -29,7 +31,7 @@ pub struct Tally {
 }
 
 // A file's number, 0 where it is accepted, and the tally afterwards.
-#[derive(Drop)]
+#[derive(Clone, Copy)]
 pub struct Counted {
     pub refusal: u32,
     pub tally: Tally,

@@ -1,5 +1,7 @@
 // Pieces of text appended in a lent slice. Each writer is given the place behind what is written already, and answers the next one. A piece that
 // has no room is left out.
+#![tactic(auto)]
+
 ghost use Rattle.std.specs.Prelude.{◌≡◌, ◌<◌, ◌∷◌, [], nat_abs};
 ghost use Rattle.text.specs.Text.{text, written, decimal, decimal64, signed as Text·signed, glyph_of, glyphs as Text·glyphs, hex_of, digits_of, hex_digit, id_text};
 

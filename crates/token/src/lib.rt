@@ -1,4 +1,6 @@
 // The structural reading of a token.
+#![tactic(auto)]
+
 ghost use Rattle.std.specs.Prelude.{◌≡◌, ◌≤◌, ◌<◌, true, length};
 ghost use Rattle.message.specs.Check.{said, Passed};
 ghost use Rattle.token.specs.Token.{order_verdict, next_verdict, refused_at, chain_of, reading_of, token_of, told, outcome_of};
@@ -13,7 +15,7 @@ use vector::{MessageOffset, TokenPlace, in_token};
 mod step;
 
 // What the structural reading answers: the number of messages, or a refusal with the place of the message at fault.
-#[derive(Drop)]
+#[derive(Clone, Copy)]
 pub enum Answer {
     Messages(u32),
     Refused(u32, TokenPlace),

@@ -1,6 +1,8 @@
 // Shows the envelope in the file whose name stands on standard input's first line, and the NEGOEX token in it.
-use bytes::scan::find;
+#![tactic(auto)]
+
 use libc::STDIN_FILENO;
+use scan::find;
 use unwrapping::unwrap_file;
 
 fn main() {

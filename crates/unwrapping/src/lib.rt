@@ -1,4 +1,6 @@
 // Unwrapping a file: the lines of the envelope in it, and the listing of the NEGOEX token in that.
+#![tactic(auto)]
+
 ghost use Rattle.console.specs.Console.{Holds};
 
 use console::{Loaded, load, print};

@@ -1,4 +1,6 @@
 // What a viewer is answered of a token as entries: a number, or a refusal's number negated.
+#![tactic(auto)]
+
 ghost use Rattle.std.specs.Prelude.{◌≡◌, ◌∷◌, [], length, replicate};
 ghost use Rattle.token.specs.Walk.{Accepts};
 ghost use Rattle.blanking.specs.Masked.{coverage_of};

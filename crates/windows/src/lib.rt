@@ -1,18 +1,20 @@
 // Windows of any lines: a caller goes through its lines in order, and `put_line` passes over, shows or leaves out each.
+#![tactic(auto)]
+
 ghost use Rattle.std.specs.Prelude.{◌≡◌, length};
 ghost use Rattle.windows.specs.Steps.{within, start_of, step, shown_so_far, Going};
 
 use text::append;
 
 // How many lines a window shows, and in how many octets.
-#[derive(Drop)]
+#[derive(Clone, Copy)]
 pub struct Shown {
     pub lines: usize,
     pub octets: usize,
 }
 
 // How far a window is: lines to pass over, lines still asked for, and what is shown.
-#[derive(Drop)]
+#[derive(Clone, Copy)]
 pub struct Progress {
     pub skip: usize,
     pub left: usize,

@@ -1,6 +1,8 @@
 // Writes the envelope that the text in the file says whose name stands on standard input's first line.
-use bytes::scan::find;
+#![tactic(auto)]
+
 use libc::STDIN_FILENO;
+use scan::find;
 use wrapping::wrap::wrap_file;
 
 fn main() {

@@ -3,7 +3,7 @@ use envelope_script::{CHECKSUM, FLAGS, MECHANISM, TOKEN};
 use text::append;
 
 // A field's octets in the store, where it is there.
-#[derive(Drop)]
+#[derive(Clone, Copy)]
 pub(crate) struct Span {
     pub(crate) there: bool,
     pub(crate) from: usize,
@@ -12,7 +12,7 @@ pub(crate) struct Span {
 
 // What is to be written, how far the fields have come, and the fields: of an Init `count` mechanisms, the first `list` octets of the store, and its flags;
 // of a Resp its state and its mechanism; of both the token and the checksum.
-#[derive(Drop)]
+#[derive(Clone, Copy)]
 pub(crate) struct Draft {
     pub(crate) kind: u8,
     pub(crate) stage: u8,

@@ -2,13 +2,13 @@
 ghost use Rattle.console.specs.Console.{Holds};
 
 use super::draft::{Draft, bad, empty, started, with_octets, with_state};
-use bytes::scan::find;
 use console::{Loaded, load};
 use envelope_lines::{refused_line, wrote_line};
 use envelope_script::{Line, read_line};
 use envelope_write::{Stored, write_init, write_resp};
 use fields::part;
 use libc::STDOUT_FILENO;
+use scan::find;
 
 // A line of the text: an empty one and a comment are passed over.
 fn with_line(

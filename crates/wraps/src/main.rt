@@ -1,8 +1,10 @@
 // Writes the envelopes that the texts say in the files whose names stand on standard input, one a line.
+#![tactic(auto)]
+
 ghost use Rattle.std.specs.Prelude.{◌<◌, length};
 
-use bytes::scan::find;
 use libc::{STDIN_FILENO, STDOUT_FILENO};
+use scan::find;
 use wrapping::wrap::wrap_file;
 
 // The name of a text, and the line that its writer answers with.

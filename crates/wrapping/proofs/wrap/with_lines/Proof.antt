@@ -7,7 +7,7 @@ use Rattle.wrapping.proofs.wrap.with_lines.Statement.{statement}
 use Rattle.wrapping.proofs.wrap.with_lines.Tie as tie
 use Rattle.wrapping.proofs.wrap.with_lines.Reads as reads
 use Rattle.wrapping.proofs.wrap.with_lines.Lts as lts
-use Rattle.bytes.proofs.scan.find.Reads as find-reads
+use Rattle.scan.proofs.find.Reads as find-reads
 use Rattle.fields.proofs.part.Reads as part-reads
 use Rattle.wrapping.proofs.draft.empty.Reads as empty-reads
 use Rattle.wrapping.proofs.wrap.with_line.Reads as with-line-reads
