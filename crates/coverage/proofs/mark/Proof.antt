@@ -1,6 +1,6 @@
 -- Assumes nothing.
 use Rattle.coverage.proofs.Marks.{sweeps}
-use Rattle.vector.proofs.Rule.{rules}
+use Rattle.vector.proofs.Rule.{vector_rules}
 use borrow.Author.Rules.{rules}
 use Rattle.coverage.proofs.mark.Statement.{statement}
 use Rattle.coverage.proofs.mark.Tie as tie
@@ -18,10 +18,10 @@ cast-extent-2 : tie.Need-cast-extent-2
 cast-extent-2 c = search rules
 
 mul-extent : tie.Need-mul-extent
-mul-extent c = search rules
+mul-extent c = search vector_rules
 
 add-least : tie.Need-add-least
-add-least c = search rules
+add-least c = search vector_rules
 
 least-requires : tie.Need-least-requires
 least-requires c κs = search rules

@@ -1,5 +1,5 @@
 -- Assumes nothing.
-use Rattle.vector.proofs.Rule.{rules}
+use Rattle.vector.proofs.Rule.{vector_rules}
 use Rattle.coverage.proofs.Marks.{parts}
 use borrow.Author.Rules.{rules}
 use Rattle.coverage.proofs.part.Statement.{statement}
@@ -21,7 +21,7 @@ cast-least-3 : tie.Need-cast-least-3
 cast-least-3 c = search rules
 
 mul-least : tie.Need-mul-least
-mul-least c = search rules
+mul-least c = search vector_rules
 
 least-requires-2 : tie.Need-least-requires-2
 least-requires-2 c κs = search rules

@@ -1,5 +1,5 @@
 -- Assumes nothing.
-use Rattle.vector.proofs.Rule.{rules}
+use Rattle.vector.proofs.Rule.{vector_rules}
 use borrow.Author.Rules.{rules}
 use Rattle.table.proofs.vector_length.Statement.{statement}
 use Rattle.table.proofs.vector_length.Tie as tie
@@ -11,7 +11,7 @@ cast-result-2 : tie.Need-cast-result-2
 cast-result-2 c = search rules
 
 mul-result : tie.Need-mul-result
-mul-result c = search rules
+mul-result c = search vector_rules
 
 returns : tie.Need-returns
 returns c = search rules

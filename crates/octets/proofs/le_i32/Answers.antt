@@ -1,0 +1,9 @@
+use mathlib.Core.Path.{ap, ◌∙◌}
+use mir.Syntax.{w32}
+use mir.Facts.{to_z-of_z}
+use Rattle.octets.specs.Octets.{signed32}
+use borrow.Author.Rules.{rules}
+use Rattle.octets.proofs.le_i32.Goals as goal
+
+pub returns : goal.returns
+returns c = to_z-of_z {w = w32} (search rules) ∙ c.to_i32.ensures ∙ ap signed32 c.le_u32.ensures

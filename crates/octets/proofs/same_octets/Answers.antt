@@ -1,0 +1,19 @@
+use borrow.Author.Rules.{rules}
+use Prim.Native.Nat.{◌-◌}
+use mathlib.Core.Path.{◌≡◌}
+use mathlib.Core.Bool.{◌&&◌}
+use mathlib.Core.Logic.{⊎_elim}
+use lib.ListN.{length, drop}
+use Rattle.octets.specs.Octets.{same_id, same_octets}
+use Rattle.octets.proofs.Same.{ids}
+use Rattle.octets.proofs.same_octets.Goals as goal
+use Rattle.octets.proofs.same_octets.Goals.{then-a-i, else-a-i}
+
+pub loop-i-init : goal.loop-i-init
+loop-i-init c = (search rules, search rules, search ids)
+
+pub loop-i-preserved : goal.loop-i-preserved
+loop-i-preserved c = (search rules, search rules, elim c.if-a-i.branch [ then-a-i w ↦ search ids | else-a-i w ↦ search ids ])
+
+pub returns : goal.returns
+returns c = search ids
