@@ -1,0 +1,17 @@
+use borrow.Author.Rules.{rules}
+use Prim.Native.Nat.{◌-◌, ◌≤◌}
+use mathlib.Core.Path.{◌≡◌, refl}
+use lib.ListN.{length, drop}
+use Rattle.der.specs.Element.{number_from}
+use Rattle.der.specs.Holder.{capped}
+use Rattle.der.proofs.Wholes.{wholes}
+use Rattle.der.proofs.whole.Goals as goal
+
+pub loop-i-init : goal.loop-i-init
+loop-i-init c = (search rules, refl)
+
+pub loop-i-preserved : goal.loop-i-preserved
+loop-i-preserved c = (search rules, search wholes)
+
+pub returns : goal.returns
+returns c = search (rules, wholes)

@@ -1,0 +1,5 @@
+use borrow.Author.Rules.{rules}
+use Rattle.message.proofs.field.octet_vector.Goals as goal
+
+pub returns : goal.returns
+returns c = cc

@@ -1,0 +1,15 @@
+use Rattle.message.proofs.Bodies.{verifies}
+use borrow.Author.Rules.{rules}
+use Rattle.message.proofs.verify.refusal.Goals as goal
+
+pub returns-else-keeps_rule : goal.returns-else-keeps_rule
+returns-else-keeps_rule c = search verifies
+
+pub returns-then-le_u32-ne-CHECKSUM_HEADER : goal.returns-then-le_u32-ne-CHECKSUM_HEADER
+returns-then-le_u32-ne-CHECKSUM_HEADER c = search verifies
+
+pub returns-then-le_u32-ne-RFC_3961 : goal.returns-then-le_u32-ne-RFC_3961
+returns-then-le_u32-ne-RFC_3961 c = search verifies
+
+pub returns : goal.returns
+returns c = search verifies

@@ -1,0 +1,6 @@
+use Rattle.message.proofs.Walks.{firsts}
+use borrow.Author.Rules.{rules}
+use Rattle.message.proofs.walk.message_length.Goals as goal
+
+pub returns : goal.returns
+returns c = search firsts

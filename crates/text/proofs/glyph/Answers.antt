@@ -1,0 +1,16 @@
+use Rattle.text.proofs.Pieces.{pieces}
+use borrow.Author.Rules.{rules}
+use Rattle.text.proofs.glyph.Goals as goal
+
+-- UNMATCHED slice-aggregate-append
+-- slice-aggregate-append : tie.Need-slice-aggregate-append
+-- slice-aggregate-append c = search rules
+
+pub returns-then-k-eq16 : goal.returns-then-k-eq16
+returns-then-k-eq16 c = search pieces
+
+pub returns-then-i-id : goal.returns-then-i-id
+returns-then-i-id c = search pieces
+
+pub returns : goal.returns
+returns c = search pieces

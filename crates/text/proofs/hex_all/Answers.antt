@@ -1,0 +1,16 @@
+use borrow.Author.Rules.{rules}
+use Prim.Native.Nat.{◌-◌}
+use mathlib.Core.Path.{◌≡◌, refl}
+use lib.ListN.{length, drop}
+use Rattle.text.specs.Text.{digits_of, text, written}
+use Rattle.text.proofs.Pieces.{digits}
+use Rattle.text.proofs.hex_all.Goals as goal
+
+pub loop-i-init : goal.loop-i-init
+loop-i-init c = (refl, refl)
+
+pub loop-i-preserved : goal.loop-i-preserved
+loop-i-preserved c = (search rules, search digits)
+
+pub returns : goal.returns
+returns c = search digits
