@@ -1,0 +1,6 @@
+use Rattle.coverage.proofs.Marks.{layouts}
+use borrow.Author.Rules.{rules}
+use Rattle.coverage.proofs.mark_alert.Goals as goal
+
+pub returns : goal.returns
+returns c = search layouts

@@ -1,0 +1,19 @@
+use Rattle.coverage.proofs.Marks.{sweeps}
+use Rattle.coverage.proofs.Marks.{values_from}
+use borrow.Author.Rules.{rules}
+use Prim.Native.Nat.{◌+◌, ◌*◌, ◌≤◌}
+use mathlib.Core.Path.{◌≡◌, refl}
+use native.Mathlib.Omega.{arith}
+use lib.ListN.{length}
+use Rattle.message.specs.Layout.{values_of, elements_of}
+use Rattle.coverage.specs.Sweep.{marked_all}
+use Rattle.coverage.proofs.mark_values.Goals as goal
+
+pub loop-left-init : goal.loop-left-init
+loop-left-init c = (omega arith, refl, refl)
+
+pub loop-left-preserved : goal.loop-left-preserved
+loop-left-preserved c = (omega arith, search sweeps, search sweeps)
+
+pub returns : goal.returns
+returns c = search sweeps

@@ -1,0 +1,15 @@
+use Rattle.envelope.proofs.Optionals.{options}
+use borrow.Author.Rules.{rules}
+use Rattle.envelope.proofs.state_at.Goals as goal
+
+pub returns-else-starts_at : goal.returns-else-starts_at
+returns-else-starts_at c = search (rules, options)
+
+pub cut_at_most-requires : goal.cut_at_most-requires
+cut_at_most-requires c = search (rules, options)
+
+pub returns-in-Refused : goal.returns-in-Refused
+returns-in-Refused c = search (rules, options)
+
+pub returns-in-Element : goal.returns-in-Element
+returns-in-Element c = search (rules, options)

@@ -1,0 +1,9 @@
+use Rattle.fields.proofs.Decoding.{pair-octets}
+use borrow.Author.Rules.{rules}
+use Rattle.fields.proofs.hex.random.Goals as goal
+
+pub returns-then-s-ne64 : goal.returns-then-s-ne64
+returns-then-s-ne64 c = search pair-octets
+
+pub returns : goal.returns
+returns c = search pair-octets

@@ -1,0 +1,9 @@
+use Rattle.parts.proofs.Shows.{shows}
+use borrow.Author.Rules.{rules}
+use Rattle.parts.proofs.extension_value.Goals as goal
+
+pub returns-then-m-lt-NEGO_HEADER_LEN : goal.returns-then-m-lt-NEGO_HEADER_LEN
+returns-then-m-lt-NEGO_HEADER_LEN c = search shows
+
+pub returns : goal.returns
+returns c = search shows

@@ -1,0 +1,6 @@
+use Rattle.schemes.proofs.Ids.{searches}
+use borrow.Author.Rules.{rules}
+use Rattle.schemes.proofs.list.has_id.Goals as goal
+
+pub returns : goal.returns
+returns c = search searches

@@ -1,0 +1,16 @@
+use borrow.Author.Rules.{rules}
+use Prim.Native.Nat.{◌-◌, ◌≤◌}
+use mathlib.Core.Path.{◌≡◌}
+use lib.ListN.{drop}
+use Rattle.schemes.specs.Sets.{kept_below}
+use Rattle.schemes.proofs.Limits.{limits}
+use Rattle.schemes.proofs.reply.kept_within.Goals as goal
+
+pub returns-else-place_within : goal.returns-else-place_within
+returns-else-place_within c = search (rules, limits)
+
+pub loop-k-preserved : goal.loop-k-preserved
+loop-k-preserved c = (search rules, search (rules, limits))
+
+pub returns : goal.returns
+returns c = search (rules, limits)

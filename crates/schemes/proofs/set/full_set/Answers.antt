@@ -1,0 +1,12 @@
+use Rattle.schemes.proofs.Digits.{digits}
+use borrow.Author.Rules.{rules}
+use Rattle.schemes.proofs.set.full_set.Goals as goal
+
+pub overflow_sub-result : goal.overflow_sub-result
+overflow_sub-result c = search digits
+
+pub overflow_cast-result : goal.overflow_cast-result
+overflow_cast-result c = record { fits = search digits }
+
+pub returns : goal.returns
+returns c = search digits

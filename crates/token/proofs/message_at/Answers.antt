@@ -1,0 +1,18 @@
+use Rattle.token.proofs.Walks.{walks}
+use borrow.Author.Rules.{rules}
+use Rattle.token.proofs.message_at.Goals as goal
+
+pub returns-else-has_message : goal.returns-else-has_message
+returns-else-has_message c = search walks
+
+pub walk_to-at-requires : goal.walk_to-at-requires
+walk_to-at-requires c = search walks
+
+pub slice_bounds-first-count : goal.slice_bounds-first-count
+slice_bounds-first-count c = search walks
+
+pub slice_bounds-first-start : goal.slice_bounds-first-start
+slice_bounds-first-start c = search walks
+
+pub returns : goal.returns
+returns c = search walks

@@ -1,0 +1,9 @@
+use Rattle.token.proofs.Messages.{refused-here, read_here}
+use borrow.Author.Rules.{rules}
+use Rattle.token.proofs.refused_at.Goals as goal
+
+pub returns-in-Refused : goal.returns-in-Refused
+returns-in-Refused c = refused-here _ _ _ c.reading-1.given.1
+
+pub returns-in-Message : goal.returns-in-Message
+returns-in-Message c = search read_here
