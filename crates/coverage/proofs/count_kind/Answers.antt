@@ -9,7 +9,7 @@ pub overflow_sub-result : goal.overflow_sub-result
 overflow_sub-result c =
     let cleared = c.clear in
     let marks = c.mark_kind in
-    let kept : length cleared.new.0 ≡ length c.args.map.now = search rules in
+    let kept : length cleared.new.map ≡ length c.args.map.now = search rules in
     omega (
       arith,
       held_fits _ _ c.requires.3 c.requires.2 c.args.map.now _ _ c.requires.1 kept cleared.ensures marks.ensures _
@@ -20,6 +20,6 @@ pub returns : goal.returns
 returns c =
     let cleared = c.clear in
     let marks = c.mark_kind in
-    let kept : length cleared.new.0 ≡ length c.args.map.now = search rules in
+    let kept : length cleared.new.map ≡ length c.args.map.now = search rules in
     counted-all _ _ c.requires.3 c.requires.2 c.args.map.now _ _ c.requires.1 kept cleared.ensures marks.ensures _
     c.header-header.ensures _ c.swept-held.ensures _ c.swept-vectors.ensures

@@ -25,11 +25,8 @@ put_element-requires c =
 
 pub returns-then-there : goal.returns-then-there
 returns-then-there c =
-    let back7 = c in
-    let back9 = back7.before.before in
-    let back12 = back9.before.before.before in
-    field_put _ _ _ _ _ _ _ _ _ _ _ back9.if1.true back7.element-size.ensures c.put_head-element_at.ensures
-    c.put_element.ensures back12.requires.0
+    field_put _ _ _ _ _ _ _ _ _ _ _ c.if-there.true c.element_size.ensures c.put_head-element_at.ensures
+    c.put_element.ensures c.requires.0
 
 pub returns : goal.returns
 returns c = field-absent _ _ _ _ _ _ c.if-there.false

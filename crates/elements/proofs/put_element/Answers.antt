@@ -5,9 +5,7 @@ use Rattle.elements.proofs.put_element.Goals as goal
 
 pub returns : goal.returns
 returns c =
-    let c2 = c in
-    let c1 = c2.before.before.before.before in
     wrote 12
-    (step c1.put-u32.ensures
-    (step (as_number 4 c1.before.before.offset-of.ensures c2.put-u322.ensures) (step c.put_u32.ensures done))) refl
-    c1.before.before.before.before.requires
+    (step c.put_u32-offset_at.ensures
+    (step (as_number 4 c.offset_of-stored.ensures c.put_u32-size_at.ensures) (step c.put_u32.ensures done))) refl
+    c.requires

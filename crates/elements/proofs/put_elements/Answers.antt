@@ -4,18 +4,15 @@ use Rattle.elements.proofs.Views.{handed, items-written}
 use borrow.Author.Rules.{rules}
 use Rattle.elements.proofs.put_elements.Goals as goal
 
-few : (s : tie.Start) → s.args.e.count ≤ 8
-few s = (handed _ _ s.requires.0).few
-
 pub overflow_cast-size-2 : goal.overflow_cast-size-2
-overflow_cast-size-2 c = let k = few c in record { fits = omega arith }
+overflow_cast-size-2 c = let k = (handed _ _ c.requires.0).few in record { fits = omega arith }
 
 pub overflow_mul-size : goal.overflow_mul-size
-overflow_mul-size c = let k = few c in record { fits = omega arith }
+overflow_mul-size c = let k = (handed _ _ c.requires.0).few in record { fits = omega arith }
 
 pub overflow_add-first : goal.overflow_add-first
 overflow_add-first c =
-    let k = few c in
+    let k = (handed _ _ c.requires.0).few in
     let m = c.requires.1.1 in
     record { fits = omega arith }
 
@@ -32,6 +29,5 @@ put_array-values_at-requires c =
 
 pub returns : goal.returns
 returns c =
-    let c1 = c in
-    let p = c1.before.before.before.before.before.before.requires in
-    items-written _ _ p.0 _ _ _ p.1.0 _ _ c1.put-array.ensures _ _ c.put_octets.ensures
+    let p = c.requires in
+    items-written _ _ p.0 _ _ _ p.1.0 _ _ c.put_array-values_at.ensures _ _ c.put_octets.ensures

@@ -4,12 +4,12 @@ use borrow.Author.Rules.{rules}
 use Rattle.elements.proofs.size_of.Goals as goal
 
 pub overflow_mul-result : goal.overflow_mul-result
-overflow_mul-result c = let k = few-given _ _ _ c.fits2.ensures c.if-fits.true in record { fits = omega arith }
+overflow_mul-result c = let k = few-given _ _ _ c.fits.ensures c.if-fits.true in record { fits = omega arith }
 
 pub overflow_add-result : goal.overflow_add-result
 overflow_add-result c =
-    let k = few-given _ _ _ c.fits2.ensures c.if-fits.true in
-    let m = short-given _ _ _ c.fits2.ensures c.if-fits.true in
+    let k = few-given _ _ _ c.fits.ensures c.if-fits.true in
+    let m = short-given _ _ _ c.fits.ensures c.if-fits.true in
     record { fits = omega arith }
 
 pub returns-then-fits : goal.returns-then-fits

@@ -3,4 +3,4 @@ use borrow.Author.Rules.{rules}
 use Rattle.envelope.proofs.closed_read.Goals as goal
 
 pub returns-in-Refused : goal.returns-in-Refused
-returns-in-Refused c = close-refused _ _ _ c.if-ends.false c.r-1.given.1
+returns-in-Refused c = close-refused _ _ _ c.if-ends.false c.in-Refused.is

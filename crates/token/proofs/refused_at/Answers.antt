@@ -3,7 +3,7 @@ use borrow.Author.Rules.{rules}
 use Rattle.token.proofs.refused_at.Goals as goal
 
 pub returns-in-Refused : goal.returns-in-Refused
-returns-in-Refused c = refused-here _ _ _ c.reading-1.given.1
+returns-in-Refused c = refused-here _ _ _ c.in-Refused.is
 
 pub returns-in-Message : goal.returns-in-Message
 returns-in-Message c = search read_here
