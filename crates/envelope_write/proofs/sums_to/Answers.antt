@@ -1,0 +1,20 @@
+use Prim.Native.Nat.{◌-◌}
+use mathlib.Core.Path.{◌≡◌, refl}
+use borrow.Author.Rules.{rules}
+use lib.ListN.{length, drop}
+use lib.Dec.{eqb}
+use Rattle.envelope_write.specs.Given.{sum_of}
+use Rattle.envelope_write.proofs.Sums.{sums}
+use Rattle.envelope_write.proofs.sums_to.Goals as goal
+
+pub loop-i-init : goal.loop-i-init
+loop-i-init c = refl
+
+pub returns-then-left-size : goal.returns-then-left-size
+returns-then-left-size c = search (rules, sums)
+
+pub loop-i-preserved : goal.loop-i-preserved
+loop-i-preserved c = search sums
+
+pub returns : goal.returns
+returns c = search (rules, sums)

@@ -1,0 +1,15 @@
+use Rattle.lines.proofs.Contents.{contents}
+use borrow.Author.Rules.{rules}
+use Rattle.lines.proofs.content.alert_line.Goals as goal
+
+pub returns-then-index-eq0 : goal.returns-then-index-eq0
+returns-then-index-eq0 c = search contents
+
+pub returns-then-index-eq1 : goal.returns-then-index-eq1
+returns-then-index-eq1 c = search contents
+
+pub returns-then-k-array : goal.returns-then-k-array
+returns-then-k-array c = search contents
+
+pub returns : goal.returns
+returns c = search contents

@@ -1,0 +1,16 @@
+use Rattle.script.proofs.Lines.{commands}
+use borrow.Author.Rules.{rules}
+use Rattle.script.proofs.read_command.Goals as goal
+
+-- UNMATCHED slice-aggregate-is-word
+-- slice-aggregate-is-word : tie.Need-slice-aggregate-is-word
+-- slice-aggregate-is-word c = search rules
+
+pub returns-then-is_word : goal.returns-then-is_word
+returns-then-is_word c = search commands
+
+pub returns-then-verb-eq-CHOOSE : goal.returns-then-verb-eq-CHOOSE
+returns-then-verb-eq-CHOOSE c = search commands
+
+pub returns : goal.returns
+returns c = search commands

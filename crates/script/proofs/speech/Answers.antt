@@ -1,0 +1,19 @@
+use Rattle.script.proofs.Lines.{speech-words}
+use borrow.Author.Rules.{rules}
+use Rattle.script.proofs.speech.Goals as goal
+
+-- UNMATCHED slice-aggregate-place
+-- slice-aggregate-place : tie.Need-slice-aggregate-place
+-- slice-aggregate-place c = search rules
+
+pub returns-then-named-eq1 : goal.returns-then-named-eq1
+returns-then-named-eq1 c = search speech-words
+
+pub returns-then-named-eq2 : goal.returns-then-named-eq2
+returns-then-named-eq2 c = search speech-words
+
+pub returns-then-named-eq3 : goal.returns-then-named-eq3
+returns-then-named-eq3 c = search speech-words
+
+pub returns : goal.returns
+returns c = search speech-words

@@ -1,0 +1,34 @@
+use Rattle.script.proofs.Ids.{id-lists}
+use borrow.Author.Rules.{rules}
+use native.Mathlib.Omega.{arith}
+use Prim.Native.Nat.{◌+◌, ◌-◌, ◌≤◌}
+use mathlib.Core.Path.{◌≡◌, refl}
+use lib.ListN.{length, take}
+use Rattle.fields.specs.Fields.{behind_all}
+use Rattle.script.specs.Grammar.{ids_of}
+use Rattle.script.specs.Places.{fields_from}
+use Rattle.script.proofs.value.ids.Goals as goal
+
+pub loop-at-init : goal.loop-at-init
+loop-at-init c = (search rules, refl, search id-lists)
+
+pub returns-else-next : goal.returns-else-next
+returns-else-next c = search id-lists
+
+pub returns-then-d-filled-lt16 : goal.returns-then-d-filled-lt16
+returns-then-d-filled-lt16 c = let h : length c.id-next.result.octets ≡ 16 = search rules in search id-lists
+
+pub put_octets-filled-requires : goal.put_octets-filled-requires
+put_octets-filled-requires c = let h : length c.id-next.result.octets ≡ 16 = search rules in search rules
+
+pub loop-at-smaller : goal.loop-at-smaller
+loop-at-smaller c = let h = c.behind-at.ensures.onward (omega arith) in omega arith
+
+pub loop-at-preserved : goal.loop-at-preserved
+loop-at-preserved c =
+    let h : length c.id-next.result.octets ≡ 16 = search rules in
+    let a = c.put_octets-filled.ensures.after in
+    (omega arith, search rules, search id-lists)
+
+pub returns : goal.returns
+returns c = search id-lists

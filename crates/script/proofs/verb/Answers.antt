@@ -1,0 +1,16 @@
+use Rattle.script.proofs.Lines.{verb-words}
+use borrow.Author.Rules.{rules}
+use Rattle.script.proofs.verb.Goals as goal
+
+-- UNMATCHED slice-aggregate-place
+-- slice-aggregate-place : tie.Need-slice-aggregate-place
+-- slice-aggregate-place c = search rules
+
+pub returns-then-from-line : goal.returns-then-from-line
+returns-then-from-line c = search verb-words
+
+pub returns-then-named-eq-READ : goal.returns-then-named-eq-READ
+returns-then-named-eq-READ c = search verb-words
+
+pub returns : goal.returns
+returns c = search verb-words
