@@ -131,7 +131,9 @@ module _ (h : Heading) (id : length h.conversation ≡ 16) where
       pub nego-rules : all_keep_rule 96 (size_of (of_nego o)) (vectors_of (content_read (of_nego o))) ≡ true
       unfolding all_keep_rule vectors_of
       nego-rules =
-          rw (nego-schemes-rule, ← nego-length, nego-reads.array) nego-reads.rules
+          let a = rw nego-length at nego-reads.array in
+          let r = rw nego-length at nego-reads.rules in
+          rw (nego-schemes-rule, a) r
 
       pub nego-shows : Shows (of_nego o) (encoded h (of_nego o))
       nego-shows = (nego-listed.0, (nego-listed.1, rw nego-vector nego-reads.shows))
@@ -289,7 +291,10 @@ module _ (h : Heading) (id : length h.conversation ≡ 16) where
 
     pub alert-rules : all_keep_rule 72 (size_of (of_alert p)) (vectors_of (content_read (of_alert p))) ≡ true
     unfolding all_keep_rule vectors_of
-    alert-rules = rw (← alert-length, alert-reads.array) alert-reads.rules
+    alert-rules =
+        let a = rw alert-length at alert-reads.array in
+        let r = rw alert-length at alert-reads.rules in
+        rw a r
 
     pub alert-shows : Shows (of_alert p) (encoded h (of_alert p))
     alert-shows = (rw alert-vector alert-reads.shows, signed-shown 72 _ 56 p.code (omega (arith, alert-length)) alert-code range)

@@ -1,0 +1,28 @@
+use Rattle.entries.proofs.Bounds.{held-type}
+use Rattle.entries.proofs.Pieces.{sums}
+use borrow.Author.Rules.{rules}
+use Rattle.entries.proofs.lookup.entry_count.Goals as goal
+
+pub le_u32-requires : goal.le_u32-requires
+le_u32-requires c = search held-type
+
+pub ids_vector-ids-requires : goal.ids_vector-ids-requires
+ids_vector-ids-requires c = search sums
+
+pub array_vector-array-requires : goal.array_vector-array-requires
+array_vector-array-requires c = search sums
+
+pub overflow_add-result : goal.overflow_add-result
+overflow_add-result c = record { fits = search sums }
+
+pub overflow_add-result-2 : goal.overflow_add-result-2
+overflow_add-result-2 c = record { fits = search sums }
+
+pub overflow_add-result-3 : goal.overflow_add-result-3
+overflow_add-result-3 c = record { fits = search (rules, sums) }
+
+pub overflow_add-result-4 : goal.overflow_add-result-4
+overflow_add-result-4 c = record { fits = search (rules, sums) }
+
+pub returns : goal.returns
+returns c = search sums

@@ -1,0 +1,6 @@
+use Rattle.entries.proofs.Pieces.{fields-are}
+use borrow.Author.Rules.{rules}
+use Rattle.entries.proofs.lookup.field_entry.Goals as goal
+
+pub returns : goal.returns
+returns c = search fields-are

@@ -1,0 +1,40 @@
+use borrow.Author.Rules.{rules}
+use Rattle.entries.proofs.Bounds.{held-zero}
+use Rattle.entries.specs.Lookup.{count_in}
+use Rattle.entries.specs.Entries.{entries_in, entry_octets}
+use Rattle.put.specs.Put.{Written}
+use lib.ListN.{length, take, drop}
+use mathlib.Core.Path.{◌≡◌, refl}
+use Prim.Native.Nat.{◌-◌, ◌*◌, ◌/◌, ◌≤◌, min}
+use Rattle.entries.proofs.Walked.{parts, part-next}
+use Rattle.entries.proofs.put_message.Goals as goal
+
+pub entry_count-all-requires : goal.entry_count-all-requires
+entry_count-all-requires c = search held-zero
+
+pub loop-k-init : goal.loop-k-init
+loop-k-init c = (search rules, search rules, search rules, search rules, refl, search parts)
+
+pub overflow_add-begin : goal.overflow_add-begin
+overflow_add-begin c = search (rules, parts)
+
+pub entry_of-requires : goal.entry_of-requires
+entry_of-requires c = (search rules, search parts)
+
+pub put_entry-next-requires : goal.put_entry-next-requires
+put_entry-next-requires c = search parts
+
+pub loop-k-preserved : goal.loop-k-preserved
+loop-k-preserved c =
+    (
+      search rules,
+      search rules,
+      search rules,
+      search rules,
+      search rules,
+      part-next c.args.place.0 c.args.message _ _ c.args.at _ _ _ c.loop-k.invariant.1 c.loop-k.invariant.3 c.loop-k.k _ _ c.loop-k.invariant.5
+          (search rules) _ c.entry_of.ensures _ _ c.put_entry-next.ensures,
+    )
+
+pub returns : goal.returns
+returns c = search parts

@@ -1,0 +1,24 @@
+use Rattle.windows.proofs.Stepping.{went}
+use Rattle.windows.proofs.Windows.{start-going}
+use Rattle.listing.proofs.Windows.{windows}
+use borrow.Author.Rules.{rules}
+use Rattle.listing.proofs.window.Goals as goal
+
+pub show_messages-listed-requires : goal.show_messages-listed-requires
+show_messages-listed-requires c = record { accepts = search windows; going = start-going _ c.args.end _ _
+      c.start-progress.ensures (search rules) }
+
+pub show_end-requires : goal.show_end-requires
+show_end-requires c = went _ _ _ _ _ c.show_messages-listed.ensures
+    (start-going _ c.args.end _ _
+    c.start-progress.ensures (search rules))
+
+pub show_refusal-requires : goal.show_refusal-requires
+show_refusal-requires c = start-going _ c.args.end _ _
+    c.start-progress.ensures (search rules)
+
+pub returns-in-Messages : goal.returns-in-Messages
+returns-in-Messages c = search windows
+
+pub returns-in-Refused : goal.returns-in-Refused
+returns-in-Refused c = search windows

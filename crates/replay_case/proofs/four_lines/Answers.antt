@@ -1,0 +1,28 @@
+use Rattle.replay_case.proofs.Cases.{four-lines}
+use borrow.Author.Rules.{rules}
+use Rattle.replay_case.proofs.four_lines.Goals as goal
+
+-- UNMATCHED slice-aggregate-name-line
+-- slice-aggregate-name-line : tie.Need-slice-aggregate-name-line
+-- slice-aggregate-name-line c = search rules
+
+-- UNMATCHED slice-aggregate-name-line-2
+-- slice-aggregate-name-line-2 : tie.Need-slice-aggregate-name-line-2
+-- slice-aggregate-name-line-2 c = search rules
+
+pub returns : goal.returns
+returns c =
+    four-lines _ _ _ _ _ _
+    c.name_line-initiator.ensures
+    c.name_line-acceptor.ensures
+    c.next_line-iline.ensures
+    c.next_line-aline.ensures
+    c.next_line-fifth.ensures
+    _ _ _ _ _ _ _
+    c.precedes.ensures
+    c.precedes-2.ensures
+    c.is_last-four.ensures
+    c.precedes-3.ensures
+    c.precedes-4.ensures
+    c.both-named.ensures
+    c.both.ensures

@@ -1,0 +1,24 @@
+use Rattle.replay_case.proofs.Cases.{case-read}
+use borrow.Author.Rules.{rules}
+use Rattle.replay_case.proofs.read_case.Goals as goal
+
+-- UNMATCHED slice-aggregate-read-given
+-- slice-aggregate-read-given : tie.Need-slice-aggregate-read-given
+-- slice-aggregate-read-given c = search rules
+
+-- UNMATCHED slice-aggregate-read-given-2
+-- slice-aggregate-read-given-2 : tie.Need-slice-aggregate-read-given-2
+-- slice-aggregate-read-given-2 c = search rules
+
+pub returns : goal.returns
+returns c =
+    case-read _ _ _ _
+    c.four_lines-lines.ensures
+    _ c.part.ensures
+    c.read_given-igiven.result
+    _ c.read_given-igiven.ensures
+    _ c.part-2.ensures
+    c.read_given-agiven.result
+    _ c.read_given-agiven.ensures
+    _ _ c.both.ensures
+    c.both-2.ensures

@@ -1,0 +1,30 @@
+use borrow.Author.Rules.{rules}
+use mathlib.Core.Path.{◌≡◌, refl}
+use lib.ListN.{length}
+use Rattle.token.specs.Token.{token_of}
+use Rattle.token.specs.Walk.{messages_of}
+use Rattle.tallying.specs.Files.{all_octets}
+use Rattle.tallying.specs.Tally.{with_messages}
+use Rattle.tallying.proofs.Steps.{Going-on, walks}
+use Rattle.tallying.proofs.with_messages.Goals as goal
+
+pub loop-rest-init : goal.loop-rest-init
+loop-rest-init c = (refl, search walks)
+
+pub with_message-counted-requires : goal.with_message-counted-requires
+with_message-counted-requires c = search walks
+
+pub slice_bounds-rest-count : goal.slice_bounds-rest-count
+slice_bounds-rest-count c = search walks
+
+pub slice_bounds-rest-start : goal.slice_bounds-rest-start
+slice_bounds-rest-start c = search walks
+
+pub loop-rest-smaller : goal.loop-rest-smaller
+loop-rest-smaller c = search walks
+
+pub loop-rest-preserved : goal.loop-rest-preserved
+loop-rest-preserved c = (search rules, search walks)
+
+pub returns : goal.returns
+returns c = search walks
