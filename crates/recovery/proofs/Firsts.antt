@@ -167,6 +167,7 @@ says s a (m ∷ ms) (h, (c, (t, r))) =
     skip-says s a m.place (taken m ∷ pieces_from (m.place + length m.octets) ms (length s)) h c (t, says s (m.place + length m.octets) ms r)
 
 says-one : (s : List ℕ) (p : Piece) (ps : List Piece) → Memᴰ p ps → SaysAll s ps → Says s p
+says-one s p [] i all = elim i [ ]
 says-one s p (q ∷ ps) (Memᴰ.head e) all = subst (Says s) (sym e) all.0
 says-one s p (q ∷ ps) (Memᴰ.tail i) all = says-one s p ps i all.1
 

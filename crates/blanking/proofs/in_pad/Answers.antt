@@ -1,0 +1,21 @@
+use Rattle.blanking.proofs.Wipes.{pads}
+use borrow.Author.Rules.{rules}
+use Rattle.blanking.proofs.in_pad.Goals as goal
+
+pub returns-then-lies : goal.returns-then-lies
+returns-then-lies c = search pads
+
+pub returns-then-kind-le-ACCEPTOR_NEGO : goal.returns-then-kind-le-ACCEPTOR_NEGO
+returns-then-kind-le-ACCEPTOR_NEGO c = search pads
+
+pub returns-then-kind-le-AP_REQUEST : goal.returns-then-kind-le-AP_REQUEST
+returns-then-kind-le-AP_REQUEST c = search pads
+
+pub returns-then-kind-eq-VERIFY : goal.returns-then-kind-eq-VERIFY
+returns-then-kind-eq-VERIFY c = search pads
+
+pub returns-then-lies-2 : goal.returns-then-lies-2
+returns-then-lies-2 c = search pads
+
+pub returns : goal.returns
+returns c = search pads

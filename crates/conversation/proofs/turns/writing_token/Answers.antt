@@ -1,0 +1,9 @@
+use Rattle.conversation.proofs.Places.{turns}
+use borrow.Author.Rules.{rules}
+use Rattle.conversation.proofs.turns.writing_token.Goals as goal
+
+pub returns-then-acceptor : goal.returns-then-acceptor
+returns-then-acceptor c = search turns
+
+pub returns : goal.returns
+returns c = search turns

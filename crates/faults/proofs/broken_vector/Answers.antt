@@ -1,0 +1,23 @@
+use borrow.Author.Rules.{rules}
+use Rattle.faults.proofs.Spots.{broken, type-room}
+use Rattle.faults.specs.Faults.{first_broken, broken_in}
+use Rattle.coverage.specs.Coverage.{vectors_in}
+use lib.ListN.{length, drop}
+use mathlib.Core.Path.{◌≡◌}
+use Prim.Native.Nat.{◌-◌, ◌≤◌}
+use Rattle.faults.proofs.broken_vector.Goals as goal
+
+pub le_u32-requires : goal.le_u32-requires
+le_u32-requires c = search type-room
+
+pub loop-k-init : goal.loop-k-init
+loop-k-init c = (search rules, search rules, search broken)
+
+pub returns-else-keeps_rule : goal.returns-else-keeps_rule
+returns-else-keeps_rule c = search broken
+
+pub loop-k-preserved : goal.loop-k-preserved
+loop-k-preserved c = (search rules, search rules, search broken)
+
+pub returns : goal.returns
+returns c = search broken

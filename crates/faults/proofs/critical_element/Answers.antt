@@ -1,0 +1,20 @@
+use borrow.Author.Rules.{rules}
+use Rattle.faults.proofs.Spots.{critical}
+use Rattle.faults.specs.Faults.{first_critical}
+use Rattle.message.specs.Layout.{elements_at, elements_of}
+use lib.ListN.{length}
+use mathlib.Core.Path.{◌≡◌}
+use Prim.Native.Nat.{◌-◌, ◌*◌, ◌/◌, ◌≤◌}
+use Rattle.faults.proofs.critical_element.Goals as goal
+
+pub loop-k-init : goal.loop-k-init
+loop-k-init c = (search rules, search rules, search critical)
+
+pub returns-then-is_negative : goal.returns-then-is_negative
+returns-then-is_negative c = search critical
+
+pub loop-k-preserved : goal.loop-k-preserved
+loop-k-preserved c = (search rules, search rules, search critical)
+
+pub returns : goal.returns
+returns c = search critical

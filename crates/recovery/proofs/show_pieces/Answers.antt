@@ -1,0 +1,27 @@
+use borrow.Author.Rules.{rules}
+use Prim.Native.Nat.{◌-◌}
+use mathlib.Core.Path.{◌≡◌, refl}
+use lib.ListN.{length}
+use Rattle.windows.specs.Windows.{texts}
+use Rattle.windows.specs.Steps.{within, steps}
+use Rattle.recovery.specs.Recovery.{taken_of, pieces_of, all_piece_lines}
+use Rattle.recovery.proofs.Scanning.{OnWay, ways}
+use Rattle.recovery.proofs.show_pieces.Goals as goal
+
+pub loop-scan-init : goal.loop-scan-init
+loop-scan-init c = (refl, search ways)
+
+pub advance-scan-requires : goal.advance-scan-requires
+advance-scan-requires c = record { in_file = search ways; going = search ways }
+
+pub loop-scan-smaller : goal.loop-scan-smaller
+loop-scan-smaller c = search ways
+
+pub loop-scan-preserved : goal.loop-scan-preserved
+loop-scan-preserved c = (search rules, search ways)
+
+pub show_stretch-progress-requires : goal.show_stretch-progress-requires
+show_stretch-progress-requires c = search ways
+
+pub returns : goal.returns
+returns c = record { shows = search ways; counts = search ways }

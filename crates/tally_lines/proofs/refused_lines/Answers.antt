@@ -1,0 +1,18 @@
+use Rattle.tally_lines.proofs.Chained.{loops}
+use Prim.Native.Nat.{◌-◌, ◌≤◌}
+use mathlib.Core.Path.{◌≡◌, refl}
+use native.Mathlib.Omega.{arith}
+use lib.ListN.{length, drop}
+use Rattle.text.specs.Text.{text, written}
+use Rattle.tally_lines.specs.Lines.{answer_lines}
+use borrow.Author.Rules.{rules}
+use Rattle.tally_lines.proofs.refused_lines.Goals as goal
+
+pub loop-k-init : goal.loop-k-init
+loop-k-init c = (omega arith, refl, refl)
+
+pub loop-k-preserved : goal.loop-k-preserved
+loop-k-preserved c = (omega arith, search rules, search loops)
+
+pub returns : goal.returns
+returns c = search loops

@@ -1,0 +1,22 @@
+use Rattle.tally_lines.proofs.Chained.{loops}
+use Prim.Native.Nat.{◌-◌, ◌≤◌}
+use mathlib.Core.Path.{◌≡◌, refl}
+use native.Mathlib.Omega.{arith}
+use lib.ListN.{length, drop}
+use Rattle.text.specs.Text.{text, written}
+use Rattle.tally_lines.specs.Lines.{type_lines}
+use borrow.Author.Rules.{rules}
+use Rattle.tally_lines.proofs.type_lines.Goals as goal
+
+pub loop-k-init : goal.loop-k-init
+loop-k-init c = (omega arith, refl, refl)
+
+-- UNMATCHED slice-aggregate-number-line
+-- slice-aggregate-number-line : tie.Need-slice-aggregate-number-line invariant-loop decreases-loop
+-- slice-aggregate-number-line c = search rules
+
+pub loop-k-preserved : goal.loop-k-preserved
+loop-k-preserved c = (omega arith, search rules, search loops)
+
+pub returns : goal.returns
+returns c = search loops
