@@ -2,8 +2,7 @@
 #![tactic(auto)]
 
 use blanking::blank;
-use console::{Loaded, load};
-use libc::{STDERR_FILENO, STDIN_FILENO, STDOUT_FILENO};
+use console::{Loaded, STDERR, STDIN, STDOUT, load};
 use lines::refused_text;
 use scan::find;
 use token::Answer;
@@ -13,7 +12,7 @@ use vector::TokenPlace;
 fn write_refusal(n: u32, place: TokenPlace) {
     let mut text = [0u8; 128];
     let end = refused_text(&mut text, n, place);
-    io::write_all(STDERR_FILENO, &text[..end]);
+    io::write_all(STDERR, &text[..end]);
 }
 
 // A token, blanked; of a refused one only what it is refused with.
@@ -21,7 +20,7 @@ fn write_blanked(token: &mut [u8]) {
     let answer = blank(token);
     match answer {
         Answer::Messages(_) => {
-            io::write_all(STDOUT_FILENO, &token[..]);
+            io::write_all(STDOUT, &token[..]);
         }
         Answer::Refused(n, place) => {
             write_refusal(n, place);
@@ -37,14 +36,14 @@ fn blank_file(name: &[u8], buf: &mut [u8]) {
             write_blanked(&mut buf[..n]);
         }
         Loaded::Nothing => {
-            io::write_all(STDERR_FILENO, b"no file\n");
+            io::write_all(STDERR, b"no file\n");
         }
     }
 }
 
 fn main() {
     let mut input = io::buffer();
-    let length = io::read_full(STDIN_FILENO, &mut input);
+    let length = io::read_full(STDIN, &mut input);
     let end = find(&input, 0, length, b'\n');
     // A file of 65,536 octets or more fills the array, which is one octet too many for a token.
     let mut token = [0u8; 65536];

@@ -5,6 +5,13 @@ ghost use Rattle.std.specs.Prelude.{◌≡◌, length};
 ghost use Rattle.listing.specs.Listing.{lines_of};
 ghost use Rattle.console.specs.Console.{Holds};
 
+// The descriptors that a program is started with.
+pub const STDIN: i32 = 0;
+
+pub const STDOUT: i32 = 1;
+
+pub const STDERR: i32 = 2;
+
 // What loading a file answers: how many octets stand at the buffer's front, or that there is no file to be read.
 #[derive(Clone, Copy)]
 pub enum Loaded {

@@ -1,13 +1,13 @@
 // Plays the script in the file whose name stands on standard input's first line.
 #![tactic(auto)]
 
-use libc::STDIN_FILENO;
+use console::STDIN;
 use playing::play::play_file;
 use scan::find;
 
 fn main() {
     let mut input = io::buffer();
-    let length = io::read_full(STDIN_FILENO, &mut input);
+    let length = io::read_full(STDIN, &mut input);
     let end = find(&input, 0, length, b'\n');
     let mut buf = [0u8; 262144];
     play_file(&input[..end], &mut buf);

@@ -3,31 +3,30 @@
 
 ghost use Rattle.std.specs.Prelude.{◌<◌, length};
 
-use console::{Loaded, load};
+use console::{Loaded, STDIN, STDOUT, load};
 use envelope_lines::envelope_text;
 use fields::part;
-use libc::{STDIN_FILENO, STDOUT_FILENO};
 use scan::find;
 
 // What an envelope says, without the listing of a token in it.
 fn say(s: &[u8]) {
     let mut text = [0u8; 262144];
     let end = envelope_text(&mut text, s);
-    io::write_all(STDOUT_FILENO, part(&text, 0, end));
+    io::write_all(STDOUT, part(&text, 0, end));
 }
 
 // The name of a file, and what the envelope in it says.
 fn show(name: &[u8]) {
-    io::write_all(STDOUT_FILENO, b"file ");
-    io::write_all(STDOUT_FILENO, name);
-    io::write_all(STDOUT_FILENO, b"\n");
+    io::write_all(STDOUT, b"file ");
+    io::write_all(STDOUT, name);
+    io::write_all(STDOUT, b"\n");
     let mut buf = [0u8; 65536];
     match load(name, &mut buf) {
         Loaded::Octets(n) => {
             say(part(&buf, 0, n));
         }
         Loaded::Nothing => {
-            io::write_all(STDOUT_FILENO, b"no file\n");
+            io::write_all(STDOUT, b"no file\n");
         }
     }
 }
@@ -52,6 +51,6 @@ fn show_all(names: &[u8]) {
 
 fn main() {
     let mut input = io::large_buffer();
-    let length = io::read_full(STDIN_FILENO, &mut input);
+    let length = io::read_full(STDIN, &mut input);
     show_all(&input[..length]);
 }

@@ -3,16 +3,16 @@
 
 ghost use Rattle.std.specs.Prelude.{◌<◌, length};
 
-use libc::{STDIN_FILENO, STDOUT_FILENO};
+use console::{STDIN, STDOUT};
 use scan::find;
 
 // The name of a file, and the listing of the token in it.
 fn show(name: &[u8]) {
-    io::write_all(STDOUT_FILENO, b"file ");
-    io::write_all(STDOUT_FILENO, name);
-    io::write_all(STDOUT_FILENO, b"\n");
+    io::write_all(STDOUT, b"file ");
+    io::write_all(STDOUT, name);
+    io::write_all(STDOUT, b"\n");
     let mut token = [0u8; 65536];
-    console::list_file(STDOUT_FILENO, name, &mut token);
+    console::list_file(STDOUT, name, &mut token);
 }
 
 // Shows the file whose name begins at a place, and answers where the next name begins.
@@ -35,6 +35,6 @@ fn show_all(names: &[u8]) {
 
 fn main() {
     let mut input = io::large_buffer();
-    let length = io::read_full(STDIN_FILENO, &mut input);
+    let length = io::read_full(STDIN, &mut input);
     show_all(&input[..length]);
 }

@@ -3,9 +3,8 @@ ghost use Rattle.console.specs.Console.{Holds};
 
 use super::end::{End, Ends, both_closed, end_of, held, moved, used, with_end};
 use commands::make;
-use console::{Loaded, load};
+use console::{Loaded, STDOUT, load};
 use fields::part;
-use libc::STDOUT_FILENO;
 use reports::report;
 use scan::find;
 use script::{Command, read_command};
@@ -49,7 +48,7 @@ fn is_call(c: Command, e: End) -> bool {
 
 // Writes the first n octets of d.
 fn print(d: &[u8], n: usize) {
-    io::write_all(STDOUT_FILENO, part(d, 0, n));
+    io::write_all(STDOUT, part(d, 0, n));
 }
 
 // Makes the call of a command at the end e, and writes its line.
@@ -74,7 +73,7 @@ fn called(c: Command, e: End, both: &mut [u8], lent: &mut [u8]) -> End {
 fn play_command(c: Command, ends: Ends, both: &mut [u8], lent: &mut [u8]) -> Ends {
     let end = end_of(ends, c.acceptor);
     if is_call(c, end) {} else {
-        io::write_all(STDOUT_FILENO, b"bad line\n");
+        io::write_all(STDOUT, b"bad line\n");
         return ends;
     }
     let call = given(c, end_of(ends, !c.acceptor), both, lent);
@@ -118,7 +117,7 @@ fn play(script: &[u8]) {
 // Plays the first n octets of a buffer; a script that fills it is too long.
 fn play_front(buf: &[u8], n: usize) {
     if n == buf.len() {
-        io::write_all(STDOUT_FILENO, b"refused 1 at=0\n");
+        io::write_all(STDOUT, b"refused 1 at=0\n");
         return;
     }
     play(part(buf, 0, n));
@@ -135,7 +134,7 @@ pub fn play_file(name: &[u8], buf: &mut [u8]) -> Loaded
             Loaded::Octets(n)
         }
         Loaded::Nothing => {
-            io::write_all(STDOUT_FILENO, b"no file\n");
+            io::write_all(STDOUT, b"no file\n");
             Loaded::Nothing
         }
     }

@@ -1,14 +1,14 @@
 // Lists what can still be read of the damaged capture in the file whose name stands on standard input's first line.
 #![tactic(auto)]
 
-use libc::{STDIN_FILENO, STDOUT_FILENO};
+use console::{STDIN, STDOUT};
 use scan::find;
 
 fn main() {
     let mut input = io::buffer();
-    let length = io::read_full(STDIN_FILENO, &mut input);
+    let length = io::read_full(STDIN, &mut input);
     let end = find(&input, 0, length, b'\n');
     // A file of 65,536 octets or more fills the array, which is one octet too many.
     let mut file = [0u8; 65536];
-    recovering::recover_file(STDOUT_FILENO, &input[..end], &mut file);
+    recovering::recover_file(STDOUT, &input[..end], &mut file);
 }

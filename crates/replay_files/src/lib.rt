@@ -3,9 +3,8 @@
 
 ghost use Rattle.console.specs.Console.{Holds};
 
-use console::{Loaded, load};
+use console::{Loaded, STDOUT, load};
 use fields::part;
-use libc::STDOUT_FILENO;
 use replay_case::{CaseText, read_case};
 use replaying::{Found, Marks};
 use turns::show_replay;
@@ -67,7 +66,7 @@ fn replay_text(text: &[u8]) {
     let mut alist = [0u8; 65536];
     let case_text = read_case(text, &mut ilist, &mut alist);
     if case_text.ok {} else {
-        io::write_all(STDOUT_FILENO, b"bad case\n");
+        io::write_all(STDOUT, b"bad case\n");
         return;
     }
     let ilength = case_text.i.length;
@@ -83,7 +82,7 @@ fn replay_text(text: &[u8]) {
 // Replays the case in the first n octets of a buffer; one that fills it is too long.
 fn replay_front(buf: &[u8], n: usize) {
     if n == buf.len() {
-        io::write_all(STDOUT_FILENO, b"bad case\n");
+        io::write_all(STDOUT, b"bad case\n");
         return;
     }
     replay_text(part(buf, 0, n));
@@ -100,7 +99,7 @@ pub fn replay_file(name: &[u8], buf: &mut [u8]) -> Loaded
             Loaded::Octets(n)
         }
         Loaded::Nothing => {
-            io::write_all(STDOUT_FILENO, b"no file\n");
+            io::write_all(STDOUT, b"no file\n");
             Loaded::Nothing
         }
     }

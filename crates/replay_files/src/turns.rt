@@ -3,9 +3,9 @@ ghost use Rattle.std.specs.Prelude.{◌≡◌, true};
 ghost use Rattle.sides.specs.Replay.{finished};
 ghost use Rattle.replaying.specs.Playing.{ending_as, summary, played_as, counted, rest_of, Fine};
 
+use console::STDOUT;
 use conversation::Record;
 use fields::part;
-use libc::STDOUT_FILENO;
 use replay_lines::{choice_line, end_line, turn_line};
 use replaying::play::{play_turn, start};
 use replaying::{Found, Marks, Replay};
@@ -14,7 +14,7 @@ use schemes::list::id_of;
 // Writes the first n octets of d, where they are to be shown.
 fn print(d: &[u8], n: usize, shown: bool) {
     if shown {
-        io::write_all(STDOUT_FILENO, part(d, 0, n));
+        io::write_all(STDOUT, part(d, 0, n));
     }
 }
 

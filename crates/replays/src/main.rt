@@ -3,15 +3,15 @@
 
 ghost use Rattle.std.specs.Prelude.{◌<◌, length};
 
-use libc::{STDIN_FILENO, STDOUT_FILENO};
+use console::{STDIN, STDOUT};
 use replay_files::replay_file;
 use scan::find;
 
 // The name of a case, and what its replay says.
 fn show(name: &[u8]) {
-    io::write_all(STDOUT_FILENO, b"case ");
-    io::write_all(STDOUT_FILENO, name);
-    io::write_all(STDOUT_FILENO, b"\n");
+    io::write_all(STDOUT, b"case ");
+    io::write_all(STDOUT, name);
+    io::write_all(STDOUT, b"\n");
     let mut buf = [0u8; 65536];
     replay_file(name, &mut buf);
 }
@@ -36,6 +36,6 @@ fn show_all(names: &[u8]) {
 
 fn main() {
     let mut input = io::large_buffer();
-    let length = io::read_full(STDIN_FILENO, &mut input);
+    let length = io::read_full(STDIN, &mut input);
     show_all(&input[..length]);
 }

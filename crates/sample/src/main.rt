@@ -6,7 +6,7 @@ ghost use Rattle.std.specs.Prelude.{◌≡◌, ◌/◌, length};
 ghost use Rattle.vector.specs.Vector.{shown};
 ghost use Rattle.message.specs.Layout.{scheme_vector};
 
-use libc::STDOUT_FILENO;
+use console::STDOUT;
 use negoex::{
     Answer, Elements, Record, TokenAnswer, choose_alert, open, read, read_token, schemes,
     write_offer, write_reply,
@@ -14,10 +14,10 @@ use negoex::{
 
 // A line with a number.
 fn say(what: &[u8], n: u64) {
-    io::write_all(STDOUT_FILENO, what);
-    io::write_all(STDOUT_FILENO, b" ");
-    io::print_decimal(STDOUT_FILENO, n);
-    io::write_all(STDOUT_FILENO, b"\n");
+    io::write_all(STDOUT, what);
+    io::write_all(STDOUT, b" ");
+    io::print_decimal(STDOUT, n);
+    io::write_all(STDOUT, b"\n");
 }
 
 // What a call answered: its refusal's number, 0 for none, and what the record has used of the transcript.
@@ -31,9 +31,9 @@ fn say_choice(a: Answer) {
     let mut text = [0u8; 36];
     let id = a.choice;
     text::id(&mut text, 0, &id);
-    io::write_all(STDOUT_FILENO, b"  choice ");
-    io::write_all(STDOUT_FILENO, &text);
-    io::write_all(STDOUT_FILENO, b"\n");
+    io::write_all(STDOUT, b"  choice ");
+    io::write_all(STDOUT, &text);
+    io::write_all(STDOUT, b"\n");
     say(b"  left", a.left as u64);
 }
 

@@ -1,8 +1,7 @@
 // Counts the files whose names stand on standard input, one a line, and prints the tally. Names beyond 1,000 aren't opened.
 #![tactic(auto)]
 
-use console::{Loaded, load};
-use libc::{STDERR_FILENO, STDIN_FILENO, STDOUT_FILENO};
+use console::{Loaded, STDERR, STDIN, STDOUT, load};
 use scan::find;
 use tally_lines::tally_text;
 use tallying::{Tally, count_missing, count_next, empty};
@@ -42,8 +41,8 @@ fn count_name(t: Tally, name: &[u8]) -> Tally {
 // On a terminal, a dot for each fifty names.
 fn show_progress(names: u64) {
     if names % 50 == 0 {
-        if libc::isatty(STDERR_FILENO) == 1 {
-            io::write_all(STDERR_FILENO, b".");
+        if libc::isatty(STDERR) == 1 {
+            io::write_all(STDERR, b".");
         }
     }
 }
@@ -51,8 +50,8 @@ fn show_progress(names: u64) {
 // The end of the line with the dots.
 fn end_progress(names: u64) {
     if 50 <= names {
-        if libc::isatty(STDERR_FILENO) == 1 {
-            io::write_all(STDERR_FILENO, b"\n");
+        if libc::isatty(STDERR) == 1 {
+            io::write_all(STDERR, b"\n");
         }
     }
 }
@@ -125,7 +124,7 @@ fn read_names(w: Week, name: &mut [u8]) -> Week {
     let mut week = w;
     let mut left: u64 = 18446744073709551615;
     while 0 < left {
-        let length = io::read_full(STDIN_FILENO, &mut chunk);
+        let length = io::read_full(STDIN, &mut chunk);
         if length == 0 {
             return week;
         }
@@ -140,7 +139,7 @@ fn print(text: &[u8], n: usize) {
     if text.len() < n {
         return;
     }
-    io::write_all(STDOUT_FILENO, &text[..n]);
+    io::write_all(STDOUT, &text[..n]);
 }
 
 fn main() {

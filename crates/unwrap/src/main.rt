@@ -1,13 +1,13 @@
 // Shows the envelope in the file whose name stands on standard input's first line, and the NEGOEX token in it.
 #![tactic(auto)]
 
-use libc::STDIN_FILENO;
+use console::STDIN;
 use scan::find;
 use unwrapping::unwrap_file;
 
 fn main() {
     let mut input = io::buffer();
-    let length = io::read_full(STDIN_FILENO, &mut input);
+    let length = io::read_full(STDIN, &mut input);
     let end = find(&input, 0, length, b'\n');
     // A file of 65,536 octets or more fills the array, which is one octet too many for an envelope.
     let mut buf = [0u8; 65536];

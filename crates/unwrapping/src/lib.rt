@@ -3,19 +3,18 @@
 
 ghost use Rattle.console.specs.Console.{Holds};
 
-use console::{Loaded, load, print};
+use console::{Loaded, STDOUT, load, print};
 use envelope_lines::{begun, envelope_text, token};
 use fields::part;
-use libc::STDOUT_FILENO;
 
 // Writes what an envelope says. There is room for the whole text: `text-fits` (proofs/Room.antt).
 fn show(s: &[u8]) {
     let mut text = [0u8; 262144];
     let end = envelope_text(&mut text, s);
-    io::write_all(STDOUT_FILENO, part(&text, 0, end));
+    io::write_all(STDOUT, part(&text, 0, end));
     let t = token(s);
     if begun(t) {
-        print(STDOUT_FILENO, t);
+        print(STDOUT, t);
     }
 }
 
@@ -30,7 +29,7 @@ pub fn unwrap_file(name: &[u8], buf: &mut [u8]) -> Loaded
             Loaded::Octets(n)
         }
         Loaded::Nothing => {
-            io::write_all(STDOUT_FILENO, b"no file\n");
+            io::write_all(STDOUT, b"no file\n");
             Loaded::Nothing
         }
     }

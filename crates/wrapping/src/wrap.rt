@@ -2,12 +2,11 @@
 ghost use Rattle.console.specs.Console.{Holds};
 
 use super::draft::{Draft, bad, empty, started, with_octets, with_state};
-use console::{Loaded, load};
+use console::{Loaded, STDOUT, load};
 use envelope_lines::{refused_line, wrote_line};
 use envelope_script::{Line, read_line};
 use envelope_write::{Stored, write_init, write_resp};
 use fields::part;
-use libc::STDOUT_FILENO;
 use scan::find;
 
 // A line of the text: an empty one and a comment are passed over.
@@ -93,11 +92,11 @@ fn report(stored: Stored, out: &[u8]) {
     match stored {
         Stored::Size(n) => {
             let end = wrote_line(&mut text, part(out, 0, n));
-            io::write_all(STDOUT_FILENO, part(&text, 0, end));
+            io::write_all(STDOUT, part(&text, 0, end));
         }
         Stored::Refused(n) => {
             let end = refused_line(&mut text, n);
-            io::write_all(STDOUT_FILENO, part(&text, 0, end));
+            io::write_all(STDOUT, part(&text, 0, end));
         }
     }
 }
@@ -105,11 +104,11 @@ fn report(stored: Stored, out: &[u8]) {
 // Writes the envelope of a draft, or that a line was bad.
 fn finish(draft: Draft, store: &[u8], sizes: &[usize]) {
     if draft.kind == Draft::EMPTY {
-        io::write_all(STDOUT_FILENO, b"bad line\n");
+        io::write_all(STDOUT, b"bad line\n");
         return;
     }
     if draft.kind == Draft::BAD {
-        io::write_all(STDOUT_FILENO, b"bad line\n");
+        io::write_all(STDOUT, b"bad line\n");
         return;
     }
     let mut out = [0u8; 65536];
@@ -130,7 +129,7 @@ fn wrap(text: &[u8]) {
 // Wraps the first n octets of a buffer; a text that fills it is too long.
 fn wrap_front(buf: &[u8], n: usize) {
     if n == buf.len() {
-        io::write_all(STDOUT_FILENO, b"refused 1 at=0\n");
+        io::write_all(STDOUT, b"refused 1 at=0\n");
         return;
     }
     wrap(part(buf, 0, n));
@@ -147,7 +146,7 @@ pub fn wrap_file(name: &[u8], buf: &mut [u8]) -> Loaded
             Loaded::Octets(n)
         }
         Loaded::Nothing => {
-            io::write_all(STDOUT_FILENO, b"no file\n");
+            io::write_all(STDOUT, b"no file\n");
             Loaded::Nothing
         }
     }
