@@ -5,6 +5,7 @@ use blanking::blank;
 use console::{Loaded, STDERR, STDIN, STDOUT, load};
 use lines::refused_text;
 use scan::find;
+use std::rt::Files;
 use token::Answer;
 use vector::TokenPlace;
 
@@ -29,8 +30,8 @@ fn write_blanked(token: &mut [u8]) {
 }
 
 // The token in the file with a name, by way of a buffer.
-fn blank_file(name: &[u8], buf: &mut [u8]) {
-    let loaded = load(name, buf);
+fn blank_file<R: Files>(rt: &R, name: &[u8], buf: &mut [u8]) {
+    let loaded = load(rt, name, buf);
     match loaded {
         Loaded::Octets(n) => {
             write_blanked(&mut buf[..n]);
@@ -41,11 +42,11 @@ fn blank_file(name: &[u8], buf: &mut [u8]) {
     }
 }
 
-fn main() {
+fn main(rt: HostRuntime) {
     let mut input = io::buffer();
     let length = io::read_full(STDIN, &mut input);
     let end = find(&input, 0, length, b'\n');
     // A file of 65,536 octets or more fills the array, which is one octet too many for a token.
     let mut token = [0u8; 65536];
-    blank_file(&input[..end], &mut token);
+    blank_file(&rt, &input[..end], &mut token);
 }

@@ -5,6 +5,11 @@ ghost use Rattle.std.specs.Prelude.{◌≡◌, length};
 ghost use Rattle.listing.specs.Listing.{lines_of};
 ghost use Rattle.console.specs.Console.{Holds};
 
+use std::fs;
+use std::io::Read;
+use std::rt::Files;
+use std::str::from_utf8;
+
 // The descriptors that a program is started with.
 pub const STDIN: i32 = 0;
 
@@ -20,35 +25,32 @@ pub enum Loaded {
 }
 
 // Reads until the buffer is full or the input ends. A read that fails, as that of a folder, leaves nothing to list.
-fn fill(fd: i32, buf: &mut [u8]) -> Loaded
+fn fill<F: Read>(file: &mut F, buf: &mut [u8]) -> Loaded
     ensures { Holds result buf.new }
 {
     let mut count = 0;
     while count < buf.len() {
-        let got = libc::read(fd, &mut buf[count..]);
-        if got < 0 {
-            return Loaded::Nothing;
+        match file.read(&mut buf[count..]) {
+            Ok(0) => return Loaded::Octets(count),
+            Ok(more) => count += more,
+            Err(_) => return Loaded::Nothing,
         }
-        let more = io::count(got, &buf[count..]);
-        if more == 0 {
-            return Loaded::Octets(count);
-        }
-        count += more;
     }
     Loaded::Octets(count)
 }
 
 // The octets of the file with a name, from its first on, as many as the buffer has room for. What is read is the system's to say.
-pub fn load(name: &[u8], buf: &mut [u8]) -> Loaded
+// A name that is not UTF-8 counts as that of no file: std opens files by text alone.
+pub fn load<R: Files>(rt: &R, name: &[u8], buf: &mut [u8]) -> Loaded
     ensures { Holds result buf.new }
 {
-    let fd = os::open_read(name);
-    if fd < 0 {
+    let Ok(path) = from_utf8(name) else {
         return Loaded::Nothing;
+    };
+    match fs::open(rt, path) {
+        Ok(mut file) => fill(&mut file, buf),
+        Err(_) => Loaded::Nothing,
     }
-    let loaded = fill(fd, buf);
-    libc::close(fd);
-    loaded
 }
 
 // Writes the listing of a token, window by window, and answers the number of its lines.
@@ -69,10 +71,10 @@ pub fn print(fd: i32, token: &[u8]) -> usize
 }
 
 // Lists the token in the file with a name, by way of a buffer that the caller lends.
-pub fn list_file(fd: i32, name: &[u8], buf: &mut [u8]) -> Loaded
+pub fn list_file<R: Files>(rt: &R, fd: i32, name: &[u8], buf: &mut [u8]) -> Loaded
     ensures { Holds result buf.new }
 {
-    let loaded = load(name, buf);
+    let loaded = load(rt, name, buf);
     match loaded {
         Loaded::Octets(n) => {
             print(fd, &buf[..n]);

@@ -7,6 +7,7 @@ use console::{Loaded, STDIN, STDOUT, load};
 use envelope_lines::envelope_text;
 use fields::part;
 use scan::find;
+use std::rt::Files;
 
 // What an envelope says, without the listing of a token in it.
 fn say(s: &[u8]) {
@@ -16,12 +17,12 @@ fn say(s: &[u8]) {
 }
 
 // The name of a file, and what the envelope in it says.
-fn show(name: &[u8]) {
+fn show<R: Files>(rt: &R, name: &[u8]) {
     io::write_all(STDOUT, b"file ");
     io::write_all(STDOUT, name);
     io::write_all(STDOUT, b"\n");
     let mut buf = [0u8; 65536];
-    match load(name, &mut buf) {
+    match load(rt, name, &mut buf) {
         Loaded::Octets(n) => {
             say(part(&buf, 0, n));
         }
@@ -32,25 +33,25 @@ fn show(name: &[u8]) {
 }
 
 // Shows the file whose name begins at a place, and answers where the next name begins.
-fn show_from(names: &[u8], from: usize) -> usize
+fn show_from<R: Files>(rt: &R, names: &[u8], from: usize) -> usize
     requires { from < length names.now }
     ensures { from < result }
 {
     let end = find(names, from, names.len(), b'\n');
-    show(&names[from..end]);
+    show(rt, &names[from..end]);
     end + 1
 }
 
 // Shows the files of all names, one a line.
-fn show_all(names: &[u8]) {
+fn show_all<R: Files>(rt: &R, names: &[u8]) {
     let mut from = 0;
     while from < names.len() {
-        from = show_from(names, from);
+        from = show_from(rt, names, from);
     }
 }
 
-fn main() {
+fn main(rt: HostRuntime) {
     let mut input = io::large_buffer();
     let length = io::read_full(STDIN, &mut input);
-    show_all(&input[..length]);
+    show_all(&rt, &input[..length]);
 }

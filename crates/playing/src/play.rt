@@ -8,6 +8,7 @@ use fields::part;
 use reports::report;
 use scan::find;
 use script::{Command, read_command};
+use std::rt::Files;
 use text::append;
 
 // The octets of d from `from` on, up to `to`; all of them where it has no such part.
@@ -124,10 +125,10 @@ fn play_front(buf: &[u8], n: usize) {
 }
 
 // Plays the script in the file with a name, by way of a buffer that the caller lends, and writes what its calls answer to standard output.
-pub fn play_file(name: &[u8], buf: &mut [u8]) -> Loaded
+pub fn play_file<R: Files>(rt: &R, name: &[u8], buf: &mut [u8]) -> Loaded
     ensures { Holds result buf.new }
 {
-    let loaded = load(name, buf);
+    let loaded = load(rt, name, buf);
     match loaded {
         Loaded::Octets(n) => {
             play_front(buf, n);

@@ -6,6 +6,7 @@ ghost use Rattle.console.specs.Console.{Holds};
 ghost use Rattle.recovery.specs.Recovery.{recovered_lines};
 
 use console::Loaded;
+use std::rt::Files;
 
 // Writes the lines of a file, window by window, and answers the number of its lines.
 pub fn print(fd: i32, file: &[u8]) -> usize
@@ -25,10 +26,10 @@ pub fn print(fd: i32, file: &[u8]) -> usize
 }
 
 // Lists what can still be read of the file with a name, by way of a buffer that the caller lends.
-pub fn recover_file(fd: i32, name: &[u8], buf: &mut [u8]) -> Loaded
+pub fn recover_file<R: Files>(rt: &R, fd: i32, name: &[u8], buf: &mut [u8]) -> Loaded
     ensures { Holds result buf.new }
 {
-    let loaded = console::load(name, buf);
+    let loaded = console::load(rt, name, buf);
     match loaded {
         Loaded::Octets(n) => {
             print(fd, &buf[..n]);

@@ -5,10 +5,10 @@ use console::STDIN;
 use replay_files::replay_file;
 use scan::find;
 
-fn main() {
+fn main(rt: HostRuntime) {
     let mut input = io::buffer();
     let length = io::read_full(STDIN, &mut input);
     let end = find(&input, 0, length, b'\n');
     let mut buf = [0u8; 65536];
-    replay_file(&input[..end], &mut buf);
+    replay_file(&rt, &input[..end], &mut buf);
 }

@@ -7,6 +7,7 @@ use console::{Loaded, STDOUT, load};
 use fields::part;
 use replay_case::{CaseText, read_case};
 use replaying::{Found, Marks};
+use std::rt::Files;
 use turns::show_replay;
 
 mod turns;
@@ -37,11 +38,11 @@ fn marks_of(n: u32) -> u16 {
 }
 
 // Replays the files of a case, by the lists of its two sides. One octet more than a file may have is asked for, so that a longer one is seen.
-fn replay_files(c: CaseText, text: &[u8], ilist: &[u8], alist: &[u8]) {
+fn replay_files<R: Files>(rt: &R, c: CaseText, text: &[u8], ilist: &[u8], alist: &[u8]) {
     let mut ibuf = [0u8; 65536];
     let mut abuf = [0u8; 65536];
-    let iopened = file_of(load(part(text, c.initiator.from, c.initiator.end), &mut ibuf));
-    let aopened = file_of(load(part(text, c.acceptor.from, c.acceptor.end), &mut abuf));
+    let iopened = file_of(load(rt, part(text, c.initiator.from, c.initiator.end), &mut ibuf));
+    let aopened = file_of(load(rt, part(text, c.acceptor.from, c.acceptor.end), &mut abuf));
     let found = Found {
         initiator: iopened.found,
         acceptor: aopened.found,
@@ -61,7 +62,7 @@ fn replay_files(c: CaseText, text: &[u8], ilist: &[u8], alist: &[u8]) {
 }
 
 // Replays a case. Each list has room for all ids that its text can have.
-fn replay_text(text: &[u8]) {
+fn replay_text<R: Files>(rt: &R, text: &[u8]) {
     let mut ilist = [0u8; 65536];
     let mut alist = [0u8; 65536];
     let case_text = read_case(text, &mut ilist, &mut alist);
@@ -72,6 +73,7 @@ fn replay_text(text: &[u8]) {
     let ilength = case_text.i.length;
     let alength = case_text.a.length;
     replay_files(
+        rt,
         case_text,
         text,
         part(&ilist, 0, ilength),
@@ -80,22 +82,22 @@ fn replay_text(text: &[u8]) {
 }
 
 // Replays the case in the first n octets of a buffer; one that fills it is too long.
-fn replay_front(buf: &[u8], n: usize) {
+fn replay_front<R: Files>(rt: &R, buf: &[u8], n: usize) {
     if n == buf.len() {
         io::write_all(STDOUT, b"bad case\n");
         return;
     }
-    replay_text(part(buf, 0, n));
+    replay_text(rt, part(buf, 0, n));
 }
 
 // Replays the case in the file with a name, by way of a buffer that the caller lends, and writes what is to be seen of it to standard output.
-pub fn replay_file(name: &[u8], buf: &mut [u8]) -> Loaded
+pub fn replay_file<R: Files>(rt: &R, name: &[u8], buf: &mut [u8]) -> Loaded
     ensures { Holds result buf.new }
 {
-    let loaded = load(name, buf);
+    let loaded = load(rt, name, buf);
     match loaded {
         Loaded::Octets(n) => {
-            replay_front(buf, n);
+            replay_front(rt, buf, n);
             Loaded::Octets(n)
         }
         Loaded::Nothing => {

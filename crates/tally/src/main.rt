@@ -3,6 +3,8 @@
 
 use console::{Loaded, STDERR, STDIN, STDOUT, load};
 use scan::find;
+use std::io::IsTerminal;
+use std::rt::Files;
 use tally_lines::tally_text;
 use tallying::{Tally, count_missing, count_next, empty};
 use text::append;
@@ -18,8 +20,8 @@ struct Week {
 }
 
 // The tally with the file of a name, by way of a buffer.
-fn count_by(t: Tally, name: &[u8], buf: &mut [u8]) -> Tally {
-    let loaded = load(name, buf);
+fn count_by<R: Files>(rt: &R, t: Tally, name: &[u8], buf: &mut [u8]) -> Tally {
+    let loaded = load(rt, name, buf);
     match loaded {
         Loaded::Octets(n) => {
             let counted = count_next(t, &buf[..n]);
@@ -33,40 +35,40 @@ fn count_by(t: Tally, name: &[u8], buf: &mut [u8]) -> Tally {
 }
 
 // A file of 65,536 octets or more fills the array, which is one octet too many for a token.
-fn count_name(t: Tally, name: &[u8]) -> Tally {
+fn count_name<R: Files>(rt: &R, t: Tally, name: &[u8]) -> Tally {
     let mut octets = [0u8; 65536];
-    count_by(t, name, &mut octets)
+    count_by(rt, t, name, &mut octets)
 }
 
 // On a terminal, a dot for each fifty names.
-fn show_progress(names: u64) {
+fn show_progress(rt: &HostRuntime, names: u64) {
     if names % 50 == 0 {
-        if libc::isatty(STDERR) == 1 {
+        if rt.stderr().is_terminal() {
             io::write_all(STDERR, b".");
         }
     }
 }
 
 // The end of the line with the dots.
-fn end_progress(names: u64) {
+fn end_progress(rt: &HostRuntime, names: u64) {
     if 50 <= names {
-        if libc::isatty(STDERR) == 1 {
+        if rt.stderr().is_terminal() {
             io::write_all(STDERR, b"\n");
         }
     }
 }
 
 // A name more.
-fn next_name(w: Week, name: &[u8]) -> Week {
+fn next_name(rt: &HostRuntime, w: Week, name: &[u8]) -> Week {
     let mut tally = w.tally;
     if w.names < MOST {
-        tally = count_name(tally, name);
+        tally = count_name(rt, tally, name);
     }
     let mut names = w.names;
     if names < 18446744073709551615 {
         names += 1;
     }
-    show_progress(names);
+    show_progress(rt, names);
     Week {
         tally,
         names,
@@ -75,12 +77,12 @@ fn next_name(w: Week, name: &[u8]) -> Week {
 }
 
 // The name that is held.
-fn held_name(w: Week, name: &[u8]) -> Week {
+fn held_name(rt: &HostRuntime, w: Week, name: &[u8]) -> Week {
     if name.len() < w.held {
-        return next_name(w, name);
+        return next_name(rt, w, name);
     }
     let held = w.held;
-    next_name(w, &name[..held])
+    next_name(rt, w, &name[..held])
 }
 
 // A part of a name behind what is held of it. A name that has no room is longer than any path, and stays so.
@@ -104,14 +106,14 @@ fn hold(w: Week, name: &mut [u8], part: &[u8]) -> Week {
 }
 
 // The names that end in a chunk of the input, and what it holds of the next one.
-fn take_chunk(w: Week, name: &mut [u8], chunk: &[u8]) -> Week {
+fn take_chunk(rt: &HostRuntime, w: Week, name: &mut [u8], chunk: &[u8]) -> Week {
     let mut week = w;
     let mut from = 0;
     while from < chunk.len() {
         let end = find(chunk, from, chunk.len(), b'\n');
         week = hold(week, name, &chunk[from..end]);
         if end < chunk.len() {
-            week = held_name(week, name);
+            week = held_name(rt, week, name);
         }
         from = end + 1;
     }
@@ -119,7 +121,7 @@ fn take_chunk(w: Week, name: &mut [u8], chunk: &[u8]) -> Week {
 }
 
 // All names on standard input; the last may lack its line end.
-fn read_names(w: Week, name: &mut [u8]) -> Week {
+fn read_names(rt: &HostRuntime, w: Week, name: &mut [u8]) -> Week {
     let mut chunk = io::large_buffer();
     let mut week = w;
     let mut left: u64 = 18446744073709551615;
@@ -128,7 +130,7 @@ fn read_names(w: Week, name: &mut [u8]) -> Week {
         if length == 0 {
             return week;
         }
-        week = take_chunk(week, name, &chunk[..length]);
+        week = take_chunk(rt, week, name, &chunk[..length]);
         left -= 1;
     }
     week
@@ -142,18 +144,18 @@ fn print(text: &[u8], n: usize) {
     io::write_all(STDOUT, &text[..n]);
 }
 
-fn main() {
+fn main(rt: HostRuntime) {
     let mut name = io::buffer();
     let none = Week {
         tally: empty(),
         names: 0,
         held: 0,
     };
-    let mut week = read_names(none, &mut name);
+    let mut week = read_names(&rt, none, &mut name);
     if 0 < week.held {
-        week = held_name(week, &name);
+        week = held_name(&rt, week, &name);
     }
-    end_progress(week.names);
+    end_progress(&rt, week.names);
     let mut unopened: u64 = 0;
     if MOST < week.names {
         unopened = week.names - MOST;

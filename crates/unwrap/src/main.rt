@@ -5,11 +5,11 @@ use console::STDIN;
 use scan::find;
 use unwrapping::unwrap_file;
 
-fn main() {
+fn main(rt: HostRuntime) {
     let mut input = io::buffer();
     let length = io::read_full(STDIN, &mut input);
     let end = find(&input, 0, length, b'\n');
     // A file of 65,536 octets or more fills the array, which is one octet too many for an envelope.
     let mut buf = [0u8; 65536];
-    unwrap_file(&input[..end], &mut buf);
+    unwrap_file(&rt, &input[..end], &mut buf);
 }

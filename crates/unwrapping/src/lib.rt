@@ -6,6 +6,7 @@ ghost use Rattle.console.specs.Console.{Holds};
 use console::{Loaded, STDOUT, load, print};
 use envelope_lines::{begun, envelope_text, token};
 use fields::part;
+use std::rt::Files;
 
 // Writes what an envelope says. There is room for the whole text: `text-fits` (proofs/Room.antt).
 fn show(s: &[u8]) {
@@ -19,10 +20,10 @@ fn show(s: &[u8]) {
 }
 
 // Writes what the envelope in the file with a name says to standard output, by way of a buffer that the caller lends.
-pub fn unwrap_file(name: &[u8], buf: &mut [u8]) -> Loaded
+pub fn unwrap_file<R: Files>(rt: &R, name: &[u8], buf: &mut [u8]) -> Loaded
     ensures { Holds result buf.new }
 {
-    let loaded = load(name, buf);
+    let loaded = load(rt, name, buf);
     match loaded {
         Loaded::Octets(n) => {
             show(part(buf, 0, n));

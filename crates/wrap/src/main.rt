@@ -5,10 +5,10 @@ use console::STDIN;
 use scan::find;
 use wrapping::wrap::wrap_file;
 
-fn main() {
+fn main(rt: HostRuntime) {
     let mut input = io::buffer();
     let length = io::read_full(STDIN, &mut input);
     let end = find(&input, 0, length, b'\n');
     let mut buf = [0u8; 262144];
-    wrap_file(&input[..end], &mut buf);
+    wrap_file(&rt, &input[..end], &mut buf);
 }

@@ -8,6 +8,7 @@ use envelope_script::{Line, read_line};
 use envelope_write::{Stored, write_init, write_resp};
 use fields::part;
 use scan::find;
+use std::rt::Files;
 
 // A line of the text: an empty one and a comment are passed over.
 fn with_line(
@@ -136,10 +137,10 @@ fn wrap_front(buf: &[u8], n: usize) {
 }
 
 // Wraps the text in the file with a name, by way of a buffer that the caller lends, and writes the answer to standard output.
-pub fn wrap_file(name: &[u8], buf: &mut [u8]) -> Loaded
+pub fn wrap_file<R: Files>(rt: &R, name: &[u8], buf: &mut [u8]) -> Loaded
     ensures { Holds result buf.new }
 {
-    let loaded = load(name, buf);
+    let loaded = load(rt, name, buf);
     match loaded {
         Loaded::Octets(n) => {
             wrap_front(buf, n);
