@@ -1,0 +1,5 @@
+use borrow.Author.Rules.{rules}
+use Rattle.calls.proofs.next.after_message.Goals as goal
+
+pub returns : goal.returns
+returns c = rw c.own_place-position.ensures

@@ -1,0 +1,9 @@
+use Rattle.viewing.proofs.Faults.{spans}
+use borrow.Author.Rules.{rules}
+use Rattle.viewing.proofs.envelope_place.Goals as goal
+
+pub returns-in-At : goal.returns-in-At
+returns-in-At c = search spans
+
+pub returns-in-Refused : goal.returns-in-Refused
+returns-in-Refused c = search spans

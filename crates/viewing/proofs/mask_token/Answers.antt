@@ -1,0 +1,6 @@
+use Rattle.viewing.proofs.Coverages.{masked-is}
+use borrow.Author.Rules.{rules}
+use Rattle.viewing.proofs.mask_token.Goals as goal
+
+pub returns : goal.returns
+returns c = search masked-is
