@@ -1,0 +1,6 @@
+use borrow.Author.Rules.{rules}
+use Rattle.admitting.proofs.Admits.{carryings}
+use Rattle.admitting.proofs.admit.carry.Goals as goal
+
+pub returns : goal.returns
+returns c = search carryings

@@ -1,0 +1,6 @@
+use Rattle.admitting.proofs.Allowed.{at_part}
+use borrow.Author.Rules.{rules}
+use Rattle.admitting.proofs.fits.same_at.Goals as goal
+
+pub returns : goal.returns
+returns c = search at_part

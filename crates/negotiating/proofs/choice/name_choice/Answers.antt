@@ -1,0 +1,12 @@
+use Rattle.negotiating.proofs.Choices.{choices}
+use borrow.Author.Rules.{rules}
+use Rattle.negotiating.proofs.choice.name_choice.Goals as goal
+
+pub returns-then-a-ne0 : goal.returns-then-a-ne0
+returns-then-a-ne0 c = search choices
+
+pub id_of-id-requires : goal.id_of-id-requires
+id_of-id-requires c = search (rules, choices)
+
+pub returns : goal.returns
+returns c = search choices

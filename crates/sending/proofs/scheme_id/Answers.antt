@@ -1,0 +1,6 @@
+use Rattle.sending.proofs.Schemes.{scheme-named}
+use borrow.Author.Rules.{rules}
+use Rattle.sending.proofs.scheme_id.Goals as goal
+
+pub returns : goal.returns
+returns c = search scheme-named

@@ -1,0 +1,6 @@
+use Rattle.sending_nego.proofs.Extensions.{types-tested}
+use borrow.Author.Rules.{rules}
+use Rattle.sending_nego.proofs.nego.types_allowed.Goals as goal
+
+pub returns : goal.returns
+returns c = search types-tested
