@@ -1,0 +1,6 @@
+use Rattle.receiving.proofs.Calls.{finishes}
+use borrow.Author.Rules.{rules}
+use Rattle.receiving.proofs.accept.Goals as goal
+
+pub returns : goal.returns
+returns c = search finishes

@@ -1,0 +1,9 @@
+use Rattle.receiving.proofs.Judging.{tokens}
+use borrow.Author.Rules.{rules}
+use Rattle.receiving.proofs.judge.conversation_of.Goals as goal
+
+pub returns-then-token-eq-FIRST : goal.returns-then-token-eq-FIRST
+returns-then-token-eq-FIRST c = search tokens
+
+pub returns : goal.returns
+returns c = search tokens

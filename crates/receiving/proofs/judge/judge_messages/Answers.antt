@@ -1,0 +1,51 @@
+use borrow.Author.Rules.{rules}
+use Prim.Native.Nat.{◌+◌, ◌<◌, ◌≤◌}
+use mathlib.Core.Path.{◌≡◌}
+use native.Mathlib.Omega.{arith}
+use lib.ListN.{length}
+use Rattle.token.specs.Token.{chain_of}
+use Rattle.conversation.specs.Reading.{start_of, judge}
+use Rattle.receiving.proofs.Judging.{whole_length, place-fits, judgings}
+use Rattle.receiving.proofs.judge.judge_messages.Goals as goal
+
+pub loop-rest-init : goal.loop-rest-init
+loop-rest-init c = (search rules, search rules, search rules, search judgings, search judgings)
+
+pub returns-in_default : goal.returns-in_default
+returns-in_default c = let some : 0 < length c.loop-rest.rest.now = omega arith in search judgings
+
+pub slice_bounds-admit_message-end : goal.slice_bounds-admit_message-end
+slice_bounds-admit_message-end c = whole_length _ _ _ _ c.read_next-reading.ensures _ c.reading-1.given.1
+
+pub admit_message-admission-requires : goal.admit_message-admission-requires
+admit_message-admission-requires c = (search rules, search rules, search judgings)
+
+pub returns-in_default-admission : goal.returns-in_default-admission
+returns-in_default-admission c = search judgings
+
+pub slice_bounds-rest-count : goal.slice_bounds-rest-count
+slice_bounds-rest-count c = search judgings
+
+pub slice_bounds-rest-start : goal.slice_bounds-rest-start
+slice_bounds-rest-start c = search judgings
+
+pub in_token-place-requires : goal.in_token-place-requires
+in_token-place-requires c =
+    place-fits _ _ _ _ c.read_next.ensures _ c.reading.given.1 _ _ c.loop.invariant.1 c.requires.1
+
+pub overflow_add-sequence : goal.overflow_add-sequence
+overflow_add-sequence c =
+    omega (arith, c.loop.invariant, c.requires)
+
+pub overflow_add-count : goal.overflow_add-count
+overflow_add-count c =
+    omega (arith, c.loop.invariant, c.requires)
+
+pub loop-rest-smaller : goal.loop-rest-smaller
+loop-rest-smaller c = search judgings
+
+pub loop-rest-preserved : goal.loop-rest-preserved
+loop-rest-preserved c = (search judgings, search judgings, search rules, search judgings, search judgings)
+
+pub returns : goal.returns
+returns c = search judgings
