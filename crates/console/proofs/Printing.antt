@@ -1,13 +1,12 @@
 -- The loop of windows over a listing: it gets on while there are lines, and stops behind the last. Counts of octets that are read.
 -- Assumes nothing.
 use Prim.Native.Nat.{ℕ, ◌+◌, ◌-◌, ◌<◌, ◌≤◌}
-use mathlib.Core.Path.{◌≡◌, sym, ap, subst}
+use mathlib.Core.Path.{◌≡◌, ap, subst}
 use mathlib.Core.Bool.{true, false}
 use mathlib.Core.Logic.{◌⊎◌, inl, inr}
-use mathlib.Core.List.{List, [], ◌++◌}
+use mathlib.Core.List.{List, []}
 use native.Mathlib.Omega.{arith}
-use lib.ListN.{length, take, get_or, length-append}
-use lib.Seq.{length-take-le}
+use lib.ListN.{length, get_or}
 use lib.Dec.{leb}
 use borrow.Author.Tests.{leb-true, leb-false}
 use Rattle.octets.proofs.Bools.{which}
@@ -47,14 +46,6 @@ module _ (ls : List (List ℕ)) (few : length ls < END) (short : (k : ℕ) → l
 -- a listing is no longer than that
 pub listed-few : (s : List ℕ) → length s < END - 1 → length (lines_of s) < END
 listed-few s h = omega (arith, few-lines s)
-
--- a count of octets at the front of a list
-pub counted : (n : ℕ) (d : List ℕ) → n ≤ length d → IsPrefixLen n d
-counted n d h = (h, sym (length-take-le n d h))
-
--- the same, where what stands behind was read into
-pub counted-front : (n : ℕ) (d e : List ℕ) → n ≤ length d → IsPrefixLen n (take n d ++ e)
-counted-front n d e h = counted n (take n d ++ e) (omega (arith, length-append (take n d) e, length-take-le n d h))
 
 -- the octets of a file that was loaded
 pub loaded : (r : Loaded) (d : List ℕ) (k : ℕ) → Holds r d → r ≡ answer.Octets k → IsPrefixLen k d
