@@ -1,0 +1,6 @@
+use Rattle.commands.proofs.Dispatch.{randoms}
+use borrow.Author.Rules.{rules}
+use Rattle.commands.proofs.values.Goals as goal
+
+pub returns : goal.returns
+returns c = search randoms
