@@ -1,0 +1,18 @@
+use borrow.Author.Rules.{rules}
+use Rattle.replaying.proofs.Nexts.{talks}
+use Rattle.replaying.proofs.play.first_conversation.Goals as goal
+
+pub returns-then-turn-eq0 : goal.returns-then-turn-eq0
+returns-then-turn-eq0 c = search (rules, talks)
+
+pub id_at-requires : goal.id_at-requires
+id_at-requires c = search (rules, talks)
+
+pub returns-then-turn : goal.returns-then-turn
+returns-then-turn c = search (rules, talks)
+
+pub id_at-requires-2 : goal.id_at-requires-2
+id_at-requires-2 c = search (rules, talks)
+
+pub returns : goal.returns
+returns c = search (rules, talks)
