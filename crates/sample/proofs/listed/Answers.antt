@@ -1,0 +1,5 @@
+use borrow.Author.Rules.{rules}
+use Rattle.sample.proofs.listed.Goals as goal
+
+pub returns : goal.returns
+returns c = cc
