@@ -1,0 +1,7 @@
+use native.Mathlib.Omega.{arith}
+use lib.ListN.{length-take}
+use borrow.Author.Rules.{rules}
+use Rattle.replay.proofs.main.Goals as goal
+
+pub slice_bounds-replay_file-end : goal.slice_bounds-replay_file-end
+slice_bounds-replay_file-end c = simp length-take (omega arith)
