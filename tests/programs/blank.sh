@@ -3,8 +3,8 @@
 set -u
 cd "$(dirname "$0")/../.." || exit 1
 root=$PWD
-blank=$root/target/bin/blank
-list=$root/target/bin/list
+blank=$root/crates/blank/out/blank
+list=$root/crates/list/out/list
 for program in "$blank" "$list"; do
     [ -x "$program" ] || { echo "tests/programs/blank.sh: $program is not built" >&2; exit 1; }
 done

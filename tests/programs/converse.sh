@@ -3,8 +3,8 @@
 set -u
 cd "$(dirname "$0")/../.." || exit 1
 root=$PWD
-converse=$root/target/bin/converse
-[ -x "$converse" ] || { echo "tests/programs/converse.sh: target/bin/converse is not built" >&2; exit 1; }
+converse=$root/crates/converse/out/converse
+[ -x "$converse" ] || { echo "tests/programs/converse.sh: crates/converse/out/converse is not built" >&2; exit 1; }
 work=$(mktemp -d) || exit 1
 trap 'rm -rf "$work"' EXIT
 data=$root/crates/scripts/data

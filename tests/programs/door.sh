@@ -3,7 +3,7 @@
 set -u
 cd "$(dirname "$0")/../.." || exit 1
 root=$PWD
-[ -x target/bin/list ] || { echo "tests/programs/door.sh: target/bin/list is not built" >&2; exit 1; }
+[ -x crates/list/out/list ] || { echo "tests/programs/door.sh: crates/list/out/list is not built" >&2; exit 1; }
 work=$(mktemp -d) || exit 1
 trap 'rm -rf "$work"' EXIT
 example=$(cat crates/list/stdout)
@@ -111,33 +111,37 @@ mkdir "$work/copy" "$work/kit"
 cp -r negoex tools "$work/copy"
 mkdir -p "$work/copy/crates/list/data"
 cp crates/list/data/example "$work/copy/crates/list/data"
-printf '# NAME: DEP\none:\ntwo: one\nother: one\nlist: one two bytes io\n' >"$work/copy/crates.txt"
+printf '# NAME: DEP\none:\ntwo: one\nother staticlib: one\nlist: one two\n' >"$work/copy/crates.txt"
 cat >"$work/kit/rt" <<'END'
 #!/bin/sh
-echo 'rt: one proved (unchanged since it was last proved)'
-echo 'rt: two proved (7 s)'
-[ ! -e fails ] || { echo 'rt: list NOT PROVED'; exit 1; }
-echo 'rt: list proved (12 s)'
-mkdir -p target/bin
-printf '#!/bin/sh\necho built\n' >target/bin/list
-chmod +x target/bin/list
+proved() { printf 'fn %s::main: proved\ncrate %s: modules loaded=5 checked=%s\nlogic=proved functions=1\n' "$1" "$1" "$2"; }
+[ "$*" = run ] || exit 2
+proved one 0
+proved two 7
+[ ! -e ../../fails ] || { printf 'fn list::main: not proved\nlogic=not-proved\n'; exit 1; }
+proved list 12
+mkdir -p out
+printf '#!/bin/sh\necho built\n' >out/list
+chmod +x out/list
 END
 chmod +x "$work/kit/rt"
-door() { PATH=$work/kit:$PATH "$work/copy/negoex" "$@" </dev/null 2>&1; }
+plainly() { PATH=$work/kit:$PATH "$work/copy/negoex" "$@" </dev/null 2>&1; }
+# what it takes is not compared
+door() { plainly "$@" | sed 's/ proved ([0-9]* s)$/ proved (N s)/'; }
 token=$work/copy/crates/list/data/example
 touch "$work/copy/fails"
 expect 'a build that fails' "$(door list "$token")" "negoex: building 'list': crates that are not proved yet are proved now, all of them in some 2 minutes on two cores
-negoex: 2 of 3: two proved (7 s)
+negoex: 2 of 3: two proved (N s)
 negoex: the build of 'list' failed; $work/copy/target/build.log says why"
-expect 'a build that fails: status' "$(door list "$token" >/dev/null; echo $?)" 1
+expect 'a build that fails: status' "$(plainly list "$token" >/dev/null; echo $?)" 1
 rm "$work/copy/fails"
 expect 'a build' "$(door list "$token")" "negoex: building 'list': crates that are not proved yet are proved now, all of them in some 2 minutes on two cores
-negoex: 2 of 3: two proved (7 s)
-negoex: 3 of 3: list proved (12 s)
+negoex: 2 of 3: two proved (N s)
+negoex: 3 of 3: list proved (N s)
 built"
 expect 'no second build' "$(door list "$token")" built
 touch "$work/copy/crates/list/data/example"
-expect 'a build behind a change' "$(door list "$token" | tail -n 2)" "negoex: 3 of 3: list proved (12 s)
+expect 'a build behind a change' "$(door list "$token" | tail -n 2)" "negoex: 3 of 3: list proved (N s)
 built"
 rm -r "$work/copy/target"
 touch "$work/copy/target"

@@ -5,7 +5,7 @@ set -u
 cd "$(dirname "$0")/../.." || exit 1
 root=$PWD
 for program in list unwrap wrap; do
-    [ -x "target/bin/$program" ] || { echo "tests/programs/envelope.sh: target/bin/$program is not built" >&2; exit 1; }
+    [ -x "crates/$program/out/$program" ] || { echo "tests/programs/envelope.sh: crates/$program/out/$program is not built" >&2; exit 1; }
 done
 work=$(mktemp -d) || exit 1
 trap 'rm -rf "$work"' EXIT
@@ -23,7 +23,7 @@ expect() {
     fi
 }
 
-run() { printf '%s\n' "$2" | "$root/target/bin/$1"; }
+run() { printf '%s\n' "$2" | "$root/crates/$1/out/$1"; }
 hex() { od -An -v -tx1 "$1" | tr -d ' \n' | tr a-f A-F; }
 
 # The text that says what `unwrap` showed of the file $1, with the token's octets from the file.
@@ -68,7 +68,7 @@ expect 'an envelope of 65,583 octets' "$(run unwrap "$data/mit-exact-65535-00-i.
 mkdir "$work/folder"
 for program in unwrap wrap; do
     expect "$program: a folder" "$(run "$program" "$work/folder")" 'no file'
-    expect "$program: no name" "$("$root/target/bin/$program" </dev/null)" 'no file'
+    expect "$program: no name" "$("$root/crates/$program/out/$program" </dev/null)" 'no file'
     expect "$program: the front door" "$("$root/negoex" "$program" </dev/null 2>/dev/null)" "$(cat "crates/$program/stdout")"
     "$root/negoex" "$program" "$work/missing" 2>/dev/null && expect "$program: a missing file" 'status 0' 'another status'
 done

@@ -2,7 +2,7 @@
 # What the front door says behind a refusal. Prints one line for each failure, and last how many cases there were.
 set -u
 cd "$(dirname "$0")/../.." || exit 1
-[ -x target/bin/list ] && [ -x target/bin/converse ] || { echo "tests/programs/explain.sh: target/bin/list or converse is not built" >&2; exit 1; }
+[ -x crates/list/out/list ] && [ -x crates/converse/out/converse ] || { echo "tests/programs/explain.sh: crates/list/out/list or converse is not built" >&2; exit 1; }
 work=$(mktemp -d) || exit 1
 trap 'rm -rf "$work"' EXIT
 cases=0
@@ -19,7 +19,7 @@ expect() {
 
 # Every refused token among the examples: behind the number's meaning stands a place to look at, or a length, and no fault that is another number's.
 for file in crates/examples/data/*; do
-    answer=$(printf '%s\n' "$PWD/$file" | target/bin/list | head -n 1)
+    answer=$(printf '%s\n' "$PWD/$file" | crates/list/out/list | head -n 1)
     case $answer in refused*) ;; *) continue ;; esac
     number=${answer#refused }
     number=${number% at=*}

@@ -3,7 +3,7 @@
 set -u
 cd "$(dirname "$0")/../.." || exit 1
 root=$PWD
-[ -x target/bin/list ] || { echo "tests/programs/forms.sh: target/bin/list is not built" >&2; exit 1; }
+[ -x crates/list/out/list ] || { echo "tests/programs/forms.sh: crates/list/out/list is not built" >&2; exit 1; }
 work=$(mktemp -d) || exit 1
 trap 'rm -rf "$work"' EXIT
 cases=0
@@ -22,7 +22,7 @@ expect() {
 token=
 try() {
     token=$root/crates/examples/data/$1
-    listing=$(printf '%s\n' "$token" | target/bin/list)
+    listing=$(printf '%s\n' "$token" | crates/list/out/list)
     size=$(($(wc -c <"$token")))
 }
 

@@ -4,7 +4,7 @@
 set -u
 cd "$(dirname "$0")/../.." || exit 1
 root=$PWD
-[ -x target/bin/examples ] || { echo 'tests/programs/host.sh: target/bin/examples is not built' >&2; exit 1; }
+[ -x crates/examples/out/examples ] || { echo 'tests/programs/host.sh: crates/examples/out/examples is not built' >&2; exit 1; }
 work=$(mktemp -d) || exit 1
 trap 'rm -rf "$work"' EXIT
 cases=0
@@ -37,7 +37,7 @@ for name in cc gcc clang; do
     fi
 done
 kit=$(readlink -f "$(command -v rt)")
-kit=${RATTLE_HOME:-${kit%/bin/rt}}/on/$(uname -m)
+kit=${kit%/bin/rt}
 warnings='-std=c99 -pedantic -Wall -Wextra -Werror'
 
 # compile SOURCE PROGRAM [WORD..]: with the machine's compiler
@@ -65,7 +65,7 @@ fi
 # Damaged copies, and their listings by the listing program.
 mkdir "$work/damaged"
 sed '$d' crates/examples/stdin | while IFS= read -r name; do "$work/host" damage crates/examples/data "$name" "$work/damaged"; done >"$work/names"
-(cd "$work/damaged" && split -l 400 "$work/names" "$work/names." && for part in "$work"/names.*; do "$root/target/bin/examples" <"$part"; done) >"$work/listings"
+(cd "$work/damaged" && split -l 400 "$work/names" "$work/names." && for part in "$work"/names.*; do "$root/crates/examples/out/examples" <"$part"; done) >"$work/listings"
 expect 'damaged copies' "$(grep -c '^file ' "$work/listings")" "$(wc -l <"$work/names" | tr -d ' ')"
 
 # all PROGRAM [WORD]: the answers over the examples and the damaged copies

@@ -4,7 +4,7 @@
 # its message lines moved. Prints one line for each failure, and last how many cases there were.
 set -u
 cd "$(dirname "$0")/../.." || exit 1
-[ -x target/bin/list ] || { echo "tests/programs/joined.sh: target/bin/list is not built" >&2; exit 1; }
+[ -x crates/list/out/list ] || { echo "tests/programs/joined.sh: crates/list/out/list is not built" >&2; exit 1; }
 work=$(mktemp -d) || exit 1
 trap 'rm -rf "$work"' EXIT
 cases=0
@@ -19,7 +19,7 @@ expect() {
     fi
 }
 
-list() { printf '%s\n' "$1" | target/bin/list; }
+list() { printf '%s\n' "$1" | crates/list/out/list; }
 size() { echo $(($(wc -c <"$1"))); }
 # the listing of the file $1 without its last line, with `at` of its message lines moved by $2
 lines() { list "$1" | sed '$d' | awk -v by="$2" '$1 == "message" { sub(/at=[0-9]+/, "at=" substr($2, 4) + by) } { print }'; }

@@ -3,8 +3,8 @@
 set -u
 cd "$(dirname "$0")/../.." || exit 1
 root=$PWD
-list=$root/target/bin/list
-[ -x "$list" ] || { echo "tests/programs/list.sh: target/bin/list is not built" >&2; exit 1; }
+list=$root/crates/list/out/list
+[ -x "$list" ] || { echo "tests/programs/list.sh: crates/list/out/list is not built" >&2; exit 1; }
 work=$(mktemp -d) || exit 1
 trap 'rm -rf "$work"' EXIT
 example=$root/crates/list/data/example

@@ -4,8 +4,8 @@
 # plain readers are not a part of the product.
 set -u
 cd "$(dirname "$0")/../.." || exit 1
-list=$PWD/target/bin/list
-[ -x "$list" ] || { echo "tests/programs/plain.sh: target/bin/list is not built" >&2; exit 1; }
+list=$PWD/crates/list/out/list
+[ -x "$list" ] || { echo "tests/programs/plain.sh: crates/list/out/list is not built" >&2; exit 1; }
 command -v rustc >/dev/null 2>&1 || { echo 'plain: rustc is missing, so the plain reader is not compared'; exit 0; }
 work=$(mktemp -d) || exit 1
 trap 'rm -rf "$work"' EXIT

@@ -4,8 +4,8 @@
 set -u
 cd "$(dirname "$0")/../.." || exit 1
 root=$PWD
-recover=$root/target/bin/recover
-list=$root/target/bin/list
+recover=$root/crates/recover/out/recover
+list=$root/crates/list/out/list
 for program in "$recover" "$list"; do
     [ -x "$program" ] || { echo "tests/programs/recover.sh: $program is not built" >&2; exit 1; }
 done

@@ -3,8 +3,8 @@
 set -u
 cd "$(dirname "$0")/../.." || exit 1
 root=$PWD
-replay=$root/target/bin/replay
-list=$root/target/bin/list
+replay=$root/crates/replay/out/replay
+list=$root/crates/list/out/list
 for program in "$replay" "$list"; do
     [ -x "$program" ] || { echo "tests/programs/replay.sh: $program is not built" >&2; exit 1; }
 done
@@ -127,7 +127,7 @@ with whole-i whole-a
 of case >"$work/whole"
 for side in i a; do
     case $side in i) with cut whole-a; end=initiator ;; *) with whole-i cut; end=acceptor ;; esac
-    ends=$(printf '%s\n' "$data/$conversation.$side" | "$root/target/bin/recover" | sed -n 's/^message at=\([0-9]*\) .*/\1/p')
+    ends=$(printf '%s\n' "$data/$conversation.$side" | "$root/crates/recover/out/recover" | sed -n 's/^message at=\([0-9]*\) .*/\1/p')
     size=$(wc -c <"$work/whole-$side")
     at=0
     while [ "$at" -lt "$size" ]; do

@@ -3,8 +3,8 @@
 set -u
 cd "$(dirname "$0")/../.." || exit 1
 root=$PWD
-tally=$root/target/bin/tally
-[ -x "$tally" ] || { echo "tests/programs/tally.sh: target/bin/tally is not built" >&2; exit 1; }
+tally=$root/crates/tally/out/tally
+[ -x "$tally" ] || { echo "tests/programs/tally.sh: crates/tally/out/tally is not built" >&2; exit 1; }
 work=$(mktemp -d) || exit 1
 trap 'rm -rf "$work"' EXIT
 data=$root/crates/tally/data
