@@ -1,8 +1,8 @@
 #!/bin/sh
-# The must-fail edits. The prover judges each function by itself, from what the functions that it calls promise; so one check of a crate tries wrong answers of several functions at
-# once, one of each. Each stands behind a line `# NAME, in FUNCTION: SENTENCE`; one that changes a definition, which other functions rest on too, has a file of its own, `# NAME: SENTENCE`.
-# Called with `refused`, behind `rt ci`: a fact of each such function itself fails, as the log of its check says. That it calls another that is not proved does not count, nor that its proof
-# names what is no longer there.
+# The must-fail edits: a file each, crates/CRATE/must-fail/NAME.edit, whose first line is `# NAME, in FUNCTION: SENTENCE` where it changes a function, and `# NAME: SENTENCE` where it changes
+# a definition, which other functions rest on too.
+# Called as `edits.sh refused LOG`, behind `rt ci`, whose lines are in the file LOG: each is refused, and what fails first is a fact of that function itself. That its proof names what is no
+# longer there does not count.
 set -eu
 cd "$(dirname "$0")/.."
 found=$(
@@ -11,42 +11,58 @@ found=$(
         crate=${crate%%/*}
         awk -v edit="$edit" -v crate="$crate" '
             function complain(what) { print "edits: " edit ": " what }
-            function ends() { if (name && !pairs) complain(name " changes nothing") }
             /^# [a-z0-9_]+(, in [A-Za-z0-9_:]+)?: ./ {
-                ends()
+                if (names++) complain("two wrong answers")
                 name = $2
                 sub(/[,:]$/, "", name)
-                place = ""
                 if ($2 ~ /,$/) { place = $4; sub(/:$/, "", place) }
-                if (place in wrong) complain("two wrong answers of " place)
-                wrong[place] = name
-                names++
-                pairs = 0
                 print "name " name " " crate " " edit " " place
+                if (edit != "crates/" crate "/must-fail/" name ".edit") complain("its name is " name)
                 next
             }
             /^#/ { complain("no name in: " $0) }
             /^file: / { in_code = $2 ~ /^src\// }
             /^old: / { if (!name) complain("nothing says what is wrong"); if (in_code != (place != "")) complain(name ": a function is named where src/ is changed, and only there") }
             /^new:/ { pairs++ }
-            END { ends(); if ("" in wrong && names > 1) complain("a changed definition beside other wrong answers") }' "$edit"
+            END { if (!pairs) complain("changes nothing") }' "$edit"
     done
 )
 bad=$(printf '%s\n' "$found" | grep '^edits: ' || true)
-twice=$(printf '%s\n' "$found" | sed -n 's/^name \([^ ]* [^ ]*\) .*/\1/p' | LC_ALL=C sort | uniq -d | sed 's/\(.*\) \(.*\)/edits: \2 has two wrong answers called \1/')
-[ -z "$bad$twice" ] || { printf '%s\n' "$bad" "$twice" >&2; exit 1; }
-said="$(printf '%s\n' "$found" | wc -l) wrong answers in $(ls crates/*/must-fail/*.edit | wc -l) checks"
+[ -z "$bad" ] || { printf '%s\n' "$bad" >&2; exit 1; }
+said="$(printf '%s\n' "$found" | wc -l) wrong answers"
 [ "${1-}" = refused ] || { echo "edits: $said"; exit 0; }
+log=$2
+
+# Whether the place $3, a file of the crate $1 with a line and a column, lies in the proof or in the code of the function $2.
+lies_in() {
+    file=${3%%:*}
+    line=${3#*:}
+    line=${line%%:*}
+    case $file in
+        proofs/*) [ "${file%/*}" = "proofs/$(printf '%s\n' "$2" | sed 's,::,/,g')" ] ;;
+        src/*)
+            awk -v name="${2##*::}" -v line="$line" '
+                !open && /^ *(pub(\([a-z]*\))? )?(extern "C" )?fn / { from = NR; open = 1; this = $0; sub(/^.*fn /, "", this); sub(/[(<].*/, "", this); ends = $0; sub(/[^ ].*/, "}", ends) }
+                open && $0 == ends { if (from <= line && line <= NR && this == name) found = 1; open = 0 }
+                END { exit !found }' "crates/$1/$file"
+            ;;
+        *) false ;;
+    esac
+}
 
 missing=$(
     printf '%s\n' "$found" | while read -r _ name crate edit place; do
+        refused=$(sed -n "s,^rt: must-fail $crate/$name\.edit: refused\, as it must be,,p" "$log" | head -n 1)
+        # what is said in brackets is that no more than a name is missing, or that a limit of the prover was met
+        case $refused in
+            ' (only because '*) echo "edits: $edit: it is refused only because a name is missing"; continue ;;
+            ' (only by a limit '*) refused=${refused#*'): '} ;;
+            ': '*) refused=${refused#: } ;;
+            *) echo "edits: $edit: $log does not say why it is refused"; continue ;;
+        esac
         [ -n "$place" ] || continue
-        label=${edit##*/}
-        log=target/must-fail/$crate/${label%.edit}/.log
-        FUNCTION=$crate::$place PROOF=/proofs/$(printf '%s\n' "$place" | sed 's,::,/,g')/Proof.antt: awk '
-            index($0, ENVIRON["PROOF"]) && / error/ && !/was not admitted|can be named from here|not in scope/ { own = 1 }
-            index($0, "fn " ENVIRON["FUNCTION"] ": no proof") == 1 { own = 1 }
-            END { exit !own }' "$log" || echo "edits: $edit: $name: no fact of $crate::$place fails; $log says what does"
+        at=$(printf '%s\n' "$refused" | sed 's,^note: ,,; s,^\./,,; s,^\([^ :]*:[0-9]*:[0-9]*\):.*,\1,')
+        lies_in "$crate" "$place" "$at" || echo "edits: $edit: what fails first is no fact of $crate::$place: $refused"
     done
 )
 [ -z "$missing" ] || { printf '%s\n' "$missing" >&2; exit 1; }
