@@ -1,8 +1,8 @@
 -- What the functions of src/ answer and ask, beside the definitions of a conversation.
 --
 -- Glossary
---   listed_in t       the octets of the schemes that the NEGO at the front of the token t lists
---   admitted         what an answer of src/ says of a message
+--   listed_in t  the octets of the schemes that the NEGO at the front of the token t lists
+--   admitted     what an answer of src/ says of a message
 use Rattle.std.specs.Prelude.{ℕ, List}
 use Rattle.vector.specs.Vector.{shown}
 use Rattle.message.specs.Layout.{front, scheme_vector}

@@ -1,14 +1,14 @@
 -- A token with each octet that nothing points at zero. Document 02, C-24: "Editors blank unused stretches before publishing a capture; the decode has to stay."
 --
 -- Glossary
---   kept f s at      s, whose first octet has the place `at`, with each octet zero whose place fails the test f
---   blanked_by r s    the token s by its reading r: where it is accepted, its covered octets and zeros; where it is refused, as it is
---   blanked s        that of the token s by its structural reading
---   Blanking         what blanking a token comes to: document 01's values of its reading, and its octets afterwards
---   blanking_of s     that of the token s
---   KeepsCovered     of an accepted token each covered octet is kept; ZerosOthers: and every other is zero
---   BlankedDecode    a blanked token has the length of the one that it comes from, is accepted with the same views, and has the same listing
---   BlankedTwice     a token that is blanked twice is as after the first time
+--   kept f s at     s, whose first octet has the place `at`, with each octet zero whose place fails the test f
+--   blanked_by r s  the token s by its reading r: where it is accepted, its covered octets and zeros; where it is refused, as it is
+--   blanked s       that of the token s by its structural reading
+--   Blanking        what blanking a token comes to: document 01's values of its reading, and its octets afterwards
+--   blanking_of s   that of the token s
+--   KeepsCovered    of an accepted token each covered octet is kept; ZerosOthers: and every other is zero
+--   BlankedDecode   a blanked token has the length of the one that it comes from, is accepted with the same views, and has the same listing
+--   BlankedTwice    a token that is blanked twice is as after the first time
 use Rattle.std.specs.Prelude.{ℕ, ◌+◌, ◌≡◌, Bool, true, false, cond, List, [], ◌∷◌, length, get_or}
 use Rattle.token.specs.Token.{Placed, Reading, Accepted, Refused, token_of, Outcome, outcome_of}
 use Rattle.listing.specs.Listing.{lines_of}

@@ -1,14 +1,14 @@
 -- Which octets of a token are covered, and that the other ones decide nothing. Document 02, C-24: "Octets that nothing points at".
 --
 -- Glossary
---   lies_at m p        the place p of a token lies in the placed message m
---   covered_in ms p    p lies in one of the placed messages ms and is covered there
+--   lies_at m p       the place p of a token lies in the placed message m
+--   covered_in ms p   p lies in one of the placed messages ms and is covered there
 --   covered s p       so in a message of the token s; of a refused token nothing is covered
 --   Agree s t         t agrees with s on the covered octets of s
---   all_shown h m vs   what is handed back of each of the vectors vs in the message m, whose header has h
+--   all_shown h m vs  what is handed back of each of the vectors vs in the message m, whose header has h
 --   View              what the reading shows of a placed message: its place, its head, its content with all fields and offsets, and the octets of every
 --                     vector, nested ones too
---   view_of m          the view of a placed message; views_of ms: of each
+--   view_of m         the view of a placed message; views_of ms: of each
 --   NothingPointsAt   a token of equal length that agrees with an accepted one on the covered octets is accepted, with the same views
 --   SameListing       and with the same listing, line by line
 --   SameCovered       and with the same octets covered

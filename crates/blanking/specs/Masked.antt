@@ -1,9 +1,9 @@
 -- Which octets of a token are covered, as a mask beside it. Document 02, C-24: "Octets that nothing points at".
 --
 -- Glossary
---   masked_by r s d    the mask d by the reading r of the token s: where it is accepted and the mask is as long, zero at each place that nothing covers
---   masking_of s d     what masking comes to: document 01's values of the reading, and the mask afterwards
---   coverage_of s      of a token an octet for each of its own: 1 where it is covered, 0 where nothing covers it
+--   masked_by r s d  the mask d by the reading r of the token s: where it is accepted and the mask is as long, zero at each place that nothing covers
+--   masking_of s d   what masking comes to: document 01's values of the reading, and the mask afterwards
+--   coverage_of s    of a token an octet for each of its own: 1 where it is covered, 0 where nothing covers it
 use Rattle.std.specs.Prelude.{ℕ, cond, List, length, replicate, eqb}
 use Rattle.token.specs.Token.{Reading, Accepted, Refused, token_of, outcome_of}
 use Rattle.blanking.specs.Covered.{covered_in, covered}

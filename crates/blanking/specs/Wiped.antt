@@ -1,11 +1,11 @@
 -- How the code blanks a message in one pass: a map holds at each place the farthest end of the vectors that start there, as for C-23.
 --
 -- Glossary
---   headed k p             the place p lies in the header of a message of the type k and in no pad of it
---   wiped f map far s at   s, whose first octet has the place `at`, with each octet zero whose place fails the test f and does not lie before the farthest
---                          end met so far, which is `far` at the start
---   kept_message m          the message m with each octet zero that is not covered
---   Room n m               m has its header, and a map of n cells has one for each of its octets
+--   headed k p            the place p lies in the header of a message of the type k and in no pad of it
+--   wiped f map far s at  s, whose first octet has the place `at`, with each octet zero whose place fails the test f and does not lie before the farthest
+--                         end met so far, which is `far` at the start
+--   kept_message m        the message m with each octet zero that is not covered
+--   Room n m              m has its header, and a map of n cells has one for each of its octets
 use Rattle.std.specs.Prelude.{ℕ, ◌+◌, ◌<◌, ◌≤◌, ◌^◌, max, Bool, cond, not, ◌&&◌, ◌||◌, List, [], ◌∷◌, length, get_or, ltb}
 use Rattle.message.specs.Layout.{shape_of, header_of, pads_of}
 use Rattle.coverage.specs.Coverage.{header_in, lies_in_pad, is_covered}

@@ -2,10 +2,10 @@
 -- the conversation's definitions, with the transcript's length and the length to add as numbers.
 --
 -- Glossary
---   room_for              16: used plus the length to add is within the room of a transcript of a length
---   call_refusal r rows   the first refusal of a call that makes these tests after a record's limits, or 0
---   stage_refusal         18 for a call that writes a class, or 0
---   write_refusal         the first refusal of a call that writes a message of a class and size: 18, the tests of its own, 16; or 0
+--   room_for             16: used plus the length to add is within the room of a transcript of a length
+--   call_refusal r rows  the first refusal of a call that makes these tests after a record's limits, or 0
+--   stage_refusal        18 for a call that writes a class, or 0
+--   write_refusal        the first refusal of a call that writes a message of a class and size: 18, the tests of its own, 16; or 0
 --   Inside r             what the calls rely on of a record inside its limits
 --   Ready r d class c    a message of this class with the contents c may be written into d
 --   Appended             a message was put at the transcript's end, and the record counts it

@@ -1,12 +1,12 @@
 -- The calls of the library that a script's commands stand for. Quotations are README.md's, "What a conversation looks like".
 --
 -- Glossary
---   random_in o       RANDOM, which is the first 32 octets of o; zeros where there are fewer. The values of the extensions stand after it
---   nego_content c o  what a call that writes a NEGO is given besides marks; alertContent: one that writes an ALERT, whose values are all of o
---   kept d a         an answer that leaves the transcript d as it is
---   nego_of, writer_of the calls that write a NEGO, and all that write only
---   chooser_of        the calls that choose and write, and those
---   call_of c r d o   the call of the command c with the octets o, at an end with the record r and the transcript d
+--   random_in o         RANDOM, which is the first 32 octets of o; zeros where there are fewer. The values of the extensions stand after it
+--   nego_content c o    what a call that writes a NEGO is given besides marks; alert_content: one that writes an ALERT, whose values are all of o
+--   kept d a            an answer that leaves the transcript d as it is
+--   nego_of, writer_of  the calls that write a NEGO, and all that write only
+--   chooser_of          the calls that choose and write, and those
+--   call_of c r d o     the call of the command c with the octets o, at an end with the record r and the transcript d
 use Rattle.std.specs.Prelude.{ℕ, ◌%◌, cond, List, length, take, drop, replicate, eqb, leb}
 use Rattle.octets.specs.Octets.{signed32}
 use Rattle.conversation.specs.declared.Record.{Record}

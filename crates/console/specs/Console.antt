@@ -1,7 +1,7 @@
 -- What the programs share.
 --
 -- Glossary
---   Holds r d   the answer r counts octets at the front of d, or there is no file
+--   Holds r d  the answer r counts octets at the front of d, or there is no file
 use Rattle.std.specs.Prelude.{List, ℕ}
 use Rattle.io.specs.Counts.{IsPrefixLen}
 use Rattle.console.specs.declared.Loaded.{Loaded}

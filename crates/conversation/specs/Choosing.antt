@@ -5,10 +5,10 @@
 -- Glossary
 --   open_to r m     the own places of the reply's schemes that m does not mark, in the reply's order
 --   first_place ks  the first of places, NONE where there is none
---   chose r m      the record after the choice, in which the message is written
+--   chose r m       the record after the choice, in which the message is written
 --   may_choose r    18: the stage is the one to choose in, and the end is the initiator
 --   may_speak       18: the message may be written after the choice
---   choosing       the call; its table: the limits, then choice_rows, 18, 19, 25, 17, 18, then 16
+--   choosing        the call; its table: the limits, then choice_rows, 18, 19, 25, 17, 18, then 16
 use Rattle.std.specs.Prelude.{ℕ, Bool, not, ◌&&◌, List, [], ◌∷◌, ◌++◌, eqb}
 use Rattle.message.specs.Check.{Row}
 use Rattle.schemes.specs.Sets.{open_places, named, below}

@@ -1,43 +1,43 @@
 -- What is proved of the calls and of runs, a claim to a name. Demand 3 stands in Runs, what every run keeps in Logs, the worked examples in Worked.
 --
 -- Glossary
---   Unchanged          a refusal that leaves record and transcript as they were, but for the stage of a record that 12 closes
---   RefusedUnchanged   every refused call does, on every record
---   StageOnly          a record at another stage is the same in all else; ClosedInside: a closed one is inside its limits as it was before
---   OnlyTwelveCloses   a record that a call closes is closed by a reading, refused with 12
---   ClosedRefuses      at the stage CLOSED every call is refused with 18, and changes nothing
---   NineNeverRead      no reading into a record is refused with 9
---   is_test             a call that says that it is a test; NoTest cs: none of the calls cs does
---   TwelveNeverRun     no call of a run without a test call is refused with 12
---   CriticalCloses     a record that may read a written message with a critical extension refuses its token with 12 and closes
---   decides            an answer that is no refusal, or that closes the record
---   RefusedStays       a call that does not decide leaves the two ends as they were
---   accepted_of         the calls of a list that are accepted, in order; decidingOf: those that decide
---   DecidingEnds       any two ends after a list of calls are those of its deciding calls alone
---   AcceptedEnds       the two ends of a run without a test call are those of its accepted calls alone
---   OpeningFresh       the records that a run starts with are those that opening answers
---   left_with o ma mi   what rule 2 leaves of the lists of an opening, with the marks of either end; reply_with o m: the reply's list with the acceptor's
---   RuleTwoAnswer      what a choosing call of a run answers, by rule 2
---   ByRule2            every choosing call of every run does
---   NoneRefused        and it is refused with 17 wherever rule 2 leaves nothing
---   ReplyAnswer        what a call of a run that writes the acceptor's NEGO answers, by the reply's list
---   ReplyByMarks       every such call of every run does
---   at_end x y          the entry y of a run is one of the end x; acceptedAt: and is accepted, of a sort of calls
---   with_marks          the sort of calls with marks; isReading: readings
---   MarksOnce          in a run an end has at most one accepted call with marks
---   added_by sort       the messages that an accepted call of a sort adds to its end's; addedAt: those of the end x, of a call at the end y; addedIn: of a list
---                      of calls
+--   Unchanged            a refusal that leaves record and transcript as they were, but for the stage of a record that 12 closes
+--   RefusedUnchanged     every refused call does, on every record
+--   StageOnly            a record at another stage is the same in all else; ClosedInside: a closed one is inside its limits as it was before
+--   OnlyTwelveCloses     a record that a call closes is closed by a reading, refused with 12
+--   ClosedRefuses        at the stage CLOSED every call is refused with 18, and changes nothing
+--   NineNeverRead        no reading into a record is refused with 9
+--   is_test              a call that says that it is a test; NoTest cs: none of the calls cs does
+--   TwelveNeverRun       no call of a run without a test call is refused with 12
+--   CriticalCloses       a record that may read a written message with a critical extension refuses its token with 12 and closes
+--   decides              an answer that is no refusal, or that closes the record
+--   RefusedStays         a call that does not decide leaves the two ends as they were
+--   accepted_of          the calls of a list that are accepted, in order; deciding_of: those that decide
+--   DecidingEnds         any two ends after a list of calls are those of its deciding calls alone
+--   AcceptedEnds         the two ends of a run without a test call are those of its accepted calls alone
+--   OpeningFresh         the records that a run starts with are those that opening answers
+--   left_with o ma mi    what rule 2 leaves of the lists of an opening, with the marks of either end; reply_with o m: the reply's list with the acceptor's
+--   RuleTwoAnswer        what a choosing call of a run answers, by rule 2
+--   ByRule2              every choosing call of every run does
+--   NoneRefused          and it is refused with 17 wherever rule 2 leaves nothing
+--   ReplyAnswer          what a call of a run that writes the acceptor's NEGO answers, by the reply's list
+--   ReplyByMarks         every such call of every run does
+--   at_end x y           the entry y of a run is one of the end x; accepted_at: and is accepted, of a sort of calls
+--   with_marks           the sort of calls with marks; is_reading: readings
+--   MarksOnce            in a run an end has at most one accepted call with marks
+--   added_by sort        the messages that an accepted call of a sort adds to its end's; added_at: those of the end x, of a call at the end y; added_in: of a
+--                        list of calls
 --   written_in, read_in  the messages that the end x writes, and those that it reads, in a list of calls
---   is_verify           a message that is a VERIFY, by its type; verify_for id: one for the scheme id
---   VerifyOnce         of the messages that an end writes in a run at most one is a VERIFY for a scheme
---   record_at x w       the record of the end x; chosen_in r: the scheme that the record r has as chosen
---   FlagSays           once the choice is fixed, the record says whether the VERIFY for the chosen scheme is written
---   HeardOnce          of the messages that an end reads in a run at most one is a VERIFY for a scheme; HeardSays: as FlagSays, of what is read
---   Arrays r           the lengths of a record's arrays, as the struct gives them
---   sent_by r k         the message that a writing call sends: the record's number and conversation, and the call's arguments; sent: one of a class
---   ReadsAsSent        a message stands at the transcript's end and reads as it was sent, whatever follows
---   WrittenReads       demand 2's round trip: what an accepted writing call appended does, on every record
---   ChoiceSpoken       the message of an accepted choosing call is the next one, and names the choice that the call answers
+--   is_verify            a message that is a VERIFY, by its type; verify_for id: one for the scheme id
+--   VerifyOnce           of the messages that an end writes in a run at most one is a VERIFY for a scheme
+--   record_at x w        the record of the end x; chosen_in r: the scheme that the record r has as chosen
+--   FlagSays             once the choice is fixed, the record says whether the VERIFY for the chosen scheme is written
+--   HeardOnce            of the messages that an end reads in a run at most one is a VERIFY for a scheme; HeardSays: as FlagSays, of what is read
+--   Arrays r             the lengths of a record's arrays, as the struct gives them
+--   sent_by r k          the message that a writing call sends: the record's number and conversation, and the call's arguments; sent: one of a class
+--   ReadsAsSent          a message stands at the transcript's end and reads as it was sent, whatever follows
+--   WrittenReads         demand 2's round trip: what an accepted writing call appended does, on every record
+--   ChoiceSpoken         the message of an accepted choosing call is the next one, and names the choice that the call answers
 use Rattle.std.specs.Prelude.{ℕ, ◌*◌, ◌≤◌, ◌≡◌, Bool, true, false, cond, not, ◌&&◌, ◌||◌, ◌⊎◌, length, take, eqb}
 use mathlib.Core.List.{List, [], ◌∷◌, ◌++◌, Memᴰ}
 use Rattle.std.proofs.Math.Option.{Option, none, some}

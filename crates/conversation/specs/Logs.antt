@@ -2,15 +2,15 @@
 -- the next sequence number is never above 1,023."
 --
 -- Glossary
---   messages_in c        the messages of a chain
---   added               what an accepted call adds to the messages that its end has read and written; logged: all of them after any call
---   Logs                for each end the messages, as octets, that it has read and written since opening, in order
---   next_logs            the logs after one call; logsAfter: after a list of calls; logs_of: from the opening on
---   InOrder q log       the messages' headers number them on from q
---   Counted r d log     the record r is inside its limits and counts its log, which the transcript d begins with
---   InStep              a log is one that the other end's begins with, and the own turn after it
---   Holds w l           both, of both ends
---   EveryRun            that holds after every list of calls
+--   messages_in c    the messages of a chain
+--   added            what an accepted call adds to the messages that its end has read and written; logged: all of them after any call
+--   Logs             for each end the messages, as octets, that it has read and written since opening, in order
+--   next_logs        the logs after one call; logs_after: after a list of calls; logs_of: from the opening on
+--   InOrder q log    the messages' headers number them on from q
+--   Counted r d log  the record r is inside its limits and counts its log, which the transcript d begins with
+--   InStep           a log is one that the other end's begins with, and the own turn after it
+--   Holds w l        both, of both ends
+--   EveryRun         that holds after every list of calls
 use Rattle.std.specs.Prelude.{ℕ, ◌+◌, ◌≤◌, ◌≡◌, Bool, true, false, cond, List, [], ◌∷◌, ◌++◌, length, take}
 use Rattle.message.specs.Layout.{head_of}
 use Rattle.message.specs.Check.{first_failing}

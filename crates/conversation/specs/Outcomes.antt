@@ -2,10 +2,10 @@
 --
 -- Glossary
 --   Outcome          an answer, and the lent transcript afterwards; leaving a d: the answer a, which leaves the transcript d
---   zero_id           sixteen zeros: no choice
+--   zero_id          sixteen zeros: no choice
 --   answered n p r   the answer with the number n, the place p and the record r, and nothing else to say
 --   refused r d n p  "Each returns its number and the token place of the message at fault": n and p, with the record r and the transcript d
---   closed_by n r     the record after a reading that the number n refuses: closed by 12, else as it was
+--   closed_by n r    the record after a reading that the number n refuses: closed by 12, else as it was
 --   decide           the first row that fails refuses; where all hold, the action; row makes a row
 --   room d           "Its room is the smaller of the buffer's length and 65,535."
 --   fits             16: used plus the length to add is within the room

@@ -4,15 +4,15 @@
 -- Glossary
 --   conversation_of  the conversation that the token's messages must have
 --   start_of r       what is carried into the first message
---   Judged          a whole token with the number of its messages and what is carried out of it, or the first refusal with its place
---   judge           the chain of messages, judged message by message; thenJudge: the next one, where this one is let through
+--   Judged           a whole token with the number of its messages and what is carried out of it, or the first refusal with its place
+--   judge            the chain of messages, judged message by message; then_judge: the next one, where this one is let through
 --   chain_for        the chain of a token in a conversation; judged: the token judged
---   common_after     the common set after a token; keptAfter: the kept places
+--   common_after     the common set after a token; kept_after: the kept places
 --   counts_after     the own one VERIFY is spent after a token
---   taken           the record after an accepted token; takenAs: its answer
---   accepted        the outcome of a whole token that has room
---   finish          the first refusal, by which 12 closes the record; 16, after all messages; then that outcome
---   reading_token    the call: record, transcript and token in, outcome out; tokenRows: 18 and 1
+--   taken            the record after an accepted token; taken_as: its answer
+--   accepted         the outcome of a whole token that has room
+--   finish           the first refusal, by which 12 closes the record; 16, after all messages; then that outcome
+--   reading_token    the call: record, transcript and token in, outcome out; token_rows: 18 and 1
 use Rattle.std.specs.Prelude.{ℕ, ◌+◌, Bool, cond, ◌&&◌, List, [], ◌∷◌, ◌++◌, length, eqb, leb}
 use Rattle.octets.specs.Octets.{octets}
 use Rattle.message.specs.Check.{Row}

@@ -2,22 +2,22 @@
 -- each. It is a list of calls, each at one end: writing any message, reading, choosing (the initiator's)." By C-12 choosing writes too.
 --
 -- Glossary
---   Sized n          n octets, as an array hands them over
---   NegoGiven        the contents of a NEGO as arrays hand them over: 32 octets of random, and types of 32 bits; NegoCall: such contents
---   Call             the calls, with what each is given
---   End              an end of a run: its record, its transcript buffer, and its turn so far
---   act              a call at an end, beside the other end's turn so far: its outcome
---   moved            the end after a call; turnAfter: its turn so far, where the call is accepted
---   Opening, World   what a run starts with; the two ends; world: the two ends, fresh from opening
+--   Sized n           n octets, as an array hands them over
+--   NegoGiven         the contents of a NEGO as arrays hand them over: 32 octets of random, and types of 32 bits; NegoCall: such contents
+--   Call              the calls, with what each is given
+--   End               an end of a run: its record, its transcript buffer, and its turn so far
+--   act               a call at an end, beside the other end's turn so far: its outcome
+--   moved             the end after a call; turn_after: its turn so far, where the call is accepted
+--   Opening, World    what a run starts with; the two ends; world: the two ends, fresh from opening
 --   outcome_at, next  a call at one of two ends: its outcome, and the two ends after it; ends: those after a list of calls
---   Entry, run       a call with its end and its answer; those of a list of calls
+--   Entry, run        a call with its end and its answer; those of a list of calls
 --   is_accepted       an answer that is no refusal
 --   is_lawful         "none of 15, 16, 18, 19 applies", nor 25 or 26
---   Replied          the marks with which the acceptor's NEGO was written in a run; ChoseWith: those with which the initiator chose
---   MarksKept        the marks of the second run are those of the first, for the schemes that both ends listed there
---   Choice           what a lawful choosing call answers after a longer offer
---   NotLost          what holds of a call after a longer offer, the first run's choice being c
---   Demand3          the demand, over any two runs
+--   Replied           the marks with which the acceptor's NEGO was written in a run; ChoseWith: those with which the initiator chose
+--   MarksKept         the marks of the second run are those of the first, for the schemes that both ends listed there
+--   Choice            what a lawful choosing call answers after a longer offer
+--   NotLost           what holds of a call after a longer offer, the first run's choice being c
+--   Demand3           the demand, over any two runs
 use Rattle.std.specs.Prelude.{ℕ, ◌≡◌, Bool, true, false, cond, not, ◌||◌, length, eqb}
 use mathlib.Core.List.{List, [], ◌∷◌, ◌++◌, Memᴰ}
 use Rattle.std.proofs.Math.Option.{some}

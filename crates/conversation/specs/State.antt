@@ -2,17 +2,17 @@
 -- The record is the struct of src/.
 --
 -- Glossary
---   NONE         the place that stands for no place
---   OPENING      a stage: the first token is being written, or waited for
---   REPLY        the acceptor has read it
---   CHOOSING     the initiator has read the reply
---   LATER        the initiator has chosen, or the acceptor has read a later token
---   CLOSED       a reading was refused with 12: every call is refused with 18
+--   NONE          the place that stands for no place
+--   OPENING       a stage: the first token is being written, or waited for
+--   REPLY         the acceptor has read it
+--   CHOOSING      the initiator has read the reply
+--   LATER         the initiator has chosen, or the acceptor has read a later token
+--   CLOSED        a reading was refused with 12: every call is refused with 18
 --   with_stage    a record at another stage; closed r: the record r at the stage CLOSED
---   own_of r      the own list, as ids; schemeAt: the scheme at an own place
---   replied r    the reply's list: the common schemes less the marks, in the acceptor's order
+--   own_of r      the own list, as ids; scheme_at: the scheme at an own place
+--   replied r     the reply's list: the common schemes less the marks, in the acceptor's order
 --   limit_rows r  a record's limits, as one table; limit: a row of it, 18
---   fresh        the record that opening answers
+--   fresh         the record that opening answers
 use Rattle.std.specs.Prelude.{ℕ, ◌*◌, ◌/◌, Bool, false, ◌||◌, List, [], ◌∷◌, length, get_or, replicate, eqb, leb, ltb}
 use Rattle.message.specs.Show.{ids_at}
 use Rattle.message.specs.Check.{Row}

@@ -1,29 +1,30 @@
 -- Document 01's examples P1 to P13 as one list of cases; a conversation to its end; and demand 3 with longer lists.
 --
 -- Glossary
---   nego_token       a token of one INITIATOR_NEGO: its length, its scheme and extension vectors, its payload; with_scheme, withExtension: the examples'
---   Extension       an extension as it is shown: its type, and its value's octets; extensions_in m: those of the NEGO m
---   Reads           what the reading of an example says: a refusal, or one NEGO with what is shown of it; readsAs: that of a token
---   scheme n        a scheme; plain: the contents of a NEGO without extensions; negoWith: with some; pulse: an ALERT with a pulse
---   opened          what the examples' runs start with; negotiation: their calls, with the marks of either end
---   Says            what a call answers: its number, its choice and how many were left; says_of: of an entry of a run
---   done, refuses   the answer of a call that is accepted and says no more, and of one that is refused; names: of one that names a choice
---   Case, cases     an example: a token, or the calls of a run, and what it says; all of them
---   Right, AllRight a case holds; all of a list do
---   Worked          document 01's examples hold
+--   nego_token       a token of one INITIATOR_NEGO: its length, its scheme and extension vectors, its payload; with_scheme, with_extension: the examples'
+--   Extension        an extension as it is shown: its type, and its value's octets; extensions_in m: those of the NEGO m
+--   Reads            what the reading of an example says: a refusal, or one NEGO with what is shown of it; reads_as: that of a token
+--   scheme n         a scheme; plain: the contents of a NEGO without extensions; nego_with: with some; pulse: an ALERT with a pulse
+--   opened           what the examples' runs start with; negotiation: their calls, with the marks of either end
+--   Says             what a call answers: its number, its choice and how many were left; says_of: of an entry of a run
+--   done, refuses    the answer of a call that is accepted and says no more, and of one that is refused; names: of one that names a choice
+--   Case, cases      an example: a token, or the calls of a run, and what it says; all of them
+--   Right, AllRight  a case holds; all of a list do
+--   Worked           document 01's examples hold
 --   longer_lists     a second opening, with longer lists than the first
---   LongerRun       demand 3, for that opening after the first's choice; LongerChoice: what is chosen there
---   conversation    calls of a whole conversation; allAccepted: every entry of a run is accepted
+--   LongerRun        demand 3, for that opening after the first's choice; LongerChoice: what is chosen there
+--   conversation     calls of a whole conversation; all_accepted: every entry of a run is accepted
 --   WholeConversation   every call of it is accepted; WholeLogs: and each end has all of its messages
---   attempts        choosing calls of each refusal, then one that is accepted; AtOnce: what they answer
---   early           calls in which either end writes a VERIFY before the choice, and tries one after it: with marks of either end, and the content of the
---                   choice
---   EarlyVerify     C-15: what they answer, where the early ones count and where they do not
---   two t           two extensions or alerts, of the types t and 5, the second with an empty value; nine: one more than there may be; octets: the values of two
+--   attempts         choosing calls of each refusal, then one that is accepted; AtOnce: what they answer
+--   early            calls in which either end writes a VERIFY before the choice, and tries one after it: with marks of either end, and the content of the
+--                    choice
+--   EarlyVerify      C-15: what they answer, where the early ones count and where they do not
+--   two t            two extensions or alerts, of the types t and 5, the second with an empty value; nine: one more than there may be; octets: the values of
+--                    two
 --   ordinary, critical, too_many   contents of a NEGO with these: no critical type; the type minus 2, in a test call or not; nine
---   extended        C-22: calls with extensions and alerts, those of each refusal, and test calls; Extended: what they answer
---   read_in_turn      the numbers that an end answers to tokens, read one after the other
---   StaysRejected   C-18, with the examples' tokens
+--   extended         C-22: calls with extensions and alerts, those of each refusal, and test calls; Extended: what they answer
+--   read_in_turn     the numbers that an end answers to tokens, read one after the other
+--   StaysRejected    C-18, with the examples' tokens
 use Rattle.std.specs.Prelude.{ℕ, ◌≡◌, refl, Bool, true, false, ◌&&◌, length, replicate, ℤ, pos, negsuc}
 use mathlib.Core.List.{List, [], ◌∷◌, ◌++◌, map, Memᴰ}
 use Rattle.octets.specs.Octets.{signed32, same_octets}

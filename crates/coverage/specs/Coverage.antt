@@ -4,18 +4,18 @@
 --   header_in m       the header length of the message m, by its own type
 --   vectors_in m      all vectors of m, the header's in order, then the nested ones; none where m ends before its header does
 --   no_vector         an empty vector; vector_in m k: vector k of m, by their order, and no_vector beyond them
---   in_header m p     the place p lies in the header of m; in_pad m p: in a pad of it; liesInPad: in one of pads
+--   in_header m p     the place p lies in the header of m; in_pad m p: in a pad of it; lies_in_pad: in one of pads
 --   lies_in v p       p lies in the vector v; in an empty one nothing does
---   lies_in_one vs p   p lies in one of vs
+--   lies_in_one vs p  p lies in one of vs
 --   in_vector m p     p lies in a vector of m, nested ones too
 --   is_covered m p    p lies in the header of m and is no pad, or it lies in a vector
 --   is_bare m p       p lies neither in the header of m nor in a vector
---   one b            1 where b holds, else 0
---   count f n at     how many of the n places from `at` on pass the test f; places_of m f: how many of the places of m
---   header_octets m   how many octets of m lie in its header; vectorOctets: in a vector, each once; bareOctets: in neither
+--   one b             1 where b holds, else 0
+--   count f n at      how many of the n places from `at` on pass the test f; places_of m f: how many of the places of m
+--   header_octets m   how many octets of m lie in its header; vector_octets: in a vector, each once; bare_octets: in neither
 --   octets_in m       the three, as the code answers them
---   AllBehind m      every nonempty vector of m starts behind its header
---   OctetsSum        in a message whose vectors start behind its header each octet is counted in one of the three
+--   AllBehind m       every nonempty vector of m starts behind its header
+--   OctetsSum         in a message whose vectors start behind its header each octet is counted in one of the three
 use Rattle.std.specs.Prelude.{ℕ, zero, suc, ◌+◌, ◌≤◌, ◌≡◌, Bool, true, false, cond, not, ◌&&◌, ◌||◌, length, get_or, leb, ltb}
 use mathlib.Core.List.{List, [], ◌∷◌, Memᴰ}
 use Rattle.vector.specs.declared.Vector.{Vector}

@@ -1,10 +1,10 @@
 -- How the code counts them in one pass: at each place a map holds the farthest end of the vectors that start there.
 --
 -- Glossary
---   Clear map         a map that holds nothing
---   end_in n v         where v ends, within n places
---   marked map v      map with v's end at v's start, where that is farther; markedAll: with each of vs
---   sweep map far n at  how many of the n places from `at` on lie before the farthest end met so far, which is `far` at the start
+--   Clear map     a map that holds nothing
+--   end_in n v    where v ends, within n places
+--   marked map v  map with v's end at v's start, where that is farther; marked_all: with each of vs
+--   sweep map far n at   how many of the n places from `at` on lie before the farthest end met so far, which is `far` at the start
 use Rattle.std.specs.Prelude.{ℕ, zero, suc, ◌+◌, min, max, ◌≡◌, List, [], ◌∷◌, length, get_or, set, ltb}
 use Rattle.vector.specs.declared.Vector.{Vector}
 use Rattle.vector.specs.Vector.{extent}

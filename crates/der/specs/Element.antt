@@ -1,17 +1,17 @@
 -- One element in DER: tag, length, contents (X.690, 8.1 and 10.1). A holder is the contents of the element around it, or the buffer. Request C-16.
 --
 -- Glossary
---   length_of n       the shortest octets of the length n, up to 65,535
---   element t c      the element with the tag t and the contents c
---   number v         the number in the octets v, most significant first; number_from n v: behind octets that stand for n
---   lead_of s         how many octets the length at the front of s has; size_of s: the number that it says; length_in v: the number that the length v says
---   Frame            an element taken apart: its length's octets, its contents, and the rest of its holder; framed s: that whose length is at the front of s
---   framed_from s     the same, where it ends inside the holder s; frame t s: the element at the front of the holder s, with the tag t
---   indefinite v     the length v is the octet 80, which says no number; shortest v n: the length v has the shortest octets of n
---   Part A           what was read of an element, and the rest of its holder
---   judged b f       the element f, where b says that its contents are right
---   cut t p s        the element at the front of the holder s: its tag has to be t, and p to hold of its contents
---   any              what holds of all contents; exactly v: of the octets v alone; at_most n: of one octet, n at the most
+--   length_of n    the shortest octets of the length n, up to 65,535
+--   element t c    the element with the tag t and the contents c
+--   number v       the number in the octets v, most significant first; number_from n v: behind octets that stand for n
+--   lead_of s      how many octets the length at the front of s has; size_of s: the number that it says; length_in v: the number that the length v says
+--   Frame          an element taken apart: its length's octets, its contents, and the rest of its holder; framed s: that whose length is at the front of s
+--   framed_from s  the same, where it ends inside the holder s; frame t s: the element at the front of the holder s, with the tag t
+--   indefinite v   the length v is the octet 80, which says no number; shortest v n: the length v has the shortest octets of n
+--   Part A         what was read of an element, and the rest of its holder
+--   judged b f     the element f, where b says that its contents are right
+--   cut t p s      the element at the front of the holder s: its tag has to be t, and p to hold of its contents
+--   any            what holds of all contents; exactly v: of the octets v alone; at_most n: of one octet, n at the most
 use Rattle.std.specs.Prelude.{ℕ, ◌+◌, ◌-◌, ◌*◌, ◌/◌, ◌%◌, Bool, true, false, cond, ◌||◌, List, [], ◌∷◌, ◌++◌, length, take, drop, get_or, eqb, leb, ltb}
 use Rattle.octets.specs.Octets.{same_octets}
 use Rattle.der.specs.Got.{Got, ok, no, bind, check}

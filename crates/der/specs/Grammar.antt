@@ -7,7 +7,7 @@
 --   starts t s          the holder s begins with the octet t
 --   sole u p s          the contents of the element u, alone in the holder s
 --   field t u p s       the element t, in which the element u stands alone; optional: where it is there
---   field_octets t u c   the octets of such a field with the contents c, where it is there
+--   field_octets t u c  the octets of such a field with the contents c, where it is there
 use Rattle.std.specs.Prelude.{ℕ, Bool, false, cond, List, [], ◌∷◌, eqb}
 use Rattle.std.proofs.Math.Option.{Option, none, some}
 use Rattle.der.specs.Got.{Got, ok, no, bind}

@@ -3,7 +3,7 @@
 -- Glossary
 --   Holder s at end   the octets of the buffer s from `at` to `end` are a holder; part s at end: these octets
 --   capped n          n, or 65,536 where it is larger
---   told_frame, told   what an answer says of the buffer
+--   told_frame, told  what an answer says of the buffer
 --   FrameInside       where an element taken apart lies; Inside: where an element's contents lie
 --   Frames, Cuts      an answer says what the definition gives, and lies in the holder
 --   verdict           the answer about an element, where it is known whether its contents are right, and its length's octets are lent

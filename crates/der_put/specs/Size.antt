@@ -2,9 +2,9 @@
 --
 -- Glossary
 --   head t n        the tag t and the length n
---   head_size n      how many octets the head of n octets has; element_size n: those of an element with contents of n octets
+--   head_size n     how many octets the head of n octets has; element_size n: those of an element with contents of n octets
 --   given b v       the field with the octets v, where b says that it is there
---   field_size b n   how many octets a field has that is there, or not, with contents of n octets
+--   field_size b n  how many octets a field has that is there, or not, with contents of n octets
 use Rattle.std.specs.Prelude.{ℕ, ◌+◌, Bool, true, false, cond, List, ◌∷◌, ltb}
 use Rattle.std.proofs.Math.Option.{Option, none, some}
 use Rattle.der.specs.Element.{length_of}

@@ -3,24 +3,24 @@
 -- joined in one lent slice.
 --
 -- Glossary
---   Item                 an extension or an alert to write: its type, as a 32-bit number, and its value
+--   Item                  an extension or an alert to write: its type, as a 32-bit number, and its value
 --   offset_of n p         the stored offset of what has n octets or elements and stands at p: 0 where it is empty
 --   element_fields t p n  the fields of one element of type t, whose value of n octets stands at p
 --   array_of p xs         the octets of the array of xs, whose first value stands at p
 --   item_values xs        the values of xs, in order
 --   item_octets p xs      the octets of xs at p: the array, and the values behind it; items_size xs: how many they are
 --   small_values xs       no value has more than 4,096 octets; items_fit xs: nor are there more than 8 of them
---   ordinary xs          no type is critical
---   items_of e v          what is handed over as e and the lent octets v; itemsFrom: n of them from place i on, their values from `at` on
---   sum_from, small_from   of n sizes from place i on: their sum, and that none is above 4,096
+--   ordinary xs           no type is critical
+--   items_of e v          what is handed over as e and the lent octets v; items_from: n of them from place i on, their values from `at` on
+--   sum_from, small_from  of n sizes from place i on: their sum, and that none is above 4,096
 --   array_from            the array of what is handed over, which needs types and sizes alone: n elements from place i on, the first value standing at p
 --   elements_fit e v      what is handed over keeps its limits (25)
 --   handed_size e v       how many octets they are written as, array and values; 0 where they break their limits
---   types_ordinary e      no type handed over is critical (26); ordinaryFrom: of n types from place i on
+--   types_ordinary e      no type handed over is critical (26); ordinary_from: of n types from place i on
 --   no_elements           nothing handed over
---   pulse_value           the value of a pulse; pulses: one alert, a pulse; pulseElements: as it is handed over, with that value lent
---   HandedWhole          what keeps its limits is a list that keeps them: of so many items, whose values joined are the lent octets
---   TypesAlone           whether an item is critical is known from the types alone
+--   pulse_value           the value of a pulse; pulses: one alert, a pulse; pulse_elements: as it is handed over, with that value lent
+--   HandedWhole           what keeps its limits is a list that keeps them: of so many items, whose values joined are the lent octets
+--   TypesAlone            whether an item is critical is known from the types alone
 use Rattle.std.specs.Prelude.{◌≡◌, ℕ, zero, suc, ◌+◌, ◌*◌, Bool, true, cond, not, ◌&&◌, List, [], ◌∷◌, ◌++◌, length, get_or, take, drop, leb, eqb}
 use Rattle.octets.specs.Octets.{signed32, negative}
 use Rattle.put.specs.Put.{octets_of, joined}

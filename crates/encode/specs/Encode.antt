@@ -3,21 +3,21 @@
 -- with, its kind, its sequence number and its conversation.
 --
 -- Glossary
---   Contents             what is written besides, one value a layout: an Offer, a Payload, a Checksum or an Alarm
+--   Contents         what is written besides, one value a layout: an Offer, a Payload, a Checksum or an Alarm
 --   nego_of, exchange_of, verify_of, alert_of   the contents of a layout, by their parts
---   Whole c              the ids of the contents have 16 octets and random has 32
---   size_of c             the length of a message with the contents c
---   head_fields h n       the fields of the common header of a message of n octets
+--   Whole c          the ids of the contents have 16 octets and random has 32
+--   size_of c        the length of a message with the contents c
+--   head_fields h n  the fields of the common header of a message of n octets
 --   octet_vector_fields, vector_fields   the fields of a vector of octets, and of one of elements
 --   nego_fields, alert_fields   the fields of a NEGO's header and of an ALERT's, behind the common one
---   body_fields c         the fields behind the common header
---   encoded h c          the message: all its fields, joined
---   has_kind c k          the type number k is of the contents' layout
---   fits_fields c         a scheme list is one of whole ids, extensions and alerts keep their limits, and count and length fit their fields
---   encodable h c        both of these: there is such a message
---   Outcome              what a writer leaves: the next place and the lent octets, or the lent octets with nothing written
---   told, storing        the outcome of an answer of src/, and of writing a message into d at a place; storingHanded: where extensions or alerts are handed
---                        over apart
+--   body_fields c    the fields behind the common header
+--   encoded h c      the message: all its fields, joined
+--   has_kind c k     the type number k is of the contents' layout
+--   fits_fields c    a scheme list is one of whole ids, extensions and alerts keep their limits, and count and length fit their fields
+--   encodable h c    both of these: there is such a message
+--   Outcome          what a writer leaves: the next place and the lent octets, or the lent octets with nothing written
+--   told, storing    the outcome of an answer of src/, and of writing a message into d at a place; storing_handed: where extensions or alerts are handed
+--                    over apart
 use Rattle.std.specs.Prelude.{◌≡◌, ℕ, ◌+◌, ◌/◌, ◌%◌, Bool, cond, ◌&&◌, List, [], ◌∷◌, ◌++◌, length, leb, eqb, ℤ}
 use Rattle.message.specs.Layout.{shape_of, header_of, signature}
 use Rattle.put.specs.Put.{put, octets_of, unsigned32, joined}

@@ -1,12 +1,12 @@
 -- What is proved of the entries.
 --
 -- Glossary
---   tiled_to at fs     where fields end that follow one another without a gap from `at` on, and none where they don't
---   pads_in fs         the pads among fields
---   FieldsTile        the fields of a header follow one another from its first octet to its last
---   PadsListed        the pads among them are those of the layout
---   FieldsRead        each field stands where the layout reads it: a head and a content, read at the places of the fields, are those of the message
---   EntriesFew        an accepted token has no more entries than octets
+--   tiled_to at fs  where fields end that follow one another without a gap from `at` on, and none where they don't
+--   pads_in fs      the pads among fields
+--   FieldsTile      the fields of a header follow one another from its first octet to its last
+--   PadsListed      the pads among them are those of the layout
+--   FieldsRead      each field stands where the layout reads it: a head and a content, read at the places of the fields, are those of the message
+--   EntriesFew      an accepted token has no more entries than octets
 use Rattle.std.specs.Prelude.{ℕ, ◌+◌, ◌≤◌, ◌≡◌, cond, List, [], ◌∷◌, length, eqb}
 use Rattle.std.proofs.Math.Option.{Option, none, some}
 use Rattle.octets.specs.Octets.{le, octets}

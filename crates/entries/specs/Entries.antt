@@ -5,7 +5,7 @@
 -- its place in the token and its length in octets.
 --
 -- Glossary
---   Field             a field of a header: what it is, where it stands in the message, and its size; field makes one
+--   Field              a field of a header: what it is, where it stands in the message, and its size; field makes one
 --   common_fields      those of the common header; fields_of: all of a layout's header, pads too, in order
 --   no_field           what stands beyond the last; field_at shape k: field k
 --   number_at n m at   the number in a field of n octets: in its first four, or in two where it has fewer than four
@@ -14,14 +14,14 @@
 --   header_entry       that of field k of its header
 --   vector_what shape k, vector_number shape k   what vector k of a layout points at, and its number in its list
 --   vector_entry       the entry of the octets of vector k: its value is the offset as it stands, its place that of an empty one's message
---   ids_vector         the vector of a list of schemes, empty where a layout has none; arrayVector: that of extensions or alerts
+--   ids_vector         the vector of a list of schemes, empty where a layout has none; array_vector: that of extensions or alerts
 --   type_what, value_what   what the two fields of an element of a layout's array are
---   id_entry           the entry of the scheme k of a list; typeEntry: of the type of extension or alert k; valueEntry: of the vector of its value
---   listed f n k      f of the n numbers from k on
+--   id_entry           the entry of the scheme k of a list; type_entry: of the type of extension or alert k; value_entry: of the vector of its value
+--   listed f n k       f of the n numbers from k on
 --   elements_in, lists_in, body_in   the entries of a message's extensions or alerts; with the schemes before them; with the vectors before those
 --   shaped_in          all of a message of a layout
 --   entries_in p i m   all of the message m at the token place p, message i: itself, its header's fields, its vectors, its list of schemes, then the types and
---                     then the values' vectors of its extensions or alerts
+--                      then the values' vectors of its extensions or alerts
 --   entries_from i ms  those of placed messages, the first of which is message i; entries_of ms: of a token's
 --   entry_octets es    entries in octets: six numbers each, in four octets each
 use Rattle.std.specs.Prelude.{ℕ, zero, suc, ◌+◌, ◌*◌, ◌-◌, cond, List, [], ◌∷◌, ◌++◌, length, get_or, ltb, eqb}

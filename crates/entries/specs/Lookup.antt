@@ -2,11 +2,11 @@
 --
 -- Glossary
 --   flat fs         fields as the tables of src/ have them, three numbers each
---   table_entry      the entry of the field in row k of such a table
+--   table_entry     the entry of the field in row k of such a table
 --   Row t m k       row k is one of the table t, and its field lies in m and has two octets at the least
 --   Holds p m kind  m is a message of a kind at the place p that ends within 65,535 octets, and its vectors lie inside it
---   no_entry         what stands beyond the last entry
---   count_in m       how many entries m has
+--   no_entry        what stands beyond the last entry
+--   count_in m      how many entries m has
 --   Filled d at es d' next   as many of the entries es as fit were put into d from `at` on: d' is the list afterwards, `next` the place behind them
 use Rattle.std.specs.Prelude.{ℕ, ◌+◌, ◌*◌, ◌-◌, ◌/◌, ◌≤◌, ◌≡◌, List, [], ◌∷◌, length, get_or, take}
 use Rattle.message.specs.Layout.{head_of, shape_of}

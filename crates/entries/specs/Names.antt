@@ -1,16 +1,16 @@
 -- What an entry is of, by number. crates/host/negoex.h has the same names and numbers.
 --
 -- Glossary
---   MESSAGE               a message
+--   MESSAGE          a message
 --   SIGNATURE, TYPE, SEQUENCE, HEADER-LENGTH, MESSAGE-LENGTH, CONVERSATION   the fields of the common header
---   RANDOM, VERSION, SCHEME-VECTOR, EXTENSION-VECTOR      the fields of a NEGO's header; a vector's field is its offset with its count or length
---   SCHEME                the scheme of a message that is no NEGO, and each id that a NEGO lists
---   EXCHANGE-VECTOR       the field of an exchange's or metadata's vector
---   CHECKSUM-HEADER, CHECKSUM-SCHEME, CHECKSUM-TYPE, CHECKSUM-VECTOR         the fields of a VERIFY's header
---   ERROR-CODE, ALERT-VECTOR                              the fields of an ALERT's header
---   PAD                   a pad
+--   RANDOM, VERSION, SCHEME-VECTOR, EXTENSION-VECTOR   the fields of a NEGO's header; a vector's field is its offset with its count or length
+--   SCHEME           the scheme of a message that is no NEGO, and each id that a NEGO lists
+--   EXCHANGE-VECTOR  the field of an exchange's or metadata's vector
+--   CHECKSUM-HEADER, CHECKSUM-SCHEME, CHECKSUM-TYPE, CHECKSUM-VECTOR   the fields of a VERIFY's header
+--   ERROR-CODE, ALERT-VECTOR   the fields of an ALERT's header
+--   PAD              a pad
 --   SCHEMES, EXTENSIONS, EXTENSION-VALUE, EXCHANGE, CHECKSUM-VALUE, ALERTS, ALERT-VALUE   the octets that a vector points at
---   EXTENSION-TYPE, EXTENSION-VALUE-VECTOR                the fields of an extension; ALERT-TYPE, ALERT-VALUE-VECTOR: of an alert
+--   EXTENSION-TYPE, EXTENSION-VALUE-VECTOR   the fields of an extension; ALERT-TYPE, ALERT-VALUE-VECTOR: of an alert
 use Rattle.std.specs.Prelude.{ℕ}
 
 abbrev pub MESSAGE : ℕ

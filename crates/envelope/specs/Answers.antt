@@ -1,15 +1,15 @@
 -- What the functions of src/ say of the buffer.
 --
 -- Glossary
---   shown s f        the octets of a field of src/ in the buffer s, none where it is absent
+--   shown s f         the octets of a field of src/ in the buffer s, none where it is absent
 --   mechanisms_in v   the identifiers in the contents v of a list, none where they are refused; value_of: what was read, or no identifiers
---   told             what an answer of read_envelope says of the buffer
---   FieldIn s f      a field lies in the buffer
---   Before s end f k behind the token f, where it is there, the buffer has up to `end` the checksum k and nothing else
---   TailPlaced       where the three fields behind the first lie; ListPlaced: where the list of mechanisms lies, and how many it has; Placed: where all lie
---   Reads            an answer says what the definition gives, and its parts lie where they should
+--   told              what an answer of read_envelope says of the buffer
+--   FieldIn s f       a field lies in the buffer
+--   Before s end f k  behind the token f, where it is there, the buffer has up to `end` the checksum k and nothing else
+--   TailPlaced        where the three fields behind the first lie; ListPlaced: where the list of mechanisms lies, and how many it has; Placed: where all lie
+--   Reads             an answer says what the definition gives, and its parts lie where they should
 --   told_optional, told_count, told_list, told_tail   what the private functions answer; Optionals, Lists, Tails: with where it lies
---   EndsAt, FieldTo  where a field lies, and the place behind it; OptionalIn, ListIn, TailIn: of an answer
+--   EndsAt, FieldTo   where a field lies, and the place behind it; OptionalIn, ListIn, TailIn: of an answer
 --   sole_field c end  the element c as a field, where it is alone in a holder that ends at `end`
 --   left_of k v       how many of k identifiers are still allowed behind those in v; count_of v: behind a list, of sixteen
 --   refusal_of        an element's refusal

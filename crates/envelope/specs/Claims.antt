@@ -1,8 +1,8 @@
 -- What is proved of the definitions.
 --
 -- Glossary
---   OneReading    what is read, encoded, gives the same octets, and may be written: see ReadEncoded
---   ReadEncoded   what is read is what would be written; EncodedRead: what is written reads back as the same fields
+--   OneReading   what is read, encoded, gives the same octets, and may be written: see ReadEncoded
+--   ReadEncoded  what is read is what would be written; EncodedRead: what is written reads back as the same fields
 use Rattle.std.specs.Prelude.{ℕ, ◌≤◌, ◌≡◌, true, List, length}
 use Rattle.der.specs.Got.{ok}
 use Rattle.envelope.specs.Envelope.{Envelope, encoded, fine, few}

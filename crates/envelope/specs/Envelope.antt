@@ -1,14 +1,14 @@
 -- NegTokenInit in its GSS-API wrapper, and NegTokenResp, as values and as octets. RFC 4178, 4.2, and RFC 2743, 3.1; request C-16.
 --
 -- Glossary
---   Envelope       the fields of either; what may be missing is none where it is, which is not the same as empty
---   spnego         the contents of SPNEGO's identifier, 1.3.6.1.5.5.2; negoex: of NEGOEX's, 1.3.6.1.4.1.311.2.2.30
---   identifiers    mechanism identifiers as elements, one behind the other
---   sequence       the contents of a token's sequence: four fields, the first two with elements of the tags u and v in them; tailOctets: the last three
---   encoded e      the octets of the envelope e
---   is_state c      the contents c are a negotiation state
---   fine e         e has a mechanism, where it is an Init, and a state from 0 to 3, where it has one; fineState: of a state that may be missing
---   few e          e has at most sixteen mechanisms
+--   Envelope     the fields of either; what may be missing is none where it is, which is not the same as empty
+--   spnego       the contents of SPNEGO's identifier, 1.3.6.1.5.5.2; negoex: of NEGOEX's, 1.3.6.1.4.1.311.2.2.30
+--   identifiers  mechanism identifiers as elements, one behind the other
+--   sequence     the contents of a token's sequence: four fields, the first two with elements of the tags u and v in them; tail_octets: the last three
+--   encoded e    the octets of the envelope e
+--   is_state c   the contents c are a negotiation state
+--   fine e       e has a mechanism, where it is an Init, and a state from 0 to 3, where it has one; fine_state: of a state that may be missing
+--   few e        e has at most sixteen mechanisms
 use Rattle.std.specs.Prelude.{ℕ, Bool, true, List, [], ◌∷◌, ◌++◌, length, leb}
 use Rattle.std.proofs.Math.Option.{Option, none, some}
 use Rattle.der.specs.Element.{element, at_most}

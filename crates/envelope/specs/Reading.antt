@@ -2,14 +2,14 @@
 -- 22 of an element those of crates/der/specs.
 --
 -- Glossary
---   filled s          s is not empty
---   identifiers_of k s the identifiers in s, k at the most; list_of: those of a list, sixteen at the most, of which there has to be one
---   mechanisms_of s    the list of mechanisms at the front of the token's sequence s
---   Tail, tail_of v s  the three fields behind the first: the second, with an element of the tag v in it, the token and the checksum
---   init_of s          the contents of an Init's sequence; respOf: of a Resp's, with which of its fields it may begin
---   begins s          s is empty, or begins with the tag of one of a Resp's fields
---   wrapped_of s       the contents of the wrapper
---   envelope_of s      the envelope in the buffer s, or the first refusal
+--   filled s            s is not empty
+--   identifiers_of k s  the identifiers in s, k at the most; list_of: those of a list, sixteen at the most, of which there has to be one
+--   mechanisms_of s     the list of mechanisms at the front of the token's sequence s
+--   Tail, tail_of v s   the three fields behind the first: the second, with an element of the tag v in it, the token and the checksum
+--   init_of s           the contents of an Init's sequence; resp_of: of a Resp's, with which of its fields it may begin
+--   begins s            s is empty, or begins with the tag of one of a Resp's fields
+--   wrapped_of s        the contents of the wrapper
+--   envelope_of s       the envelope in the buffer s, or the first refusal
 use Rattle.std.specs.Prelude.{ℕ, zero, suc, Bool, true, false, cond, ◌&&◌, List, [], ◌∷◌, length, leb}
 use Rattle.std.proofs.Math.Option.{Option}
 use Rattle.der.specs.Got.{Got, ok, no, bind, check}

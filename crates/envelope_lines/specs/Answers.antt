@@ -1,9 +1,9 @@
 -- What the private functions ask of a reading's answer, and what it says. No contract of a public function speaks of these.
 --
 -- Glossary
---   TokenAt s f k   the token f lies in s, and behind it stands the checksum k alone
---   InitAt s i      the parts of an Init lie in s where they should; toldInit: what it says of the buffer
---   RespAt s r      the parts of a Resp lie in s where they should; toldResp: what it says of the buffer
+--   TokenAt s f k  the token f lies in s, and behind it stands the checksum k alone
+--   InitAt s i     the parts of an Init lie in s where they should; told_init: what it says of the buffer
+--   RespAt s r     the parts of a Resp lie in s where they should; told_resp: what it says of the buffer
 use Rattle.std.specs.Prelude.{List, ℕ, length}
 use Rattle.der.specs.Got.{Got}
 use Rattle.envelope.specs.Envelope.{Envelope}

@@ -1,19 +1,19 @@
 -- The text of an envelope, as pieces in order: what `unwrap` shows, and what `wrap` answers. Quotations are README.md's, "What an envelope looks like".
 --
 -- Glossary
---   octets_text v      a field OCTETS
---   mechanism_line k v the line of the mechanism v, whose place is k; mark: what stands behind it; mechanismLines: those of several, from a place on
---   octets_line w o    the line of a field behind the word w, where it is there
---   named_lines m      the line of a Resp's mechanism; stateLine: of its state
---   token_place s v k  where the token v stands in the envelope s, whose checksum is k; tokenLine: the token's line
---   last_lines         the lines of the token and the checksum
---   head_line w s      the first line: what the envelope s is, and its length
---   refused_text n     the line of a refusal
---   text_of s g        the text of the envelope in s, which was read as g; envelope_text s: the same of the buffer s
---   carried g         the token of what was read, where there is one; token_in s: of the envelope in s, nothing where there is none
---   octets_of o        the octets of a field, nothing where it is not there
---   begun v           the octets v begin with NEGOEX's signature
---   wrote_line v       what `wrap` answers: the envelope written
+--   octets_text v       a field OCTETS
+--   mechanism_line k v  the line of the mechanism v, whose place is k; mark: what stands behind it; mechanism_lines: those of several, from a place on
+--   octets_line w o     the line of a field behind the word w, where it is there
+--   named_lines m       the line of a Resp's mechanism; state_line: of its state
+--   token_place s v k   where the token v stands in the envelope s, whose checksum is k; token_line: the token's line
+--   last_lines          the lines of the token and the checksum
+--   head_line w s       the first line: what the envelope s is, and its length
+--   refused_text n      the line of a refusal
+--   text_of s g         the text of the envelope in s, which was read as g; envelope_text s: the same of the buffer s
+--   carried g           the token of what was read, where there is one; token_in s: of the envelope in s, nothing where there is none
+--   octets_of o         the octets of a field, nothing where it is not there
+--   begun v             the octets v begin with NEGOEX's signature
+--   wrote_line v        what `wrap` answers: the envelope written
 use Rattle.std.specs.Prelude.{ℕ, ◌+◌, ◌-◌, Bool, true, false, List, [], ◌∷◌, ◌++◌, length, take, get_or}
 use Rattle.std.proofs.Math.Option.{Option, none, some}
 use Rattle.octets.specs.Octets.{same_octets}

@@ -2,7 +2,7 @@
 --
 -- Glossary
 --   EachMechanism  the mechanism shown by its number is that of the list that was read
---   arc_octets n    a number of an object identifier as octets of seven bits, up to 16,383; arcs: several of them
+--   arc_octets n   a number of an object identifier as octets of seven bits, up to 16,383; arcs: several of them
 --   identifier_octets   the contents of an object identifier: its first two numbers together, then the others
 --   NegoexExactly  NEGOEX is recognised by its identifier's octets and by no others
 --   Dotted         the two identifiers are 1.3.6.1.5.5.2 and 1.3.6.1.4.1.311.2.2.30

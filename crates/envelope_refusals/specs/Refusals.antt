@@ -1,12 +1,12 @@
 -- Which number is given when, case by case in the words of request C-16, and that it is given then and only then.
 --
 -- Glossary
---   Exactly g F      g is refused with n where F holds of n, and only there
---   ElementFault     what is wrong with the element at the front of a holder
---   WithinFault      with it or with what it holds; OnlyFault: or with the octets behind it
---   EnvelopeFault    what is wrong with a buffer
+--   Exactly g F       g is refused with n where F holds of n, and only there
+--   ElementFault      what is wrong with the element at the front of a holder
+--   WithinFault       with it or with what it holds; OnlyFault: or with the octets behind it
+--   EnvelopeFault     what is wrong with a buffer
 --   ElementExactly, WithinExactly, OnlyExactly, EnvelopeExactly   the numbers are those
---   SeventeenthFault sixteen of a list were read, and a seventeenth is one; SeventeenthLast: so it is wherever a list is refused with 23
+--   SeventeenthFault  sixteen of a list were read, and a seventeenth is one; SeventeenthLast: so it is wherever a list is refused with 23
 use Rattle.std.specs.Prelude.{ℕ, ◌+◌, ◌<◌, ◌≤◌, ◌≡◌, Bool, true, false, List, [], ◌∷◌, ◌++◌, ◌⊎◌, length}
 use Rattle.der.specs.Got.{Got, ok, no}
 use Rattle.der.specs.Element.{Part, length_of, lead_of, size_of, framed, cut, any}

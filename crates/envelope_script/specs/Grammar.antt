@@ -3,11 +3,11 @@
 -- Glossary
 --   Said             what a line says: nonsense, init, resp, a state, or octets of a kind
 --   MECHANISM, FLAGS, TOKEN, CHECKSUM   the kinds of octets
---   said_as l d       what an answer of src/ says, whose octets stand at the front of the slice d
+--   said_as l d      what an answer of src/ says, whose octets stand at the front of the slice d
 --   begins w s       the line s begins with the word w; behind w s: what stands behind it
 --   byte n           a number up to 255, as a state; state_said v: what a field N says
---   octets_said k o   octets of the kind k, where they are good
---   line_of s room    what the line s says, where a slice of `room` octets is lent; field_of: a line of octets
+--   octets_said k o  octets of the kind k, where they are good
+--   line_of s room   what the line s says, where a slice of `room` octets is lent; field_of: a line of octets
 use Rattle.std.specs.Prelude.{ℕ, Bool, cond, List, length, take, drop, ltb}
 use Rattle.octets.specs.Octets.{same_octets}
 use Rattle.text.specs.Text.{quoted}

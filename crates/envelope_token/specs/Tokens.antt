@@ -1,12 +1,12 @@
 -- Where the token stands in an envelope. Request C-16: "The token's octets are handed back, for the structural reading, as part of the caller's buffer."
 --
 -- Glossary
---   Span              a place in the buffer, and a length in octets
---   span_in s t k      where the token t stands in the envelope s, whose checksum is k: behind the token there is the checksum alone; 19 where there is no token
---   span_of s e        that of what was read
---   carried_of s       that of the envelope in s, or the envelope's refusal
---   said              what an answer of src/ says
---   TokenAt s f k     the token f lies in s, and behind it stands the checksum k alone
+--   Span           a place in the buffer, and a length in octets
+--   span_in s t k  where the token t stands in the envelope s, whose checksum is k: behind the token there is the checksum alone; 19 where there is no token
+--   span_of s e    that of what was read
+--   carried_of s   that of the envelope in s, or the envelope's refusal
+--   said           what an answer of src/ says
+--   TokenAt s f k  the token f lies in s, and behind it stands the checksum k alone
 use Rattle.std.specs.Prelude.{ℕ, ◌+◌, ◌-◌, ◌≤◌, ◌≡◌, List, length}
 use Rattle.std.proofs.Math.Option.{Option, none, some}
 use Rattle.der.specs.Got.{Got, ok, no, bind}

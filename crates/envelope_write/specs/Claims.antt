@@ -1,7 +1,7 @@
 -- What is proved of writing and reading together.
 --
 -- Glossary
---   EnvelopeReads   what was written reads back as the same fields
+--   EnvelopeReads  what was written reads back as the same fields
 --   ReadWritten    what was read, written again into a buffer with room for it, gives the same octets
 --   RefusedKeeps   a refusal leaves the buffer as it was
 use Rattle.std.specs.Prelude.{ℕ, ◌≤◌, ◌≡◌, List, length, take}

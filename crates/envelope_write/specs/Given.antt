@@ -1,17 +1,17 @@
 -- An envelope as the writers are given it, and how many octets its parts have.
 --
 -- Glossary
---   sum_of ns        the sum of the sizes ns
---   split_by ns s    the octets s cut into parts of the sizes ns
---   init_given       the Init with mechanisms cut from their joined octets, and each other field with whether it is there; respGiven: the Resp
---   identifiers_size how many octets identifiers of the sizes ns have, each as an element
---   tail_size        how many octets the three fields behind the first have
---   IdentifiersRoom identifiers may be put at a place: their sizes are those of their octets, and there is room
---   ListRoom        a whole list may be put there, `size` being the octets of its identifiers; TailRoom: the three fields behind the first
+--   sum_of ns         the sum of the sizes ns
+--   split_by ns s     the octets s cut into parts of the sizes ns
+--   init_given        the Init with mechanisms cut from their joined octets, and each other field with whether it is there; resp_given: the Resp
+--   identifiers_size  how many octets identifiers of the sizes ns have, each as an element
+--   tail_size         how many octets the three fields behind the first have
+--   IdentifiersRoom   identifiers may be put at a place: their sizes are those of their octets, and there is room
+--   ListRoom          a whole list may be put there, `size` being the octets of its identifiers; TailRoom: the three fields behind the first
 --   mechanisms_refusal   what is wrong with mechanisms of the sizes ns, whose joined octets are n; 0 where nothing is
---   Mechanisms      mechanisms that pass: their sizes sum, and they are 1 to 16
---   InitSized       `list` and `inner` are the sizes of an Init's identifiers and fields as far as they count: capped; RespSized: of a Resp's fields
---   InitRoom        a whole Init may be put, `list` being the octets of its identifiers and `inner` those of its fields; RespRoom: a whole Resp
+--   Mechanisms        mechanisms that pass: their sizes sum, and they are 1 to 16
+--   InitSized         `list` and `inner` are the sizes of an Init's identifiers and fields as far as they count: capped; RespSized: of a Resp's fields
+--   InitRoom          a whole Init may be put, `list` being the octets of its identifiers and `inner` those of its fields; RespRoom: a whole Resp
 --   init_size, resp_size   how many octets the whole has, where its fields have so many
 use Rattle.std.specs.Prelude.{◌≡◌, ℕ, ◌+◌, ◌≤◌, Bool, true, cond, List, [], ◌∷◌, length, take, drop, eqb, leb}
 use Rattle.std.proofs.Math.Option.{Option}

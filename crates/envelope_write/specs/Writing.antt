@@ -1,10 +1,10 @@
 -- The envelope written into a lent buffer. Request C-16: "writing: 20, 23, 1, 16".
 --
 -- Glossary
---   Outcome        what a writer leaves: the number of octets and the buffer, or a refusal and the buffer
---   storing d e    the outcome of writing e into d, from its first octet on
---   storing_init    the same of an Init, whose mechanisms are given as sizes and joined octets
---   told r d       of an answer of src/ that leaves the buffer d
+--   Outcome       what a writer leaves: the number of octets and the buffer, or a refusal and the buffer
+--   storing d e   the outcome of writing e into d, from its first octet on
+--   storing_init  the same of an Init, whose mechanisms are given as sizes and joined octets
+--   told r d      of an answer of src/ that leaves the buffer d
 use Rattle.std.specs.Prelude.{ℕ, Bool, cond, List, length, leb, eqb}
 use Rattle.put.specs.Put.{put}
 use Rattle.envelope.specs.Envelope.{Envelope, encoded, fine, few}

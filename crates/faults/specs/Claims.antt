@@ -2,10 +2,10 @@
 --
 -- Glossary
 --   Check              a test of one field: the number that refuses where it fails, the test, and the field's spot; check makes one
---   common_checks n h   2 to 6 of a head with n octets left, field by field; order_checks h q v: 7 and 8
---   vector_checks       11, vector by vector, the first of them having the number k; criticalChecks: 12, extension by extension
---   content_checks      10 to 13 of a message m of `len` octets, by its layout
---   checks_of s q v     all of the message at the front of s, in order: the tests of `next_rows`, field by field
+--   common_checks n h  2 to 6 of a head with n octets left, field by field; order_checks h q v: 7 and 8
+--   vector_checks      11, vector by vector, the first of them having the number k; critical_checks: 12, extension by extension
+--   content_checks     10 to 13 of a message m of `len` octets, by its layout
+--   checks_of s q v    all of the message at the front of s, in order: the tests of `next_rows`, field by field
 --   FirstCheck n x cs  the first check that fails has the number n and the spot x: all before it pass
 --   Within x n         the spot x has two octets at the least, and lies in n octets
 --   FaultWithin        of a refused token with a field at fault, that field lies in what is left of it: fault_entry shows it

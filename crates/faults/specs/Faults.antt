@@ -3,21 +3,21 @@
 -- `Spot` is the struct of src/: what a field is (crates/entries/specs/Names.antt), its number in its list, where it stands in the message, and its size.
 --
 -- Glossary
---   REST               what an entry is of that stands for octets and no field
---   spot               a spot; noSpot: none
---   first_broken h n vs k   the number of the first of the vectors vs that breaks its rule, the first of them having the number k
---   broken_in m         that of the message m
---   vector_spot shape m k   where the offset and size of vector k stand in a message m of a layout
---   broken_spot m       where those of the first vector stand that breaks its rule
---   first_critical es k the number of the first of the elements es whose type is critical, the first of them having the number k
---   critical_spot m     where the type of the first critical extension of a NEGO m stands
---   checksum_spot m     of a VERIFY's checksum header length and scheme, the first that is another than it has to be
---   spot_of n m         by the number n that refuses the message m: the field at fault
---   rest_entry p i n    n octets from the place p on, of message i
---   fault_entry p i s x the entry of the spot x of the octets s at the place p, of message i; nothing where the spot lies outside of s
---   fault_at p i s n    the fault of what is left, s, at the place p, refused with n: for 2 all of it, else a field
---   fault_in r s        the fault of a token s by its reading r: nothing where it is accepted
---   fault_of s          the fault of a token; of one that is too long the first octet too many
+--   REST                 what an entry is of that stands for octets and no field
+--   spot                 a spot; no_spot: none
+--   first_broken h n vs  k   the number of the first of the vectors vs that breaks its rule, the first of them having the number k
+--   broken_in m          that of the message m
+--   vector_spot shape m  k   where the offset and size of vector k stand in a message m of a layout
+--   broken_spot m        where those of the first vector stand that breaks its rule
+--   first_critical es k  the number of the first of the elements es whose type is critical, the first of them having the number k
+--   critical_spot m      where the type of the first critical extension of a NEGO m stands
+--   checksum_spot m      of a VERIFY's checksum header length and scheme, the first that is another than it has to be
+--   spot_of n m          by the number n that refuses the message m: the field at fault
+--   rest_entry p i n     n octets from the place p on, of message i
+--   fault_entry p i s x  the entry of the spot x of the octets s at the place p, of message i; nothing where the spot lies outside of s
+--   fault_at p i s n     the fault of what is left, s, at the place p, refused with n: for 2 all of it, else a field
+--   fault_in r s         the fault of a token s by its reading r: nothing where it is accepted
+--   fault_of s           the fault of a token; of one that is too long the first octet too many
 use Rattle.std.specs.Prelude.{ℕ, ◌+◌, ◌*◌, ◌-◌, cond, not, List, [], ◌∷◌, length, take, drop, leb, ltb, eqb}
 use Rattle.octets.specs.Octets.{le, signed32, negative}
 use Rattle.vector.specs.declared.Vector.{Vector}

@@ -2,22 +2,22 @@
 --
 -- Glossary
 --   part s from end  the octets of s from `from` on, up to `end`
---   digit_of c        the value of a hexadecimal digit of either case; 16, which is none, for any other octet
---   pair_of a b       the octet that two digits stand for; 256, which is none, where either is no digit
+--   digit_of c       the value of a hexadecimal digit of either case; 16, which is none, for any other octet
+--   pair_of a b      the octet that two digits stand for; 256, which is none, where either is no digit
 --   Numeral          a number, or none
 --   numeral          the number that digits of a base stand for, most significant first, where it and all numbers in front of it are at most `most`;
---                    numeralFrom: behind digits already read
---   number_of         what the answer's enum says
---   hexadecimal_of    a number of so many hexadecimal digits; roomOf: a field ROOM
+--                    numeral_from: behind digits already read
+--   number_of        what the answer's enum says
+--   hexadecimal_of   a number of so many hexadecimal digits; room_of: a field ROOM
 --   Octets           octets, or none; behind_all l o: those of o behind l
 --   Front            how many octets stand at the front of a slice, and which; or that they are bad
 --   fit room o       the octets o at the front of a slice of `room` octets, where there is room for them
---   pairs_of s        the octets that the digits s stand for, two an octet
---   octets_of s       what a field OCTETS says; random_of s: what a field RANDOM says
---   decoded_as r d    what the answer's enum says of the slice d
+--   pairs_of s       the octets that the digits s stand for, two an octet
+--   octets_of s      what a field OCTETS says; random_of s: what a field RANDOM says
+--   decoded_as r d   what the answer's enum says of the slice d
 --   Decodes s d o r d'   the field s, decoded into d, is answered by r as the octets o; d' is d afterwards, which is left open where a bad field wrote
---   id_of s           the id with the usual text s; idAs: what the answer says
---   id_places         where the digits of an id's octets stand in its text; octets_at s ks: the octets whose digits stand at places of s
+--   id_of s          the id with the usual text s; id_as: what the answer says
+--   id_places        where the digits of an id's octets stand in its text; octets_at s ks: the octets whose digits stand at places of s
 --   dashed s         the four dashes of an id's text are there
 use Rattle.std.specs.Prelude.{ℕ, ◌+◌, ◌*◌, ◌-◌, ◌/◌, ◌≡◌, Bool, cond, ◌&&◌, List, [], ◌∷◌, ◌++◌, length, take, drop, get_or, eqb, ltb, leb}
 use Rattle.octets.specs.Octets.{same_octets}

@@ -1,14 +1,14 @@
 -- Windows of a listing, one after the other, as a C host asks for them. Document 02, C-17.
 --
 -- Glossary
---   count_in z            how many octets an answer says were written: none where it is a refusal
---   text_in w             the octets that a call wrote into the buffer
---   line_ends v           how many line ends stand in a text
+--   count_in z           how many octets an answer says were written: none where it is a refusal
+--   text_in w            the octets that a call wrote into the buffer
+--   line_ends v          how many line ends stand in a text
 --   ListingEnds          each line of a listing has one line end
---   shown_from s a qs     the texts of windows asked for one after the other, the first from line a, each from the line behind the one before: as many
+--   shown_from s a qs    the texts of windows asked for one after the other, the first from line a, each from the line behind the one before: as many
 --                        lines on as it has line ends
 --   EachFits s a qs      while lines are left, each of them asks for a line and has room for the first
---   reached_from s a qs   the line behind the last that these windows show
+--   reached_from s a qs  the line behind the last that these windows show
 --   HostWindows          such windows from line 0 to the last, joined, are the listing of an accepted token
 --   HostReaches          as many windows as there are lines, each of which fits, get to the last
 use Rattle.std.specs.Prelude.{ℕ, ◌+◌, ◌<◌, ◌≤◌, ◌≡◌, cond, List, [], ◌∷◌, ◌++◌, length, take, get_or, eqb, ℤ, pos, negsuc}

@@ -1,9 +1,9 @@
 -- What a host is answered of the listing. What it is answered in numbers: `Replies`. Document 02, C-17.
 --
 -- Glossary
---   lines_answer s        the number of lines of the listing
---   window_text ls a b room     the text of a window from line a up to line b of ls, as many whole lines as fit into the room
---   window_answer s a b d       the window of the listing from line a up to line b, at the front of the buffer d
+--   lines_answer s   the number of lines of the listing
+--   window_text ls a b room  the text of a window from line a up to line b of ls, as many whole lines as fit into the room
+--   window_answer s a b d    the window of the listing from line a up to line b, at the front of the buffer d
 use Rattle.std.specs.Prelude.{ℕ, cond, List, [], length, ltb, ℤ}
 use Rattle.put.specs.Put.{joined}
 use Rattle.windows.specs.Windows.{fitting, range}

@@ -1,9 +1,9 @@
 -- What the functions of src/ ask of a message, and what they leave in the lent array.
 --
 -- Glossary
---   Fit h m         m, of the layout h, has room for its header, and its vectors keep their rule: as each message that passed its checks
+--   Fit h m          m, of the layout h, has room for its header, and its vectors keep their rule: as each message that passed its checks
 --   shape_in m       the layout of the message m; lines_in h m: the lines of the content of m, of the layout h
---   LineIs r d d' l the line l was put at the front of d: d' is the list afterwards, l stands in its first r octets, and those behind it are as they were
+--   LineIs r d d' l  the line l was put at the front of d: d' is the list afterwards, l stands in its first r octets, and those behind it are as they were
 use Rattle.std.specs.Prelude.{ℕ, ◌≤◌, ◌≡◌, true, List, length, take}
 use Rattle.io.specs.Counts.{IsPrefixLen}
 use Rattle.message.specs.Layout.{Shape, head_of, shape_of, header_of, content_of, vectors_of}

@@ -3,9 +3,9 @@
 -- Glossary
 --   message_line p h    a message's own line: its place in the token and its header's fields; lengths: the last two of these
 --   scheme_line k i     a scheme: its place in the list, and its id
---   span v             where a vector of octets lies, as its offset and length are stored
---   extension_line k e  an extension; exchange_line, checksum_line, error_line, alertLine: what the other contents hold beside schemes
---   numbered f xs      a line f for each of xs, with its place in the list; numberedFrom: where the first has another place
+--   span v              where a vector of octets lies, as its offset and length are stored
+--   extension_line k e  an extension; exchange_line, checksum_line, error_line, alert_line: what the other contents hold beside schemes
+--   numbered f xs       a line f for each of xs, with its place in the list; numbered_from: where the first has another place
 --   content_lines m c   the lines of the content c of the message m
 --   message_lines p m   all lines of the message m at the place p
 --   end_line n k        the last line of an accepted token of n messages and k octets; refused_line n p: the only line of a refused one

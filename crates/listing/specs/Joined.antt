@@ -1,10 +1,10 @@
 -- The listing of joined tokens. Document 02, C-21.
 --
 -- Glossary
---   front_lines s   the lines of the token s without the last
---   moved_lines n t the lines of the messages of the token t, with `at` of each message moved by n
---   JoinedListing  the listing of two joined tokens, without its last line, is the first's without its last, then the second's with `at` moved
---   MovedMessage   `at` stands in the first line of a message, and its other lines are the same at every place
+--   front_lines s    the lines of the token s without the last
+--   moved_lines n t  the lines of the messages of the token t, with `at` of each message moved by n
+--   JoinedListing    the listing of two joined tokens, without its last line, is the first's without its last, then the second's with `at` moved
+--   MovedMessage     `at` stands in the first line of a message, and its other lines are the same at every place
 use Rattle.std.specs.Prelude.{ℕ, ◌+◌, ◌-◌, ◌≤◌, ◌≡◌, List, ◌∷◌, ◌++◌, length, take, drop}
 use Rattle.message.specs.Layout.{head_of}
 use Rattle.token.specs.Token.{Placed, Accepted, token_of}

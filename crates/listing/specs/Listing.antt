@@ -3,9 +3,9 @@
 -- Glossary
 --   all_lines ms    the lines of messages
 --   reading_lines   the lines of a reading; token_lines s: those of the token s; lines_of s: their texts
---   ShortLines     every line of a token has fewer than 128 octets
---   ListingWindows windows of a listing, in buffers of at least 128 octets, one after the other, hold all of it
---   FewLines       a listing has at most one line more than its token has octets
+--   ShortLines      every line of a token has fewer than 128 octets
+--   ListingWindows  windows of a listing, in buffers of at least 128 octets, one after the other, hold all of it
+--   FewLines        a listing has at most one line more than its token has octets
 use Rattle.std.specs.Prelude.{ℕ, ◌+◌, ◌<◌, ◌≤◌, ◌≡◌, length, get_or}
 use mathlib.Core.List.{List, [], ◌∷◌, ◌++◌, Memᴰ}
 use Rattle.token.specs.Token.{Placed, Reading, Accepted, Refused, token_of}

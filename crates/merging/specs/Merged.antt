@@ -2,12 +2,12 @@
 --
 -- Glossary
 --   number_in, place_in  the number and the place of the refusal that a cut ends with, 0 where it ends with none
---   number_of           the number of a message's refusal, 0 where it is read
---   cut_by ch           a cut, as src/ answers it; file_cut s: that of a file, 1 before 2 to 6
---   ran_in q s          the longest run at the front of the octets s, numbered from q on: how many octets and messages it has
---   next_by             a run of a side, as a turn
---   next_in q i a       the next turn of what is left of two files, numbered from q on: no messages where there is none
---   turns_left q i a    the turns of what is left of two files, numbered from q on
+--   number_of            the number of a message's refusal, 0 where it is read
+--   cut_by ch            a cut, as src/ answers it; file_cut s: that of a file, 1 before 2 to 6
+--   ran_in q s           the longest run at the front of the octets s, numbered from q on: how many octets and messages it has
+--   next_by              a run of a side, as a turn
+--   next_in q i a        the next turn of what is left of two files, numbered from q on: no messages where there is none
+--   turns_left q i a     the turns of what is left of two files, numbered from q on
 use Rattle.std.specs.Prelude.{ℕ, ◌+◌, Bool, true, false, cond, List, [], ◌∷◌, length, leb, ltb}
 use Rattle.message.specs.Check.{Verdict, read, refused}
 use Rattle.token.specs.Token.{Chain, end, refused as cut_at, message}

@@ -1,20 +1,20 @@
 -- The checks of one message: one ordered table of (number, test) over what the message says. Document 01, "Refusal numbers".
 --
 -- Glossary
---   Row                  a test, with the number that refuses where it fails
---   all_pass              every test of a table holds; firstFailing: the number of the first that fails, 0 where none does
---   FirstFails n rs      the first test of a table that fails has the number n
---   RefusesFirst         a table that does not pass refuses with the first that fails; FirstRefuses: and the first that fails is what it refuses with
---   common_rows n h       2 to 6, of a head with n octets left from the message's first on; SIGNATURE: the one that 3 asks for
---   version_ok            10; allKeepRule: 11; none_critical, criticalOk: 12; checksumOk: 13
---   content_rows          10 to 13, of a message of `len` octets
+--   Row                    a test, with the number that refuses where it fails
+--   all_pass               every test of a table holds; first_failing: the number of the first that fails, 0 where none does
+--   FirstFails n rs        the first test of a table that fails has the number n
+--   RefusesFirst           a table that does not pass refuses with the first that fails; FirstRefuses: and the first that fails is what it refuses with
+--   common_rows n h        2 to 6, of a head with n octets left from the message's first on; SIGNATURE: the one that 3 asks for
+--   version_ok             10; all_keep_rule: 11; none_critical, critical_ok: 12; checksum_ok: 13
+--   content_rows           10 to 13, of a message of `len` octets
 --   body_rows, refusal_of  10 to 13 of a message of a given layout, and the first of them that refuses it; front_rows s: of the message at the front of s
---   message_rows s        2 to 6 and 10 to 13 of the message at the front of s: all that can be asked of a message by itself
---   Verdict              what a message's reading says: its header's fields, or a refusal's number; said gives it for the answers of src/
---   verdict rs v         the verdict v, where every row of rs passes
---   fields_of h           the header's fields that later checks and the listing go by
---   header_verdict        the verdict by 2 to 6; bodyVerdict: by 10 to 13; messageVerdict: by both
---   Passed s h           the header of the message at the front of s passed 2 to 6 as h; HeaderPassed: as each that reading answers did
+--   message_rows s         2 to 6 and 10 to 13 of the message at the front of s: all that can be asked of a message by itself
+--   Verdict                what a message's reading says: its header's fields, or a refusal's number; said gives it for the answers of src/
+--   verdict rs v           the verdict v, where every row of rs passes
+--   fields_of h            the header's fields that later checks and the listing go by
+--   header_verdict         the verdict by 2 to 6; body_verdict: by 10 to 13; message_verdict: by both
+--   Passed s h             the header of the message at the front of s passed 2 to 6 as h; HeaderPassed: as each that reading answers did
 use Rattle.std.specs.Prelude.{ℕ, ◌≤◌, ◌≡◌, Bool, true, false, cond, not, ◌&&◌, ◌⊎◌, List, [], ◌∷◌, ◌++◌, length, leb, eqb}
 use Rattle.octets.specs.Octets.{le, signed32, negative}
 use Rattle.vector.specs.declared.Vector.{Vector}

@@ -1,8 +1,8 @@
 -- What the choice, once it is not refused, relies on, and the answer after its message.
 --
 -- Glossary
---   ChoiceReady       a choice may be made: some scheme is left, and the kept places are the list's
---   named_choice r m a the answer a of the writer, with the choice of the record r; a refusal with this record
+--   ChoiceReady         a choice may be made: some scheme is left, and the kept places are the list's
+--   named_choice r m a  the answer a of the writer, with the choice of the record r; a refusal with this record
 use Rattle.std.specs.Prelude.{ℕ, ◌≡◌, true, cond, eqb}
 use Rattle.schemes.specs.Sets.{kept_below, named}
 use Rattle.conversation.specs.declared.Record.{Record}

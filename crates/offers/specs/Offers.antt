@@ -1,17 +1,17 @@
 -- The schemes that NEGO messages list. Document 02, C-23. A message stands here as the list of its schemes.
 --
 -- Glossary
---   entered l s      l with s behind it, where l does not mention s and has fewer than 64; entered_all l ss: with each of ss entered in order
---   mentioned ms     the schemes that messages list, one message behind the other
+--   entered l s       l with s behind it, where l does not mention s and has fewer than 64; entered_all l ss: with each of ss entered in order
+--   mentioned ms      the schemes that messages list, one message behind the other
 --   first_schemes ms  the first 64 different schemes that messages list, by first mention
---   listing s ms     how many messages list s, a repeat inside one message counting once; listings l ms: of each scheme of l
+--   listing s ms      how many messages list s, a repeat inside one message counting once; listings l ms: of each scheme of l
 --   all_in m l        every scheme of m stands in l
---   beyond l ms      how many messages list a scheme that is not in l
---   Offers           the schemes that are counted one by one, the count of each, and how many messages list others
+--   beyond l ms       how many messages list a scheme that is not in l
+--   Offers            the schemes that are counted one by one, the count of each, and how many messages list others
 --   offers_of ms      those of messages
---   ticked l ns m    counts of the schemes of l, each with one more where m lists it; a scheme with no count yet had none
---   with_offer t m    t with one message more; withOffers: with each of messages in order
---   OfferCounted     counting one message more is counting all of them
+--   ticked l ns m     counts of the schemes of l, each with one more where m lists it; a scheme with no count yet had none
+--   with_offer t m    t with one message more; with_offers: with each of messages in order
+--   OfferCounted      counting one message more is counting all of them
 use Rattle.std.specs.Prelude.{ℕ, ◌+◌, ◌≡◌, Bool, true, cond, not, ◌&&◌, ◌||◌, List, [], ◌∷◌, ◌++◌, length, leb}
 use Rattle.schemes.specs.Lists.{Id, mem}
 use Rattle.coverage.specs.Coverage.{one}

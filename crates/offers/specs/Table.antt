@@ -1,16 +1,16 @@
 -- The table of schemes as the record keeps it: 64 places, 16 octets an id, and a count for each.
 --
 -- Glossary
---   names_in t         the ids of a table
---   offers_in t        what a table says
---   pick_table         one of two tables
---   entered_in t s     t with s entered; entered_all_in t ss: with each of ss
---   ticked_from        of n counts from place k on, each with one more where ss has its id
---   ticked_in t ss     t with the counts of a message more, whose schemes are entered; offered_in t ss: t with a message more
---   Counting t        a table that has room to count in
---   Kept t            the table's arrays have their sizes, and it has at most 64 ids
---   AllIds ss         each of ss has 16 octets
---   TableOffers       the table with a message more says what it said, with a message more
+--   names_in t      the ids of a table
+--   offers_in t     what a table says
+--   pick_table      one of two tables
+--   entered_in t s  t with s entered; entered_all_in t ss: with each of ss
+--   ticked_from     of n counts from place k on, each with one more where ss has its id
+--   ticked_in t ss  t with the counts of a message more, whose schemes are entered; offered_in t ss: t with a message more
+--   Counting t      a table that has room to count in
+--   Kept t          the table's arrays have their sizes, and it has at most 64 ids
+--   AllIds ss       each of ss has 16 octets
+--   TableOffers     the table with a message more says what it said, with a message more
 use Rattle.std.specs.Prelude.{ℕ, zero, suc, ◌+◌, ◌*◌, ◌≤◌, ◌<◌, ◌≡◌, Bool, true, false, not, ◌||◌, List, [], ◌∷◌, length, get_or, set, take, leb}
 use Rattle.octets.specs.Octets.{octets}
 use Rattle.message.specs.Show.{ids_at}

@@ -1,11 +1,11 @@
 -- Octets put into a list of octets, and numbers as octets. Document 01, "Layouts".
 --
 -- Glossary
---   put d at v               d with the octets v from `at` on, and every other octet as it was
+--   put d at v                d with the octets v from `at` on, and every other octet as it was
 --   octets_of k x             the number x in k octets, least significant octet first
---   unsigned32 z             the 32-bit number that stands for the signed number z, in two's complement
---   joined fs                the octets of the fields fs, one behind the other
---   Written d at n v d' next the n octets v were put into d at `at`: d' is the list afterwards, `next` the place behind them
+--   unsigned32 z              the 32-bit number that stands for the signed number z, in two's complement
+--   joined fs                 the octets of the fields fs, one behind the other
+--   Written d at n v d' next  the n octets v were put into d at `at`: d' is the list afterwards, `next` the place behind them
 use Rattle.std.specs.Prelude.{◌≡◌, ℕ, zero, suc, ◌+◌, ◌-◌, ◌/◌, ◌%◌, List, [], ◌∷◌, ◌++◌, take, drop, length, ℤ, pos, negsuc}
 
 unfoldable pub put : List ℕ → ℕ → List ℕ → List ℕ

@@ -1,13 +1,13 @@
 -- What the functions of src/ answer and ask, beside the definitions of a conversation.
 --
 -- Glossary
---   judged_as         what an answer of src/ says of a token
+--   judged_as          what an answer of src/ says of a token
 --   cut_by, halted_by  a message's refusal by 2 to 13, or by 14 and 15, at its place
---   Taking r size n  what the record after a token of n messages relies on
---   with_sets         a record with another common set and other kept places
---   moved_by          what every accepted token changes in a record
---   Judging          what 16 and the record rely on after the messages
---   halted_as         the answer to a token that is halted
+--   Taking r size n    what the record after a token of n messages relies on
+--   with_sets          a record with another common set and other kept places
+--   moved_by           what every accepted token changes in a record
+--   Judging            what 16 and the record rely on after the messages
+--   halted_as          the answer to a token that is halted
 use Rattle.std.specs.Prelude.{ℕ, ◌≤◌, ◌≡◌, List, length}
 use Rattle.message.specs.Check.{Verdict, read, refused as V·refused}
 use Rattle.conversation.specs.declared.Record.{Record}

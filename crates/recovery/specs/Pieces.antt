@@ -1,20 +1,20 @@
 -- What holds of the pieces of a damaged capture. Document 02, C-13.
 --
 -- Glossary
---   start, extent       where a piece begins, and how many octets it has
---   FollowOn a ps e     the pieces ps follow on from the place a up to e: each has octets, and begins where the one before it ends
---   octets_in s p        the octets of the piece p of the file s; joined_in s ps: those of pieces, one behind the other
---   Apart ps            no two skipped stretches stand side by side
---   moved_piece n p      a piece with its place moved by n; movedPieces: pieces
---   PiecesCover         the pieces of a file follow on from its first octet to its end, and their octets, joined, are the file's
---   PiecesApart         no two skipped stretches of a file stand side by side
---   TakenReadable       where a message is taken, a message can be read, and it is that one
---   SkippedUnreadable   at no place of a skipped stretch can a message be read
---   TailAlone           from a message that is taken on, the pieces are those of the tail read alone, with places moved
---   TailLines           and so are the lines, the last aside
---   DamageBefore        two files that differ only before a place where each takes a message have, from there on, the same pieces but for their places
---   WholeToken          a token that the structural reading accepts is recovered whole: its messages, nothing skipped, and the lines of its listing
---   ShortRecovered      every line has fewer than 128 octets; FewRecovered: there is at most one line more than the file has octets
+--   start, extent      where a piece begins, and how many octets it has
+--   FollowOn a ps e    the pieces ps follow on from the place a up to e: each has octets, and begins where the one before it ends
+--   octets_in s p      the octets of the piece p of the file s; joined_in s ps: those of pieces, one behind the other
+--   Apart ps           no two skipped stretches stand side by side
+--   moved_piece n p    a piece with its place moved by n; moved_pieces: pieces
+--   PiecesCover        the pieces of a file follow on from its first octet to its end, and their octets, joined, are the file's
+--   PiecesApart        no two skipped stretches of a file stand side by side
+--   TakenReadable      where a message is taken, a message can be read, and it is that one
+--   SkippedUnreadable  at no place of a skipped stretch can a message be read
+--   TailAlone          from a message that is taken on, the pieces are those of the tail read alone, with places moved
+--   TailLines          and so are the lines, the last aside
+--   DamageBefore       two files that differ only before a place where each takes a message have, from there on, the same pieces but for their places
+--   WholeToken         a token that the structural reading accepts is recovered whole: its messages, nothing skipped, and the lines of its listing
+--   ShortRecovered     every line has fewer than 128 octets; FewRecovered: there is at most one line more than the file has octets
 use Rattle.std.specs.Prelude.{ℕ, ◌+◌, ◌<◌, ◌≤◌, ◌≡◌, true, false, length, take, drop, get_or}
 use mathlib.Core.List.{List, [], ◌∷◌, ◌++◌, map, Memᴰ}
 use Rattle.message.specs.Layout.{front}

@@ -1,13 +1,13 @@
 -- Reading a damaged capture: the messages that can still be read, and the stretches between them. Document 02, C-13.
 --
 -- Glossary
---   readable s         the octets s begin with a message that passes every check of a message by itself
+--   readable s          the octets s begin with a message that passes every check of a message by itself
 --   taken_from s k p    the messages taken of the octets s, which begin at the place p and with k octets of the message taken before
 --   taken_of s          the messages taken of the file s
---   Piece              a stretch of a file: a message that is taken, or octets that are skipped, from a place on and as many
+--   Piece               a stretch of a file: a message that is taken, or octets that are skipped, from a place on and as many
 --   skip_to a b ps      the pieces ps, behind the stretch that is skipped from a up to, not including, b, where there is one
 --   pieces_from a ms e  the pieces from the place a up to the end e, the messages taken there being ms; pieces_of s: those of the file s
---   skipped_line p n    the line of a skipped stretch; pieceLines: the lines of a piece; allPieceLines: of pieces
+--   skipped_line p n    the line of a skipped stretch; piece_lines: the lines of a piece; all_piece_lines: of pieces
 --   recovery_lines s    the lines of the file s; recovered_lines s: their texts
 use Rattle.std.specs.Prelude.{ℕ, zero, suc, ◌+◌, ◌-◌, Bool, cond, List, [], ◌∷◌, ◌++◌, length, leb, ltb}
 use Rattle.message.specs.Layout.{size, front}

@@ -1,12 +1,12 @@
 -- The reading of a damaged capture at work, octet by octet or message by message: what the functions of src/ promise.
 --
 -- Glossary
---   Scanned           a reading at work: how far it is, and its window's buffer; scanned builds one
---   stretch a b       the texts of the line of the stretch skipped from a up to, not including, b; none where there is none
+--   Scanned            a reading at work: how far it is, and its window's buffer; scanned builds one
+--   stretch a b        the texts of the line of the stretch skipped from a up to, not including, b; none where there is none
 --   taken_by s t n     the reading s after a message of n octets is taken, whose lines come to t; skipped_by s d: after an octet is skipped
---   advanced r s d    the reading s after one turn, the octets from its place on being r
---   ShowsPieces f t s d  the reading s of the file f, and the buffer d, are what all pieces come to from t on
---   InFile s n        the reading s is inside a file that has n octets from its place on, and that is not too long
+--   advanced r s d     the reading s after one turn, the octets from its place on being r
+--   ShowsPieces f t s  d  the reading s of the file f, and the buffer d, are what all pieces come to from t on
+--   InFile s n         the reading s is inside a file that has n octets from its place on, and that is not too long
 use Rattle.std.specs.Prelude.{ℕ, ◌+◌, ◌≤◌, ◌≡◌, cond, List, [], length}
 use Rattle.message.specs.Layout.{size, front}
 use Rattle.lines.specs.Lines.{message_lines}

@@ -2,16 +2,16 @@
 -- like".
 --
 -- Glossary
---   text_lines s      the lines of a text, without the line feeds that end them; on_first c ls: the lines ls with the octet c in front of the first of them
+--   text_lines s     the lines of a text, without the line feeds that end them; on_first c ls: the lines ls with the octet c in front of the first of them
 --   counts l         the line l is neither empty nor a comment; counted_lines ls: those of ls that count, in order
---   line_at k s       line k, from 0, of those of the text s that count; empty where there are not so many
+--   line_at k s      line k, from 0, of those of the text s that count; empty where there are not so many
 --   Side             what a case says of a side: the name of its file, its marks, and the octets of its list with their number; side builds one
 --   CaseSaid         what a text says: a bad case, or both_sides, the initiator's and the acceptor's
---   sides_by          the case of two names and what their sides are given, where neither is given nothing
---   has_name n        the name n is not empty; withNames: the same case, where neither name is
---   case_in s i a     the case that the text s is, where slices of i and of a octets are lent for the two lists
---   side_as s p g d   what the answer says of a side, whose name stands at the place p of the text s and whose list at the front of the slice d
---   case_as r s d e   the same of the whole answer; d and e are the slices of the initiator's and of the acceptor's list
+--   sides_by         the case of two names and what their sides are given, where neither is given nothing
+--   has_name n       the name n is not empty; with_names: the same case, where neither name is
+--   case_in s i a    the case that the text s is, where slices of i and of a octets are lent for the two lists
+--   side_as s p g d  what the answer says of a side, whose name stands at the place p of the text s and whose list at the front of the slice d
+--   case_as r s d e  the same of the whole answer; d and e are the slices of the initiator's and of the acceptor's list
 use Rattle.std.specs.Prelude.{ℕ, Bool, true, false, cond, not, List, [], ◌∷◌, length, take, get_or, eqb, ltb}
 use Rattle.text.specs.Text.{quoted}
 use Rattle.fields.specs.Fields.{part}

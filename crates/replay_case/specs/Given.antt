@@ -2,7 +2,7 @@
 --
 -- Glossary
 --   behind_word w s    what stands behind the word w at the front of the line s; nothing where it does not begin so
---   Given             what a side is given: marks and the octets of a list, or nothing; gives m k o: the marks m, and k octets o
+--   Given              what a side is given: marks and the octets of a list, or nothing; gives m k o: the marks m, and k octets o
 --   given_as r d       the same of an answer, whose octets stand at the front of the slice d
 --   given_by           what marks and ids give, where neither is bad
 --   given_of w s room  what the line s gives, whose first field has to be w, where a slice of `room` octets is lent

@@ -2,9 +2,9 @@
 --
 -- Glossary
 --   counted_from s at  the lines that count of the text s from a place on, where a line starts
---   NextLine          what is said of the place of the first of them; it has no octets where there is none
---   NameLine          what is said of the place of the name behind the word w in the first of them
---   FourLines         what is said of the places of all four
+--   NextLine           what is said of the place of the first of them; it has no octets where there is none
+--   NameLine           what is said of the place of the name behind the word w in the first of them
+--   FourLines          what is said of the places of all four
 use Rattle.std.specs.Prelude.{ℕ, ◌+◌, ◌≤◌, ◌≡◌, ◌&&◌, List, [], length, drop, get_or, eqb, ltb}
 use Rattle.text.specs.Text.{quoted}
 use Rattle.fields.specs.Fields.{part}

@@ -1,11 +1,11 @@
 -- What `replay` prints beside the listings of its turns. A line is the list of its pieces of text, in order. Document 02, C-19.
 --
 -- Glossary
---   side_text w     the word for a side, with its line's end
---   turn_line k a   the line of the turn k, of the acceptor or not
---   choice_line c   the line of a choice, or of none
---   refused_line    the line of a refusal
---   end_lines e     the line of an ending: none at the last turn
+--   side_text w    the word for a side, with its line's end
+--   turn_line k a  the line of the turn k, of the acceptor or not
+--   choice_line c  the line of a choice, or of none
+--   refused_line   the line of a refusal
+--   end_lines e    the line of an ending: none at the last turn
 use Rattle.std.specs.Prelude.{ℕ, Bool, List, [], ◌∷◌, ◌++◌}
 use Rattle.std.proofs.Math.Option.{Option, none, some}
 use Rattle.text.specs.Text.{quoted, decimal, decimal64, id_text}

@@ -2,12 +2,12 @@
 -- every message read, the replay ends with the same choice and the same transcript."
 --
 -- Glossary
---   AllRead o cs       in the run every message that is written is read
---   MarksAre           every accepted call with marks of an end had these
---   case_of             the case of a run: its lists, marks, and a file of what each end wrote
---   SameTranscript     a record and a transcript have what an end of a run has read and written
---   SameEnds           a replay ends without refusal, with the choice of a run, and both sides as its ends
---   ReplaysRun         a run whose messages are all read is replayed without refusal, to the same choice and the same transcripts
+--   AllRead o cs    in the run every message that is written is read
+--   MarksAre        every accepted call with marks of an end had these
+--   case_of         the case of a run: its lists, marks, and a file of what each end wrote
+--   SameTranscript  a record and a transcript have what an end of a run has read and written
+--   SameEnds        a replay ends without refusal, with the choice of a run, and both sides as its ends
+--   ReplaysRun      a run whose messages are all read is replayed without refusal, to the same choice and the same transcripts
 use Rattle.std.specs.Prelude.{ℕ, ◌≤◌, ◌≡◌, Bool, true, false, List, length, take}
 use Rattle.std.proofs.Math.Option.{some}
 use Rattle.token.specs.Split.{join}

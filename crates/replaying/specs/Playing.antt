@@ -2,25 +2,25 @@
 --
 -- Glossary
 --   file_if, case_with   a file that could be opened, or none; a case, as src/ is given it
---   whose_as            whose a refusal is, by its number; ending_as f: the ending that src/ answers as f
---   files_ending        what ends a replay before play, the lists aside
---   Summary            what src/ answers of a replay: how many turns were accepted, the sides and the ending; summary: of a replay
---   counted n u        a summary with n turns more
+--   whose_as             whose a refusal is, by its number; ending_as f: the ending that src/ answers as f
+--   files_ending         what ends a replay before play, the lists aside
+--   Summary              what src/ answers of a replay: how many turns were accepted, the sides and the ending; summary: of a replay
+--   counted n u          a summary with n turns more
 --   sides_in, played_as  the sides of a replay at work, and its summary
---   left_of s i a       the turns that are left of the files i and a
---   marked m           a case of marks alone
---   rest_of             what is left to be played of a replay at work
---   begun_with          a replay before its first turn
---   Level w r          two records are level: both have read and written the same
---   Fine i a s         a replay at work is inside the files i and a, and its records are level
---   Begun              a replay at work has not begun: what is left of it is the whole
---   Stood, stood       a replay at work, with its transcript
---   role_of x s         the record of a role; place_of: its place in its file; fileBy: that file
---   went_on, ended_with  a replay at work after an accepted turn, and after a refused one; whoseIn: whose the refusal is
---   heard_by            either, by the reader's outcome; after_turn: by the turn
---   Ready s k n        what a turn of k octets and n messages asks of a replay at work
+--   left_of s i a        the turns that are left of the files i and a
+--   marked m             a case of marks alone
+--   rest_of              what is left to be played of a replay at work
+--   begun_with           a replay before its first turn
+--   Level w r            two records are level: both have read and written the same
+--   Fine i a s           a replay at work is inside the files i and a, and its records are level
+--   Begun                a replay at work has not begun: what is left of it is the whole
+--   Stood, stood         a replay at work, with its transcript
+--   role_of x s          the record of a role; place_of: its place in its file; file_by: that file
+--   went_on, ended_with  a replay at work after an accepted turn, and after a refused one; whose_in: whose the refusal is
+--   heard_by             either, by the reader's outcome; after_turn: by the turn
+--   Ready s k n          what a turn of k octets and n messages asks of a replay at work
 --   octets_in, turn_in   the octets of the turn that a replay at work has just played, and the turn
---   Further, Ended     a replay at work has played one more turn; it has ended; Goes: one of the two
+--   Further, Ended       a replay at work has played one more turn; it has ended; Goes: one of the two
 use Rattle.std.specs.Prelude.{ℕ, ◌+◌, ◌*◌, ◌-◌, ◌<◌, ◌≤◌, ◌≡◌, Bool, true, false, cond, not, ◌⊎◌, List, [], ◌∷◌, length, take, drop, eqb}
 use Rattle.std.proofs.Math.Option.{Option, none, some}
 use Rattle.token.specs.Walk.{Accepts}

@@ -1,24 +1,24 @@
 -- What a host is answered in numbers: of a token, its messages and their vectors. Document 02, C-17.
 --
 -- Glossary
---   Reply A              what a call gives, or the number of its refusal
---   and_then r f          the reply that f gives behind r; a refusal stays
---   reading_reply         the messages of a reading, or its refusal; messages_reply s: those of the token s
---   item_at xs k          item k of a list, 19 beyond it
---   fits room v          the octets v, 16 where they don't fit into the room
---   message_in s k        message k of the token s
---   lack_of r             the number that refuses a message which a reading has not
---   answer_of r           a reply in numbers as one signed number: a refusal is its number negated
---   Lent                 an answer, with the caller's buffer afterwards; lent gives it for those of src/
---   written_in d r        the octets of a reply at the front of the buffer d, their number as answer; a refusal leaves the buffer as it was
---   messages_answer s     the number of messages
---   fault_place r         the place of a reading's refusal, 0 where it accepts; place_answer s: that of the token s
---   field_answer s k i    field i of message k: 0 token place, 1 type, 2 sequence number, 3 header length, 4 message length
---   conversation_answer s k d   the conversation of message k, at the front of the buffer d
---   vectors_answer s k    the number of vectors of message k
---   vector_place_answer s k i    the token place of vector i of message k; vectorLengthAnswer: its length in octets
---   table_answer s d      the table of all messages, at the front of the buffer d
---   FrontAccepted        what lies before the message at fault, where anything does, is an accepted token
+--   Reply A                what a call gives, or the number of its refusal
+--   and_then r f           the reply that f gives behind r; a refusal stays
+--   reading_reply          the messages of a reading, or its refusal; messages_reply s: those of the token s
+--   item_at xs k           item k of a list, 19 beyond it
+--   fits room v            the octets v, 16 where they don't fit into the room
+--   message_in s k         message k of the token s
+--   lack_of r              the number that refuses a message which a reading has not
+--   answer_of r            a reply in numbers as one signed number: a refusal is its number negated
+--   Lent                   an answer, with the caller's buffer afterwards; lent gives it for those of src/
+--   written_in d r         the octets of a reply at the front of the buffer d, their number as answer; a refusal leaves the buffer as it was
+--   messages_answer s      the number of messages
+--   fault_place r          the place of a reading's refusal, 0 where it accepts; place_answer s: that of the token s
+--   field_answer s k i     field i of message k: 0 token place, 1 type, 2 sequence number, 3 header length, 4 message length
+--   conversation_answer s  k d   the conversation of message k, at the front of the buffer d
+--   vectors_answer s k     the number of vectors of message k
+--   vector_place_answer s k i   the token place of vector i of message k; vector_length_answer: its length in octets
+--   table_answer s d       the table of all messages, at the front of the buffer d
+--   FrontAccepted          what lies before the message at fault, where anything does, is an accepted token
 use Rattle.std.specs.Prelude.{ℕ, zero, suc, ◌<◌, ◌≡◌, cond, List, [], ◌∷◌, length, take, leb, ℤ, pos, neg_ℤ}
 use Rattle.vector.specs.Vector.{extent}
 use Rattle.message.specs.Layout.{head_of}

@@ -2,12 +2,12 @@
 -- conversation looks like".
 --
 -- Glossary
---   wrote_text v        a written message: its octets in upper-case digits
---   choice_text i n     a choice, after a written message: its id, and how many were left
---   names_choice v      the verb v is that of a call that answers one
---   numbers_line        a line of two numbers, each after its words
---   used_line i a       the last line
---   report_of c a m     the line of the command c, whose call answered a and wrote the message m
+--   wrote_text v     a written message: its octets in upper-case digits
+--   choice_text i n  a choice, after a written message: its id, and how many were left
+--   names_choice v   the verb v is that of a call that answers one
+--   numbers_line     a line of two numbers, each after its words
+--   used_line i a    the last line
+--   report_of c a m  the line of the command c, whose call answered a and wrote the message m
 use Rattle.std.specs.Prelude.{ℕ, Bool, cond, ◌||◌, List, [], ◌∷◌, ◌++◌, length, eqb}
 use Rattle.text.specs.Text.{quoted, decimal, decimal64, digits_of, id_text}
 use Rattle.conversation.specs.declared.Answer.{Answer}

@@ -2,26 +2,27 @@
 --
 -- Glossary
 --   types_fit xs          the types of items are numbers of 32 bits
---   InRange c            these, and a signed number of the contents, are of 32 bits
---   Sent h c             a message that can be written: encodable, with a sequence number of 32 bits and whole ids
+--   InRange c             these, and a signed number of the contents, are of 32 bits
+--   Sent h c              a message that can be written: encodable, with a sequence number of 32 bits and whole ids
 --   shape_for c           the layout of the contents
---   head_read, content_read   the header and the content that reading finds; vectorOf: a vector with its stored offset
---   placed_vector         the vector of what stands at a place: offset 0 where it is empty; elements_read q xs: the elements of xs, whose first value stands at q
+--   head_read, content_read   the header and the content that reading finds; vector_of: a vector with its stored offset
+--   placed_vector         the vector of what stands at a place: offset 0 where it is empty; elements_read q xs: the elements of xs, whose first value stands
+--                         at q
 --   nested_from           what the reader hands back of the values of n elements, from element k on
 --   ordinary_in c         the contents have no critical extension
---   Shows c m            what the readers of vectors and signed numbers hand back of the message m is what was written
---   ReadsBack h c r      the written message, followed by any octets r, reads as what was written
---   Stands d at h c next d'   the written message stands at `at` in d', which else is d; `next` is the place behind it
---   Outgoing             a message to write; octets_of_all gives the written messages of a list
---   InSequence q v ms    messages to write that are numbered on from q, of the conversation v; AllOrdinary: none has a critical extension
+--   Shows c m             what the readers of vectors and signed numbers hand back of the message m is what was written
+--   ReadsBack h c r       the written message, followed by any octets r, reads as what was written
+--   Stands d at h c next  d'   the written message stands at `at` in d', which else is d; `next` is the place behind it
+--   Outgoing              a message to write; octets_of_all gives the written messages of a list
+--   InSequence q v ms     messages to write that are numbered on from q, of the conversation v; AllOrdinary: none has a critical extension
 --   zeros, pads_zero      octets are zero; all pads are
---   PadsWritten          the pads of every message that can be written are zero
---   LeOctets             a number's octets read as that number; SignedBack: two's complement, there and back
---   ReadEncode           demand 2's round trip: every message that can be written reads back, whatever follows it; with a critical extension, as 12
---   CriticalRefused      a token in which a written message has a critical extension is refused with 12 at the place of the first such message
---   NegoBegins           what begins with a written NEGO reads as that NEGO: its type and its schemes
---   WrittenAccepted      a token of written messages is accepted, and its list is those messages
---   StoredStands         where a writer answers a next place, its message stands there, and no other octet has changed
+--   PadsWritten           the pads of every message that can be written are zero
+--   LeOctets              a number's octets read as that number; SignedBack: two's complement, there and back
+--   ReadEncode            demand 2's round trip: every message that can be written reads back, whatever follows it; with a critical extension, as 12
+--   CriticalRefused       a token in which a written message has a critical extension is refused with 12 at the place of the first such message
+--   NegoBegins            what begins with a written NEGO reads as that NEGO: its type and its schemes
+--   WrittenAccepted       a token of written messages is accepted, and its list is those messages
+--   StoredStands          where a writer answers a next place, its message stands there, and no other octet has changed
 use Rattle.std.specs.Prelude.{ℕ, zero, suc, ◌+◌, ◌*◌, ◌/◌, ◌<◌, ◌≤◌, ◌^◌, ◌≡◌, Bool, true, false, cond, ◌&&◌, List, [], ◌∷◌, ◌++◌, length, take, drop, get_or, eqb, ltb, ℤ}
 use Rattle.std.specs.Int.Signed.{mag}
 use Rattle.octets.specs.Octets.{le, signed32}

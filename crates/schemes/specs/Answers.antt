@@ -1,14 +1,14 @@
 -- What the functions of this crate answer, where it is more than a number. Document 01, "Who may send what, and when".
 --
 -- Glossary
---   kept_of ps          places as the record keeps them: in order, zeros behind them, and how many there are; places_in k: the places again
+--   kept_of ps         places as the record keeps them: in order, zeros behind them, and how many there are; places_in k: the places again
 --   Noting k p n       what has to hold for the place p to be noted in k: k has room for it
---   marked_at ks m      the set of the k whose own place ks[k] has its mark in m
---   places_from k n     the n places from k on
---   left_places n c m   of the first n places of the own list, those at the bits of c less the marks m
---   left_of ps          the first of the places left (0 where there is none) and how many there are
---   with_bit m k        the set m and k
---   schemes_of l        ids as octets with zeros behind them, and how many there are
+--   marked_at ks m     the set of the k whose own place ks[k] has its mark in m
+--   places_from k n    the n places from k on
+--   left_places n c m  of the first n places of the own list, those at the bits of c less the marks m
+--   left_of ps         the first of the places left (0 where there is none) and how many there are
+--   with_bit m k       the set m and k
+--   schemes_of l       ids as octets with zeros behind them, and how many there are
 use Rattle.std.specs.Prelude.{ℕ, zero, suc, ◌+◌, ◌^◌, ◌≤◌, ◌<◌, ◌≡◌, false, cond, List, [], ◌∷◌, length, get_or, take}
 use Rattle.schemes.specs.Lists.{Id, bit, join_ids}
 use Rattle.schemes.specs.Sets.{set_of, has, open_places, pad_to}

@@ -1,14 +1,14 @@
 -- Lists of schemes, failure marks, and the choice. Document 01, "Who may send what, and when".
 --
 -- Glossary
---   Id                a scheme id: its octets
---   mem s l           l mentions s; place l s: the place of the first mention, from 0, or l's length where there is none
---   distinct l        no scheme stands in l twice
---   keep p l          those of l with p, in l's order; first l: the first of a list of schemes
---   bit m k           bit k of the set m
---   marked own m s    the own list's marks m have s: bit k for place k of the own list
+--   Id                 a scheme id: its octets
+--   mem s l            l mentions s; place l s: the place of the first mention, from 0, or l's length where there is none
+--   distinct l         no scheme stands in l twice
+--   keep p l           those of l with p, in l's order; first l: the first of a list of schemes
+--   bit m k            bit k of the set m
+--   marked own m s     the own list's marks m have s: bit k for place k of the own list
 --   usable, left_over  listed by both ends and marked by neither; the acceptor's list, with those only
---   rule2             the choice: the first of them
+--   rule2              the choice: the first of them
 --   reply_of           the reply's list: the acceptor's list, with the schemes that the initiator lists and the acceptor has not marked
 --   one_to16 l         1 to 16 different schemes; whole_ids l: each has 16 octets
 --   join_ids l         the octets of the schemes, one behind the other

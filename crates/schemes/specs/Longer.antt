@@ -1,11 +1,11 @@
 -- A longer offer: what may change from one conversation to another, and what then holds of the choice. Demand 3, on lists.
 --
 -- Glossary
---   Within l k     l is k with some schemes left out: nothing lost, nothing reordered
---   Longer         the acceptor's list gains schemes; the initiator's gains some and may be reordered
---   SameMarks      the marks m' by the list own' are, for the schemes that both ends listed before, the marks m by the list own
---   NoLater        the choice c' stands no later than c in the new acceptor's list; if it is another, not both old lists had it
---   LongerOffer    demand 3 on lists: behind a longer offer with the same marks, what rule 2 chooses stands no later
+--   Within l k   l is k with some schemes left out: nothing lost, nothing reordered
+--   Longer       the acceptor's list gains schemes; the initiator's gains some and may be reordered
+--   SameMarks    the marks m' by the list own' are, for the schemes that both ends listed before, the marks m by the list own
+--   NoLater      the choice c' stands no later than c in the new acceptor's list; if it is another, not both old lists had it
+--   LongerOffer  demand 3 on lists: behind a longer offer with the same marks, what rule 2 chooses stands no later
 use Rattle.std.specs.Prelude.{ℕ, ◌≤◌, ◌≡◌, true, List, [], ◌∷◌}
 use Rattle.std.proofs.Math.Option.{some}
 use Rattle.schemes.specs.Lists.{Id, mem, place, distinct, marked, rule2}

@@ -3,18 +3,18 @@
 -- Glossary
 --   set_of p l           the set of the places of l with p
 --   common_set own peer  the acceptor's common schemes: bit k for place k of the own list
---   left own c m        the own schemes at the bits of c less those of m, in the own order
---   has p ps            the place p is one of ps; noted n p ps: ps, with p behind them where it is one of n and not there yet
---   mentions own l ps   ps, with the own places of the ids of l noted in order
+--   left own c m         the own schemes at the bits of c less those of m, in the own order
+--   has p ps             the place p is one of ps; noted n p ps: ps, with p behind them where it is one of n and not there yet
+--   mentions own l ps    ps, with the own places of the ids of l noted in order
 --   kept_places own l    the own places of the reply's different own schemes, in the order of their first mention
---   ones n              the lowest n bits
+--   ones n               the lowest n bits
 --   open_places ks c m   the kept places at the bits of c, less those whose own place m marks
---   named own ks        the schemes at places of the own list
---   below n m           the set m has no bit from n on; keptBelow: no kept place at a bit of c is n or more
+--   named own ks         the schemes at places of the own list
+--   below n m            the set m has no bit from n on; kept_below: no kept place at a bit of c is n or more
 --   pad_to n l           l with zeros behind it, n numbers in all
 --   left_in own l m      of the reply l, what the initiator has left by its own list and marks, by way of kept places and sets
---   AcceptorLeft        what the acceptor has left by its sets is the reply's list
---   InitiatorLeft       what the initiator has left of that reply by its sets is what rule 2 has left
+--   AcceptorLeft         what the acceptor has left by its sets is the reply's list
+--   InitiatorLeft        what the initiator has left of that reply by its sets is what rule 2 has left
 use Rattle.std.specs.Prelude.{ℕ, zero, suc, ◌+◌, ◌*◌, ◌-◌, ◌/◌, ◌^◌, ◌≡◌, Bool, true, false, cond, not, ◌&&◌, ◌||◌, List, [], ◌∷◌, ◌++◌, map, length, get_or, replicate, eqb, ltb}
 use Rattle.schemes.specs.Lists.{Id, mem, place, distinct, bit, left_over, reply_of}
 

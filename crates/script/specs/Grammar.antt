@@ -3,31 +3,31 @@
 --
 -- Glossary
 --   fields_of s        the fields of a line; longer c fs: with the octet c in front of the first of them
---   first, others     the first of some fields, and those behind it; only: the one where there is one alone. No call has an empty field, so that one
---                     stands for none.
---   BAD               the verb of a bad line; OFFER, REPLY, METADATA, EXCHANGE, VERIFY, ALERT, READ and OPEN: those of the calls; TURN: `read` with
---                     nothing behind it; CHOOSE: the word `choose`; CHOOSE-EXCHANGE, CHOOSE-VERIFY and CHOOSE-ALERT: the calls that it begins
---   NONE              no field behind a verb; ROOM, MARKS, CODE, ID, CONVERSATION, OCTETS and IDS: the fields that there are; TYPE is read as CODE;
---                     EXTENSIONS: RANDOM and the EXT behind it; ALERTS: the ALERT ..
---   Form, forms       which fields a call has, by its verb: its number, its id and the rest of its line; form builds one, form_of is that of a verb
---   ends, verbs       the words; speeches: those behind `choose MARKS`; place_of w ws: the place of the word w among ws, from 1, or 0 where it is none of them;
---                     placeFrom: from another number
---                     on
---   verb_of v fs       the verb of a word, where the fields fs stand behind it; speechVerb: that of a place among speeches
+--   first, others      the first of some fields, and those behind it; only: the one where there is one alone. No call has an empty field, so that one
+--                      stands for none.
+--   BAD                the verb of a bad line; OFFER, REPLY, METADATA, EXCHANGE, VERIFY, ALERT, READ and OPEN: those of the calls; TURN: `read` with
+--                      nothing behind it; CHOOSE: the word `choose`; CHOOSE-EXCHANGE, CHOOSE-VERIFY and CHOOSE-ALERT: the calls that it begins
+--   NONE               no field behind a verb; ROOM, MARKS, CODE, ID, CONVERSATION, OCTETS and IDS: the fields that there are; TYPE is read as CODE;
+--                      EXTENSIONS: RANDOM and the EXT behind it; ALERTS: the ALERT ..
+--   Form, forms        which fields a call has, by its verb: its number, its id and the rest of its line; form builds one, form_of is that of a verb
+--   ends, verbs        the words; speeches: those behind `choose MARKS`; place_of w ws: the place of the word w among ws, from 1, or 0 where it is none of
+--                      them; place_from: from another number
+--                      on
+--   verb_of v fs       the verb of a word, where the fields fs stand behind it; speech_verb: that of a place among speeches
 --   ids_of fs          the ids of the fields fs, one behind the other; both joins octets, where none of them is bad
---   number_in          what the number says; idIn: the id; restIn: the rest of the line, where it is octets alone; nothingIn: nothing is left
+--   number_in          what the number says; id_in: the id; rest_in: the rest of the line, where it is octets alone; nothing_in: nothing is left
 --   has_id             an id stands there; past b fs: the fields behind one that is read, or not
---   Items             extensions or alerts, or that a field is bad; these: so many; item_of s: the one of the field s; typed: of a type and a value;
---                     items_in fs: those of the fields fs, in order; both_items joins them, where none of them is bad
+--   Items              extensions or alerts, or that a field is bad; these: so many; item_of s: the one of the field s; typed: of a type and a value;
+--                      items_in fs: those of the fields fs, in order; both_items joins them, where none of them is bad
 --   elements_of xs     the number, types and sizes of the items xs, as the library takes them: a type and a size for each of the first eight, zeros
---                     behind them; filled k ns: the first k of ns; size_of n: a size as a number of 32 bits
+--                      behind them; filled k ns: the first k of ns; size_of n: a size as a number of 32 bits
 --   test_in fs         the word `test` stands in front of the first of the EXT
---   Line              a command, and the octets that it is given; line builds one; badLine: that of a bad line
+--   Line               a command, and the octets that it is given; line builds one; bad_line: that of a bad line
 --   line_as c d        the same of an answer, whose octets stand at the front of the slice d
---   number_then        the line, where a number is good; octetsThen: an id or RANDOM; frontThen: octets at the front of the lent slice; itemsThen: items,
---                     whose values stand behind the octets o; a bad line where it is not
---   from_number        the line from its number on; fromId: from its id on; fromRest: from its rest on; fromRandom: from RANDOM on
---   called            the line of a verb at an end, with the marks of a choice; chosen: that of `choose`, from MARKS on; fieldsLine: that of its fields
+--   number_then        the line, where a number is good; octets_then: an id or RANDOM; front_then: octets at the front of the lent slice; items_then: items,
+--                      whose values stand behind the octets o; a bad line where it is not
+--   from_number        the line from its number on; from_id: from its id on; from_rest: from its rest on; from_random: from RANDOM on
+--   called             the line of a verb at an end, with the marks of a choice; chosen: that of `choose`, from MARKS on; fields_line: that of its fields
 --   command_of s room  what the line s says, where a slice of `room` octets is lent
 use Rattle.std.specs.Prelude.{ℕ, zero, suc, ◌+◌, min, Bool, true, false, cond, not, ◌&&◌, ◌||◌, List, [], ◌∷◌, ◌++◌, map, length, take, get_or, replicate, eqb}
 use Rattle.octets.specs.Octets.{same_octets}

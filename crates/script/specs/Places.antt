@@ -2,7 +2,7 @@
 --
 -- Glossary
 --   fields_from s at  the fields of s from a place on; none where it is behind the line's end
---   Behind           what is said of the place behind a field, where the next one starts
+--   Behind            what is said of the place behind a field, where the next one starts
 use Rattle.std.specs.Prelude.{ℕ, ◌≤◌, ◌<◌, ◌≡◌, cond, List, [], length, drop, ltb}
 use Rattle.script.specs.Grammar.{fields_of, others}
 

@@ -1,12 +1,12 @@
 -- What the private functions promise. No contract of a public function speaks of these.
 --
 -- Glossary
---   end_of s from      where the field ends that starts at `from`: before the next space, or at the line's end
---   FieldEnd          what is said of a field's end
---   item_as r d        what the answer r says, where the value stands at the front of the slice d
---   within room x     the item x, where its value has room in so many octets
---   ItemRead          what is said of the item of a field
---   one_more e t n     the elements e and one behind them, of type t, whose value has n octets
+--   end_of s from   where the field ends that starts at `from`: before the next space, or at the line's end
+--   FieldEnd        what is said of a field's end
+--   item_as r d     what the answer r says, where the value stands at the front of the slice d
+--   within room x   the item x, where its value has room in so many octets
+--   ItemRead        what is said of the item of a field
+--   one_more e t n  the elements e and one behind them, of type t, whose value has n octets
 use Rattle.std.specs.Prelude.{ℕ, ◌+◌, ◌≤◌, ◌≡◌, cond, List, [], ◌∷◌, length, take, set, leb, ltb}
 use Rattle.scan.specs.Scan.{index_of, slice}
 use Rattle.put.specs.Put.{joined}

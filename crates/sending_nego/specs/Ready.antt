@@ -1,9 +1,9 @@
 -- What the writers of a NEGO test before they are given random, and what they rely on once they are not refused.
 --
 -- Glossary
---   tested        the contents of a NEGO but for random, which no test looks at
---   NegoReady     a NEGO of these schemes may be written, and its extensions keep their limits
---   ReplyReady    an ACCEPTOR_NEGO may be written: some scheme is left
+--   tested      the contents of a NEGO but for random, which no test looks at
+--   NegoReady   a NEGO of these schemes may be written, and its extensions keep their limits
+--   ReplyReady  an ACCEPTOR_NEGO may be written: some scheme is left
 use Rattle.std.specs.Prelude.{ℕ, ◌≡◌, Bool, true, List, []}
 use Rattle.elements.specs.declared.Elements.{Elements}
 use Rattle.elements.specs.Elements.{items_of, elements_fit}

@@ -1,10 +1,10 @@
 -- What is proved of files merged into turns. Document 02, C-19.
 --
 -- Glossary
---   numbers_of ms       the numbers of messages
---   Rising ns          no number stands behind a higher one, nor twice
---   InRow i a          the numbers of two files are 0 to the highest, each once, and rise in each file
---   InRowExactly       24 is given exactly where they are not
+--   numbers_of ms  the numbers of messages
+--   Rising ns      no number stands behind a higher one, nor twice
+--   InRow i a      the numbers of two files are 0 to the highest, each once, and rise in each file
+--   InRowExactly   24 is given exactly where they are not
 use Rattle.std.specs.Prelude.{ℕ, ◌<◌, ◌≤◌, ◌≡◌, true}
 use mathlib.Core.List.{List, [], ◌∷◌, ◌++◌, map, Memᴰ}
 use Rattle.message.specs.Layout.{head_of}

@@ -2,14 +2,14 @@
 -- longest run from one side".
 --
 -- Glossary
---   fits s             the octets s begin with a message that passes 2 to 6
+--   fits s              the octets s begin with a message that passes 2 to 6
 --   cut_from s k p      the messages of s, which begins at the place p and with k octets of the message before; cut_of s: of a file
 --   messages_of s       the messages at the front of a file, up to the first that 2 to 6 refuse
 --   run_from q ms       the messages at the front of ms that are numbered on from q: the longest run
---   Turn               a turn: whether it is the acceptor's, and its messages; token t: its messages, joined
+--   Turn                a turn: whether it is the acceptor's, and its messages; token t: its messages, joined
 --   turns_from n q i a  at most n turns, numbered from q on, of the messages i of the initiator's file and a of the acceptor's
 --   turns_of i a        all turns of the messages of two files
---   together ts        how many messages turns have
+--   together ts         how many messages turns have
 --   in_row i a          24: the turns have all messages of both files
 use Rattle.std.specs.Prelude.{ℕ, zero, suc, ◌+◌, ◌-◌, Bool, true, false, cond, List, [], ◌∷◌, length, drop, eqb, ltb}
 use Rattle.message.specs.Layout.{head_of, size, front}

@@ -3,25 +3,25 @@
 --
 -- Glossary
 --   Given            what a side is given: its own list as octets, its marks, and its file, none where that cannot be opened; Case: both sides
---   given_ok g        19, of a list and its marks
+--   given_ok g       19, of a list and its marks
 --   Sides            a record of each role, and the transcript, which is one for both: each has read or written every turn
---   side_of x s       the record of a role; withSides: two sides, by the writer's role
---   marks_of          the marks of a turn's writer
+--   side_of x s      the record of a role; with_sides: two sides, by the writer's role
+--   marks_of         the marks of a turn's writer
 --   Ending           how a replay ends: at the last turn, with a refusal and whose it is, or with a file that cannot be opened
 --   Whose            whose a refusal is; by: the side of a role
---   first_ending      the first of two endings that is not the last turn's
---   file_ending       what ends a replay as a file is opened and cut up: `no file`, 1 to 6; cutEnding: 2 to 6
---   file_of f         the octets of a file, none where it cannot be opened; messages_by g: the messages of a side's file
+--   first_ending     the first of two endings that is not the last turn's
+--   file_ending      what ends a replay as a file is opened and cut up: `no file`, 1 to 6; cut_ending: 2 to 6
+--   file_of f        the octets of a file, none where it cannot be opened; messages_by g: the messages of a side's file
 --   before c         what ends a replay before play: 19, the initiator's file, the acceptor's file, 24
 --   Shown            an accepted turn as it is printed: the turn, and the initiator's choice after it; choice_of r: that of a record
 --   Played           a replay: its accepted turns, the sides after them, and its ending
---   outcome_of        what a turn's reader answers; soPlayed: the sides after an accepted turn
---   play_from         the replay of turns; with_turn: a replay, after one more turn
---   conversation_in   the first message's conversation
+--   outcome_of       what a turn's reader answers; so_played: the sides after an accepted turn
+--   play_from        the replay of turns; with_turn: a replay, after one more turn
+--   conversation_in  the first message's conversation
 --   opened           the sides before the first turn
---   ended_by          a replay, where nothing ends it before play
---   turns_in c        the turns of a case's files
---   replay_of c d     the replay of a case, in the transcript d
+--   ended_by         a replay, where nothing ends it before play
+--   turns_in c       the turns of a case's files
+--   replay_of c d    the replay of a case, in the transcript d
 use Rattle.std.specs.Prelude.{ℕ, ◌/◌, Bool, true, false, cond, not, ◌&&◌, List, [], ◌∷◌, length, eqb, leb}
 use Rattle.std.proofs.Math.Option.{Option, none, some}
 use Rattle.octets.specs.Octets.{octets}

@@ -1,14 +1,14 @@
 -- One turn, played: its reader reads it, and its writer goes on as if it had written it. Document 02, C-19.
 --
 -- Glossary
---   same_list l k     two lists have the same schemes in the same order
---   with_marks m r    the record r with the marks m
---   begun m w        the record in which the writer w, whose marks are m, writes the first message of its turn
---   owed m w t       28: the first message of the token t is what the list and marks of its writer w give
---   after_first       28, after the first message's 15 and before the next message
---   heard_turn        the reader's outcome: as of any token, with 28 in it
---   said_as, said     what a message changes in its writer's record, and the record after it; said_all: after messages
---   spoke            the writer's record after its turn
+--   same_list l k   two lists have the same schemes in the same order
+--   with_marks m r  the record r with the marks m
+--   begun m w       the record in which the writer w, whose marks are m, writes the first message of its turn
+--   owed m w t      28: the first message of the token t is what the list and marks of its writer w give
+--   after_first     28, after the first message's 15 and before the next message
+--   heard_turn      the reader's outcome: as of any token, with 28 in it
+--   said_as, said   what a message changes in its writer's record, and the record after it; said_all: after messages
+--   spoke           the writer's record after its turn
 use Rattle.std.specs.Prelude.{ℕ, zero, suc, Bool, true, false, cond, ◌&&◌, ◌||◌, List, [], ◌∷◌, ◌++◌, length, eqb, ltb}
 use Rattle.octets.specs.Octets.{same_octets}
 use Rattle.message.specs.Layout.{head_of}

@@ -1,14 +1,14 @@
 -- A whole conversation replayed, and what ends the replay of it once it is changed. Document 02, C-19.
 --
 -- Glossary
---   written x         the messages that the end x wrote in the examples' whole conversation, numbered 0 to 3, 7, 10, 11, and 4 to 6, 8, 9, 12
---   case              a case of the examples' two lists, with marks and messages; reordered: its initiator's list in another order
---   Saw, saw          what is seen of a replay: the side of each turn and the choice after it, and the ending; that of a case
---   turns_seen n       the first n of the six turns of the whole conversation
---   WholeReplayed     the whole conversation is replayed to its end, in these turns
---   Example           a case, the number of turns that are seen of it, and its ending; ends makes one; examples: a list of them
---   Right, AllRight   an example holds; all of a list do
---   Endings           the examples hold
+--   written x        the messages that the end x wrote in the examples' whole conversation, numbered 0 to 3, 7, 10, 11, and 4 to 6, 8, 9, 12
+--   case             a case of the examples' two lists, with marks and messages; reordered: its initiator's list in another order
+--   Saw, saw         what is seen of a replay: the side of each turn and the choice after it, and the ending; that of a case
+--   turns_seen n     the first n of the six turns of the whole conversation
+--   WholeReplayed    the whole conversation is replayed to its end, in these turns
+--   Example          a case, the number of turns that are seen of it, and its ending; ends makes one; examples: a list of them
+--   Right, AllRight  an example holds; all of a list do
+--   Endings          the examples hold
 use Rattle.std.specs.Prelude.{ℕ, ◌≡◌, Bool, true, false, List, [], ◌∷◌, ◌++◌, map, take, drop, replicate}
 use Rattle.std.proofs.Math.Option.{Option, none, some}
 use Rattle.token.specs.Split.{join}

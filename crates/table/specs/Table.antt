@@ -1,14 +1,14 @@
 -- What a viewer shows of a message in numbers, and the table of all messages. Document 02, C-17.
 --
 -- Glossary
---   placed_at p m      the message m at the token place p
---   fields_in m        the token place of a placed message, and its header's type, sequence number, header length and message length
---   vector_place p v   the token place of the vector v of a message at the token place p
---   spans_in p vs      place and length of each of the vectors vs of a message at p
---   entry_of m         what the table has of m: its fields, the number of its vectors, and place and length of each
---   entries_of ms      those of messages, in order
+--   placed_at p m     the message m at the token place p
+--   fields_in m       the token place of a placed message, and its header's type, sequence number, header length and message length
+--   vector_place p v  the token place of the vector v of a message at the token place p
+--   spans_in p vs     place and length of each of the vectors vs of a message at p
+--   entry_of m        what the table has of m: its fields, the number of its vectors, and place and length of each
+--   entries_of ms     those of messages, in order
 --   numbers ns        numbers, each in four octets
---   table_of ms        the table of messages
+--   table_of ms       the table of messages
 --   TableFits         the table of an accepted token is no longer than the token
 --   Held p m          what the functions of src/ ask of a message m at p: it ends within 65,535 octets, and its vectors lie inside it
 use Rattle.std.specs.Prelude.{ℕ, ◌+◌, ◌≤◌, ◌≡◌, cond, length, eqb}

@@ -1,17 +1,17 @@
 -- The lines of a tally. Document 02, C-23: "prints in this order". A text is the list of its pieces, in order.
 --
 -- Glossary
---   total_line w n         a word and a number
---   number_line w k n      a word, the number that is counted, and its count
---   type_lines k ns        the counts of the types from k on
---   answer_line k n       the count of the refusals with the number k; none for 0, which is accepted, nor where none was given
---   answer_lines k ns     those of the numbers from k on
---   scheme_line s n        a scheme and its count; scheme_lines l ns: those of schemes
---   octet_lines t          the totals of octets
---   last_lines t u         the count of the messages that list other schemes, and that of the names which aren't opened
---   tally_text t u         the whole text of totals, with u names that aren't opened
---   shown_text t u         that of a record; none of one with more than 64 schemes
---   TextWhole             in a slice of 8,192 octets or more the whole text stands at the front, each piece of it
+--   total_line w n     a word and a number
+--   number_line w k n  a word, the number that is counted, and its count
+--   type_lines k ns    the counts of the types from k on
+--   answer_line k n   the count of the refusals with the number k; none for 0, which is accepted, nor where none was given
+--   answer_lines k ns   those of the numbers from k on
+--   scheme_line s n    a scheme and its count; scheme_lines l ns: those of schemes
+--   octet_lines t      the totals of octets
+--   last_lines t u     the count of the messages that list other schemes, and that of the names which aren't opened
+--   tally_text t u     the whole text of totals, with u names that aren't opened
+--   shown_text t u     that of a record; none of one with more than 64 schemes
+--   TextWhole          in a slice of 8,192 octets or more the whole text stands at the front, each piece of it
 use Rattle.std.specs.Prelude.{ℕ, ◌+◌, ◌≤◌, ◌≡◌, cond, List, [], ◌∷◌, ◌++◌, length, leb, eqb}
 use Rattle.put.specs.Put.{put, joined}
 use Rattle.text.specs.Text.{quoted, decimal64, id_text, text, written}

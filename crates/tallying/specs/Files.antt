@@ -1,20 +1,20 @@
 -- The tally of files, from the files alone. Document 02, C-23.
 --
 -- Glossary
---   File            a file as it comes to the count: its octets, or one that can't be opened
---   all_octets ps    the octets of placed messages
---   number_of r      the number that a reading refuses with, 0 where it accepts
---   messages_in f    the messages of a file that is accepted, none of another; all_messages fs: those of files, in order
---   answer_of f      the number that a file is refused with, 0 where it is accepted
---   size_by r n      n where a reading accepts, 0 where it refuses
---   size_in f        the octets of a file that is accepted, 0 of another; all_sizes fs: those of files
---   typed k ms      how many of messages have the type k
---   sum_of g ms      the sum of g over messages
---   is_nego m        the type of m is 0 or 1; lists_in ms: the lists of schemes of those that are
---   answered n fs   how many files are answered with the number n
---   of_each n k f    f at each of the n numbers from k on
---   Totals          what a tally says; totals_of fs: of files
---   OctetsOfFiles   the three totals of octets sum to the octets of the accepted files
+--   File           a file as it comes to the count: its octets, or one that can't be opened
+--   all_octets ps  the octets of placed messages
+--   number_of r    the number that a reading refuses with, 0 where it accepts
+--   messages_in f  the messages of a file that is accepted, none of another; all_messages fs: those of files, in order
+--   answer_of f    the number that a file is refused with, 0 where it is accepted
+--   size_by r n    n where a reading accepts, 0 where it refuses
+--   size_in f      the octets of a file that is accepted, 0 of another; all_sizes fs: those of files
+--   typed k ms     how many of messages have the type k
+--   sum_of g ms    the sum of g over messages
+--   is_nego m      the type of m is 0 or 1; lists_in ms: the lists of schemes of those that are
+--   answered n fs  how many files are answered with the number n
+--   of_each n k f  f at each of the n numbers from k on
+--   Totals         what a tally says; totals_of fs: of files
+--   OctetsOfFiles  the three totals of octets sum to the octets of the accepted files
 use Rattle.std.specs.Prelude.{ℕ, zero, suc, ◌+◌, ◌≡◌, Bool, cond, List, [], ◌∷◌, ◌++◌, length, leb, eqb}
 use Rattle.message.specs.Layout.{head_of}
 use Rattle.message.specs.Show.{schemes_in}

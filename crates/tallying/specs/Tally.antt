@@ -4,18 +4,18 @@
 --   totals_in t       what the record says
 --   empty_tally       the record that says nothing
 --   one_more l k      l with the number at place k one greater; as it was where there is no such place
---   with_message t m  t with a message more; withMessages: with each of messages in order
+--   with_message t m  t with a message more; with_messages: with each of messages in order
 --   with_answer t n   t with a file more that was answered with n
---   tallied t f      t with the file f more
---   LIMIT            the greatest count or total; all_within l: no number of l is greater; totals_within t: none of the single ones of t
+--   tallied t f       t with the file f more
+--   LIMIT             the greatest count or total; all_within l: no number of l is greater; totals_within t: none of the single ones of t
 --   in_limits t       what 18 asks of a record
 --   pick_counted      one of two answers
 --   counted_of t f    the answer to the file f: its number, or 18, and the record afterwards
 --   run_of t fs       the record after files, counted one by one
---   TallyOfFiles     the tally of files, counted one by one from the empty one, says what the definition over the files says
---   NeverRefused     and none of 65,536 files or fewer is answered with 18
---   RefusedAlone     a file that is refused adds to its number's count alone; MissingAlone: one that can't be opened to 27's
---   OutsideUnchanged a record outside its limits is answered with 18 and stays as it was
+--   TallyOfFiles      the tally of files, counted one by one from the empty one, says what the definition over the files says
+--   NeverRefused      and none of 65,536 files or fewer is answered with 18
+--   RefusedAlone      a file that is refused adds to its number's count alone; MissingAlone: one that can't be opened to 27's
+--   OutsideUnchanged  a record outside its limits is answered with 18 and stays as it was
 use Rattle.std.specs.Prelude.{ℕ, ◌+◌, ◌≤◌, ◌<◌, ◌≡◌, Bool, true, false, ◌&&◌, List, [], ◌∷◌, length, get_or, set, replicate, leb}
 use Rattle.message.specs.Layout.{head_of}
 use Rattle.message.specs.Show.{schemes_in}

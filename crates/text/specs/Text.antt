@@ -5,9 +5,9 @@
 --   quoted t      the codes of the characters of t
 --   decimal n     a number of 32 bits in decimal; decimal64 n: one of 64 bits; decimal_to m n: in at most m digits
 --   signed z      a signed number in decimal, as pieces of text: its minus sign, where it has one, and its digits
---   hex_of x       an octet as two hexadecimal digits; hexDigit: one digit; digits_of v: octets as digits, as pieces of text
---   id_text i      the usual text of the id i, as pieces of text: its octets in order, and dashes
---   id_order       where the octets and dashes of that text come from; glyph_of i k: the piece from the place k; glyphs: those from places
+--   hex_of x      an octet as two hexadecimal digits; hex_digit: one digit; digits_of v: octets as digits, as pieces of text
+--   id_text i     the usual text of the id i, as pieces of text: its octets in order, and dashes
+--   id_order      where the octets and dashes of that text come from; glyph_of i k: the piece from the place k; glyphs: those from places
 --   Text          a slice, with the place behind what is written in it; text d at is that of slice and place
 --   appended t v  t with the piece v behind it, where there is room; as it was where there is none
 --   written ps t  t with the pieces ps appended in order

@@ -2,7 +2,7 @@
 --
 -- Glossary
 --   moved n ps      placed messages with each place moved by n
---   last_of ps       the last of placed messages; end_of ps: the place after it
+--   last_of ps      the last of placed messages; end_of ps: the place after it
 --   Follows s ps t  the token t goes on where the token s, whose messages are ps, ends: one conversation, and the number after the last of ps
 --   JoinedAccepted  two accepted tokens, the second going on where the first ends: joined they are accepted, and so are their lists
 --   CutAccepted     an accepted token cut at the end of a message, neither side empty: both sides are accepted, with the two parts of its list

@@ -1,10 +1,10 @@
 -- From a token to its messages. Document 01, "Who may send what, and when": "A token is one or more messages of one end, joined."
 --
 -- Glossary
---   messages_of r   the messages of a reading that accepts, none of one that refuses
---   Accepts s      the structural reading accepts s
---   has_message s k the token s is accepted and has a message with the index k, from 0
---   message_at s k  that message, with its place; nothing, at place 0, where there is none
+--   messages_of r    the messages of a reading that accepts, none of one that refuses
+--   Accepts s        the structural reading accepts s
+--   has_message s k  the token s is accepted and has a message with the index k, from 0
+--   message_at s k   that message, with its place; nothing, at place 0, where there is none
 use Rattle.std.specs.Prelude.{ℕ, ◌≡◌, Bool, List, [], length, get_or, ltb}
 use Rattle.token.specs.Token.{Placed, Reading, Accepted, Refused, token_of}
 

@@ -1,7 +1,7 @@
 -- What the functions of src/ answer, beside the definitions of a turn.
 --
 -- Glossary
---   owed_before r a   the answer of a reader that has no room, with 28 in the place of what comes after the first message
+--   owed_before r a  the answer of a reader that has no room, with 28 in the place of what comes after the first message
 use Rattle.std.specs.Prelude.{cond, ◌||◌, eqb, ltb}
 use Rattle.conversation.specs.declared.Record.{Record}
 use Rattle.conversation.specs.declared.Answer.{Answer}

@@ -1,14 +1,14 @@
 -- What a viewer is answered of a token as entries. The order of the refusals is that of `Replies`. Document 02, C-17.
 --
 -- Glossary
---   entry_count_answer s        the number of entries of the token s
---   entries_window es k room   as many whole entries of es, from number k on, as fit into the room; 19 where there is no entry k, 16 where not one fits
---   entries_answer s k d       those of the token s, at the front of the buffer d
---   fault_reply r s room       the entry of the fault of the token s by its reading r: nothing where it is accepted, 16 where it doesn't fit into the room
---   fault_answer s d           that entry at the front of the buffer d
---   coverage_answer s d        an octet for each of the token's, 1 where it is covered and 0 where nothing covers it, at the front of the buffer d
---   span_reply g               a token's span in an envelope, or the refusal
---   envelope_place_answer s     the place of the token in the envelope s; envelopeLengthAnswer: its length
+--   entry_count_answer s      the number of entries of the token s
+--   entries_window es k room  as many whole entries of es, from number k on, as fit into the room; 19 where there is no entry k, 16 where not one fits
+--   entries_answer s k d      those of the token s, at the front of the buffer d
+--   fault_reply r s room      the entry of the fault of the token s by its reading r: nothing where it is accepted, 16 where it doesn't fit into the room
+--   fault_answer s d          that entry at the front of the buffer d
+--   coverage_answer s d       an octet for each of the token's, 1 where it is covered and 0 where nothing covers it, at the front of the buffer d
+--   span_reply g              a token's span in an envelope, or the refusal
+--   envelope_place_answer s   the place of the token in the envelope s; envelope_length_answer: its length
 use Rattle.std.specs.Prelude.{ℕ, ◌/◌, cond, List, [], ◌∷◌, length, take, drop, leb, ℤ}
 use Rattle.der.specs.Got.{Got, ok, no}
 use Rattle.token.specs.Token.{Reading, Accepted, Refused, token_of}

@@ -1,12 +1,12 @@
 -- A window at work, line by line: what the functions of src/ promise.
 --
 -- Glossary
---   State         a window at work: its progress and its buffer; within and state build one
---   start_of a b   the progress of a window that is to show the lines from a up to b
---   placed        the state after a line that is asked for: behind those before it, or the end where it does not fit
---   step t l      the state after one more line l; stepFrom: the same, by its fields; steps ls t: after the lines ls
+--   State           a window at work: its progress and its buffer; within and state build one
+--   start_of a b    the progress of a window that is to show the lines from a up to b
+--   placed          the state after a line that is asked for: behind those before it, or the end where it does not fit
+--   step t l        the state after one more line l; step_from: the same, by its fields; steps ls t: after the lines ls
 --   shown_so_far p  what a window shows at the progress p
---   Going p n     the progress p stays inside a buffer of n octets and the numbers of 64 bits
+--   Going p n       the progress p stays inside a buffer of n octets and the numbers of 64 bits
 use Rattle.std.specs.Prelude.{ℕ, ◌+◌, ◌-◌, ◌<◌, ◌≤◌, cond, List, [], ◌∷◌, length, leb, eqb}
 use Rattle.put.specs.Put.{put}
 use Rattle.windows.specs.declared.Progress.{Progress}

@@ -5,9 +5,9 @@
 --   fitting r ls        as many whole lines from the front of ls as fit into r octets
 --   range a b ls        the lines of ls with the places from a up to, not including, b
 --   Window              a window as it stands: its number of lines and octets, and its buffer; as_window gives it for the answer of src/
---   shown_in d ls        the window that shows ls in the buffer d
---   window_of ls a b d   the window from line a up to line b of ls, in the buffer d
---   text_of w            the octets that a window shows
+--   shown_in d ls       the window that shows ls in the buffer d
+--   window_of ls a b d  the window from line a up to line b of ls, in the buffer d
+--   text_of w           the octets that a window shows
 --   Request             what is asked for: the line before which the window ends, and the buffer
 --   following ls a qs   the texts of windows, one after the other, each from the line after those of the one before, the first from line a
 --   reached ls a qs     the line after the last that these windows show
