@@ -6,11 +6,11 @@ cd "$(dirname "$0")/.."
 work=$(mktemp -d)
 trap 'rm -rf "$work"' EXIT
 
-find crates/*/proofs -name '*.antt' ! -name Proof.antt | LC_ALL=C sort | xargs cat >"$work/proofs"
+find crates/*/proofs -name '*.antt' ! -name Proof.antt ! -name Invariants.antt ! -name Answers.antt | LC_ALL=C sort | xargs cat >"$work/proofs"
 cat crates/*/specs/*.antt >"$work/specs"
 for page in README.md docs/*.md; do
     [ "$page" != docs/CONTRIBUTING.md ] || continue
-    sed -e '/^## A law in the words of the code/,$d' -e 's/"[^"]*"//g' "$page" | grep -o '`[a-z][a-z0-9-]*`' || true
+    sed -e '/^## A law in the words of the code/,$d' -e 's/"[^"]*"//g' "$page" | grep -o '`[a-z][a-z0-9_-]*`' || true
 done | tr -d '`' | LC_ALL=C sort -u >"$work/names"
 
 # A law stands at a line's start, or in a module with a name of several words; a field of a record has one word.

@@ -6,10 +6,11 @@ found=$(
     awk '
         FNR == NR {
             if ($0 ~ /^#/ || $0 !~ /:/) next
-            sub(/:/, " ")
             name = $1
+            sub(/:$/, "", name)
             crate[name] = 1
-            for (k = 2; k <= NF; k++) uses[name] = uses[name] " " $k
+            uses[name] = $0
+            sub(/^[^:]*:/, "", uses[name])
             next
         }
         # A line of the picture: its label in the first 18 columns, then its crates.
@@ -36,4 +37,4 @@ found=$(
         }' crates.txt README.md
 )
 [ -z "$found" ] || { printf 'layers: README.md: %s\n' "$found" >&2; exit 1; }
-echo "layers: $(grep -c '^[a-z_]*:' crates.txt) crates, each above what it uses"
+echo "layers: $(grep -c '^[a-z].*:' crates.txt) crates, each above what it uses"

@@ -8,7 +8,7 @@ trap 'rm -rf "$work"' EXIT
 bad=0
 complain() { echo "map: $1" >&2; bad=1; }
 
-find crates -name '*.antt' -o -name '*.rt' | LC_ALL=C sort | xargs cat >"$work/text"
+find crates -name out -prune -o \( -name '*.antt' -o -name '*.rt' \) -print | LC_ALL=C sort | xargs cat >"$work/text"
 # The name of an edit stands in front of what it changes (tests/edits.sh).
 sed -n 's/^# \([a-z0-9_]*\)\(, in [A-Za-z0-9_:]*\)*: .*/\1/p' crates/*/must-fail/*.edit >"$work/all"
 LC_ALL=C sort -u "$work/all" >"$work/edits"

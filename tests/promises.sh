@@ -9,7 +9,7 @@ page=docs/PROMISES.md
 
 names() { printf '%s\n' "$1" | grep -o '`[^`]*`' | tr -d '`'; }
 # contract FUNCTION: its ensures, wherever it is public
-contract() { awk -v name="$1" '$0 ~ "^pub (extern \"C\" )?fn " name "\\(" { on = 1 } on && /^ *ensures / { on = 2 } on == 2 { print } /^ *\{$/ { on = 0 }' crates/*/src/*.rt; }
+contract() { awk -v name="$1" '$0 ~ "^pub (extern \"C\" )?fn " name "[(<]" { on = 1 } on && /^ *ensures / { on = 2 } on == 2 { print } /^ *\{$/ { on = 0 }' crates/*/src/*.rt; }
 
 awk -F ' *\\| *' 'NF == 6 && $5 ~ /^crates\// { print $3 "|" $4 "|" $5 }' "$page" >"$work/rows"
 while IFS='|' read -r proved claims file; do
