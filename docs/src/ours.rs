@@ -3,7 +3,7 @@
 
 use std::ffi::c_char;
 use std::fs::File;
-use std::io::{Read, Seek, SeekFrom, Write};
+use std::io::{Read, Seek, SeekFrom};
 use std::os::fd::{AsRawFd, FromRawFd};
 
 extern "C" {
@@ -26,7 +26,7 @@ extern "C" {
     fn damage_recovered(file: *const u8, size: usize, first: usize, end: usize, text: *mut u8, room: usize) -> usize;
     fn damage_blanked(token: *mut u8, size: usize, value: *mut u64) -> u32;
     fn damage_envelope(text: *mut u8, room: usize, envelope: *const u8, size: usize) -> usize;
-    fn damage_played(name: *const u8, size: usize, buffer: *mut u8, room: usize) -> usize;
+    fn damage_played(buffer: *mut u8, room: usize, octets: usize);
     fn dup(fd: i32) -> i32;
     fn dup2(from: i32, to: i32) -> i32;
     fn memfd_create(name: *const c_char, flags: u32) -> i32;
@@ -162,9 +162,8 @@ fn memory_file(name: &std::ffi::CStr) -> File {
 /// As many octets as the program `converse` lends for a script: one more than the longest has.
 const SCRIPT_BUFFER: usize = 262_144;
 
-/// Plays scripts as `converse` does: from a file, to standard output, which goes to a file too while a player is there.
+/// Plays scripts as `converse` does: from a buffer that holds the file, to standard output, which goes to a file while a player is there.
 pub struct Player {
-    script: File,
     printed: File,
     stdout: i32,
     buffer: Vec<u8>,
@@ -175,19 +174,14 @@ impl Player {
         let printed = memory_file(c"printed");
         let stdout = unsafe { dup(1) };
         assert!(stdout >= 0 && unsafe { dup2(printed.as_raw_fd(), 1) } == 1, "standard output can't be moved");
-        Player { script: memory_file(c"script"), printed, stdout, buffer: vec![UNTOUCHED; SCRIPT_BUFFER] }
+        Player { printed, stdout, buffer: vec![UNTOUCHED; SCRIPT_BUFFER] }
     }
 
     /// What the script is answered with, and the buffer that was lent.
     pub fn play(&mut self, script: &[u8]) -> (String, Vec<u8>) {
-        for file in [&self.script, &self.printed] {
-            file.set_len(0).expect("a memory file");
-        }
-        self.script.rewind().and_then(|()| self.script.write_all(script)).expect("a memory file");
-        self.printed.rewind().expect("a memory file");
-        let name = format!("/proc/self/fd/{}", self.script.as_raw_fd());
-        self.buffer.fill(UNTOUCHED);
-        unsafe { damage_played(name.as_ptr(), name.len(), self.buffer.as_mut_ptr(), self.buffer.len()) };
+        self.printed.set_len(0).and_then(|()| self.printed.rewind()).expect("a memory file");
+        self.buffer = self.expected(script);
+        unsafe { damage_played(self.buffer.as_mut_ptr(), self.buffer.len(), script.len().min(SCRIPT_BUFFER)) };
         let mut text = Vec::new();
         self.printed.seek(SeekFrom::Start(0)).and_then(|_| self.printed.read_to_end(&mut text)).expect("a memory file");
         (String::from_utf8_lossy(&text).into_owned(), self.buffer.clone())

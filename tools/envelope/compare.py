@@ -3,7 +3,7 @@
 
 Without FILE the envelopes of crates/envelopes/data. An accepted envelope has to decode, with RFC 4178's schema, to the same fields, and pyasn1 has to encode
 these to the same octets. A refused one has to be refused by pyasn1 too, or to be encoded otherwise, but for what the schema does not say: 1 and 23 are limits of
-ours, and pyasn1 is not told which contents the wrapper's identifier and a state have to have. It needs python3-pyasn1 and target/bin/unwrap, and is no test of the gate.
+ours, and pyasn1 is not told which contents the wrapper's identifier and a state have to have. It needs python3-pyasn1 and crates/unwrap/out/unwrap, and is no test of the gate.
 """
 import os
 import subprocess
@@ -106,7 +106,7 @@ def theirs(data):
 
 
 def ours(path, data):
-    out = subprocess.run([ROOT + '/target/bin/unwrap'], input=path.encode() + b'\n', stdout=subprocess.PIPE, check=True).stdout.decode()
+    out = subprocess.run([ROOT + '/crates/unwrap/out/unwrap'], input=path.encode() + b'\n', stdout=subprocess.PIPE, check=True).stdout.decode()
     lines = []
     for line in out.splitlines():
         word = line.split(' ')

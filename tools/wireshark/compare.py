@@ -1,7 +1,7 @@
 #!/usr/bin/env python3
 """compare.py FOLDER ENVELOPES TSHARK-WORD ..
 
-Compares what tshark, called by the words given, shows of the captures in FOLDER (captures.py made them) with what the programs in target/bin say: for each token
+Compares what tshark, called by the words given, shows of the captures in FOLDER (captures.py made them) with what the programs in crates/*/out say: for each token
 the listing's lines, or the refusal's number and place, as `list` prints them; and of a refusal the octets at fault, as tools/explain.sh says them. The token in an
 envelope is cut out where `unwrap` says that it stands.
 """
@@ -11,7 +11,7 @@ FIELDS = ['refused', 'refused.at', 'fault.place', 'fault.length', 'differs', 'li
 
 
 def run(program, path):
-    return subprocess.run(['target/bin/' + program], input=path + '\n', stdout=subprocess.PIPE, text=True, check=True).stdout
+    return subprocess.run([f'crates/{program}/out/{program}'], input=path + '\n', stdout=subprocess.PIPE, text=True, check=True).stdout
 
 
 def listing(path):
