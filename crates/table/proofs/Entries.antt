@@ -69,7 +69,8 @@ module _ (p : ℕ) (m : List ℕ) (held : Held p m) where
       let header : header_in m ≡ 96 = ap header_of shape in
       let member : Memᴰ (extension_vector m) (vectors_in m) =
       subst (λ (l : List Vector). Memᴰ (extension_vector m) l)
-      (sym (all-vectors m held.header ∙ ap (λ (x : Shape). vectors_of (content_of x m)) shape)) (mathlib.Core.List.Memᴰ.tail (mathlib.Core.List.Memᴰ.head refl)) in
+      (sym (all-vectors m held.header ∙ ap (λ (x : Shape). vectors_of (content_of x m)) shape))
+      (mathlib.Core.List.Memᴰ.tail (mathlib.Core.List.Memᴰ.head refl)) in
       let few =
       part-few 96 m (extension_vector m) (let a = held.header in omega arith)
       (λ some. let a = (held.lies (extension_vector m) member some).behind in omega arith) in

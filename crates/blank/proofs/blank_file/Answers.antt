@@ -7,7 +7,3 @@ slice_bounds-write_blanked-end g c = (loaded _ _ _ c.load-loaded.ensures c.in-Oc
 
 pub slice_bounds-write_blanked-end-in-Octets : goal.slice_bounds-write_blanked-end-in-Octets
 slice_bounds-write_blanked-end-in-Octets g c = (loaded _ _ _ c.load-loaded.ensures c.in-Octets.is).1
-
--- UNMATCHED slice-aggregate-write-all
--- slice-aggregate-write-all : tie.Need-slice-aggregate-write-all
--- slice-aggregate-write-all c = search rules

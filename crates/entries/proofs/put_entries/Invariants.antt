@@ -8,7 +8,9 @@ use mathlib.Core.Path.{◌≡◌, refl}
 use Rattle.entries.proofs.put_entries.Given as goal
 
 abbrev pub invariant-loop-rest : goal.invariant-loop-rest
-invariant-loop-rest l = (length l.d ≡ length l.initial.d) × Shown (entries_of (messages_of (token_of l.token))) l.initial.d l.from l.rest l.place.0 l.message l.skip l.d l.next
+invariant-loop-rest l =
+    (length l.d ≡ length l.initial.d)
+    × Shown (entries_of (messages_of (token_of l.token))) l.initial.d l.from l.rest l.place.0 l.message l.skip l.d l.next
 
 abbrev pub decreases-loop-rest : goal.decreases-loop-rest
 decreases-loop-rest l = length l.rest

@@ -9,7 +9,3 @@ returns-then-v-lt8 c = search (rules, begun-short)
 
 pub slice_bounds-same-end : goal.slice_bounds-same-end
 slice_bounds-same-end c = simp length-take (omega arith)
-
--- UNMATCHED slice-aggregate-same-2
--- slice-aggregate-same-2 : tie.Need-slice-aggregate-same-2
--- slice-aggregate-same-2 c = search rules

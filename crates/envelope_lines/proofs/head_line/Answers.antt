@@ -2,9 +2,5 @@ use Rattle.envelope_lines.proofs.Chains.{head-line}
 use borrow.Author.Rules.{rules}
 use Rattle.envelope_lines.proofs.head_line.Goals as goal
 
--- UNMATCHED slice-aggregate-append
--- slice-aggregate-append : tie.Need-slice-aggregate-append
--- slice-aggregate-append c = search rules
-
 pub returns : goal.returns
 returns c = search (rules, head-line)

@@ -2,14 +2,6 @@ use Rattle.envelope_lines.proofs.Chains.{init-text}
 use borrow.Author.Rules.{rules}
 use Rattle.envelope_lines.proofs.init_text.Goals as goal
 
--- UNMATCHED slice-aggregate-head-line
--- slice-aggregate-head-line : tie.Need-slice-aggregate-head-line
--- slice-aggregate-head-line c = search rules
-
--- UNMATCHED slice-aggregate-field-line
--- slice-aggregate-field-line : tie.Need-slice-aggregate-field-line
--- slice-aggregate-field-line c = search rules
-
 pub returns : goal.returns
 returns c =
     init-text c.args.s.now c.args.i _ _ _ _ _ c.head_line-head_end.ensures c.mechanism_lines-mechanisms_end.ensures

@@ -2,10 +2,6 @@ use Rattle.envelope_lines.proofs.Chains.{octets}
 use borrow.Author.Rules.{rules}
 use Rattle.envelope_lines.proofs.octets_text.Goals as goal
 
--- UNMATCHED slice-aggregate-append
--- slice-aggregate-append : tie.Need-slice-aggregate-append
--- slice-aggregate-append c = search rules
-
 pub returns-then-v-eq0 : goal.returns-then-v-eq0
 returns-then-v-eq0 c = search (rules, octets)
 

@@ -2,10 +2,6 @@ use Rattle.envelope_lines.proofs.Chains.{resp-text}
 use borrow.Author.Rules.{rules}
 use Rattle.envelope_lines.proofs.resp_text.Goals as goal
 
--- UNMATCHED slice-aggregate-head-line
--- slice-aggregate-head-line : tie.Need-slice-aggregate-head-line
--- slice-aggregate-head-line c = search rules
-
 pub returns : goal.returns
 returns c =
     resp-text c.args.s.now c.args.r _ _ _ _ _ c.head_line-head_end.ensures c.state_line-state_end.ensures

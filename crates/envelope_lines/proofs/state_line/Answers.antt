@@ -2,14 +2,6 @@ use Rattle.envelope_lines.proofs.Chains.{fields'}
 use borrow.Author.Rules.{rules}
 use Rattle.envelope_lines.proofs.state_line.Goals as goal
 
--- UNMATCHED slice-aggregate-field
--- slice-aggregate-field : tie.Need-slice-aggregate-field
--- slice-aggregate-field c = search rules
-
--- UNMATCHED slice-aggregate-append
--- slice-aggregate-append : tie.Need-slice-aggregate-append
--- slice-aggregate-append c = search rules
-
 pub returns-in-Absent : goal.returns-in-Absent
 returns-in-Absent c = search (rules, fields')
 

@@ -2,30 +2,14 @@ use Rattle.envelope_script.proofs.Lines.{field-lines}
 use borrow.Author.Rules.{rules}
 use Rattle.envelope_script.proofs.field_line.Goals as goal
 
--- UNMATCHED slice-aggregate-starts
--- slice-aggregate-starts : tie.Need-slice-aggregate-starts
--- slice-aggregate-starts c = search rules
-
 pub returns-then-starts : goal.returns-then-starts
 returns-then-starts c = search (rules, field-lines)
-
--- UNMATCHED slice-aggregate-starts-2
--- slice-aggregate-starts-2 : tie.Need-slice-aggregate-starts-2
--- slice-aggregate-starts-2 c = search rules
 
 pub returns-then-starts-2 : goal.returns-then-starts-2
 returns-then-starts-2 c = search (rules, field-lines)
 
--- UNMATCHED slice-aggregate-starts-3
--- slice-aggregate-starts-3 : tie.Need-slice-aggregate-starts-3
--- slice-aggregate-starts-3 c = search rules
-
 pub returns-then-starts-3 : goal.returns-then-starts-3
 returns-then-starts-3 c = search (rules, field-lines)
-
--- UNMATCHED slice-aggregate-starts-4
--- slice-aggregate-starts-4 : tie.Need-slice-aggregate-starts-4
--- slice-aggregate-starts-4 c = search rules
 
 pub returns-then-starts-4 : goal.returns-then-starts-4
 returns-then-starts-4 c = search (rules, field-lines)

@@ -2,23 +2,11 @@ use Rattle.envelope_script.proofs.Lines.{lines}
 use borrow.Author.Rules.{rules}
 use Rattle.envelope_script.proofs.read_line.Goals as goal
 
--- UNMATCHED slice-aggregate-is-word
--- slice-aggregate-is-word : tie.Need-slice-aggregate-is-word
--- slice-aggregate-is-word c = search rules
-
 pub returns-then-is_word : goal.returns-then-is_word
 returns-then-is_word c = search (rules, lines)
 
--- UNMATCHED slice-aggregate-is-word-2
--- slice-aggregate-is-word-2 : tie.Need-slice-aggregate-is-word-2
--- slice-aggregate-is-word-2 c = search rules
-
 pub returns-then-is_word-2 : goal.returns-then-is_word-2
 returns-then-is_word-2 c = search (rules, lines)
-
--- UNMATCHED slice-aggregate-starts
--- slice-aggregate-starts : tie.Need-slice-aggregate-starts
--- slice-aggregate-starts c = search rules
 
 pub returns-then-starts : goal.returns-then-starts
 returns-then-starts c = search (rules, lines)

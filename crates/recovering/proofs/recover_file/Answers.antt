@@ -8,9 +8,5 @@ slice_bounds-print-end g c = (loaded _ _ _ c.load-loaded.ensures c.in-Octets.is)
 pub slice_bounds-print-end-in-Octets : goal.slice_bounds-print-end-in-Octets
 slice_bounds-print-end-in-Octets g c = (loaded _ _ _ c.load-loaded.ensures c.in-Octets.is).1
 
--- UNMATCHED slice-aggregate-write-all
--- slice-aggregate-write-all : tie.Need-slice-aggregate-write-all
--- slice-aggregate-write-all c = search rules
-
 pub returns-in-Octets : goal.returns-in-Octets
 returns-in-Octets g c = loaded _ _ _ c.load-loaded.ensures c.in-Octets.is

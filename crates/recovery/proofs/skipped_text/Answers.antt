@@ -2,17 +2,5 @@ use Rattle.recovery.proofs.Scanning.{skipped-text}
 use borrow.Author.Rules.{rules}
 use Rattle.recovery.proofs.skipped_text.Goals as goal
 
--- UNMATCHED slice-aggregate-wide-field
--- slice-aggregate-wide-field : tie.Need-slice-aggregate-wide-field
--- slice-aggregate-wide-field c = search rules
-
--- UNMATCHED slice-aggregate-wide-field-2
--- slice-aggregate-wide-field-2 : tie.Need-slice-aggregate-wide-field-2
--- slice-aggregate-wide-field-2 c = search rules
-
--- UNMATCHED slice-aggregate-append
--- slice-aggregate-append : tie.Need-slice-aggregate-append
--- slice-aggregate-append c = search rules
-
 pub returns : goal.returns
 returns c = search skipped-text

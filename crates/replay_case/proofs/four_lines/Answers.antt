@@ -2,14 +2,6 @@ use Rattle.replay_case.proofs.Cases.{four-lines}
 use borrow.Author.Rules.{rules}
 use Rattle.replay_case.proofs.four_lines.Goals as goal
 
--- UNMATCHED slice-aggregate-name-line
--- slice-aggregate-name-line : tie.Need-slice-aggregate-name-line
--- slice-aggregate-name-line c = search rules
-
--- UNMATCHED slice-aggregate-name-line-2
--- slice-aggregate-name-line-2 : tie.Need-slice-aggregate-name-line-2
--- slice-aggregate-name-line-2 c = search rules
-
 pub returns : goal.returns
 returns c =
     four-lines _ _ _ _ _ _

@@ -2,14 +2,6 @@ use Rattle.replay_case.proofs.Cases.{case-read}
 use borrow.Author.Rules.{rules}
 use Rattle.replay_case.proofs.read_case.Goals as goal
 
--- UNMATCHED slice-aggregate-read-given
--- slice-aggregate-read-given : tie.Need-slice-aggregate-read-given
--- slice-aggregate-read-given c = search rules
-
--- UNMATCHED slice-aggregate-read-given-2
--- slice-aggregate-read-given-2 : tie.Need-slice-aggregate-read-given-2
--- slice-aggregate-read-given-2 c = search rules
-
 pub returns : goal.returns
 returns c =
     case-read _ _ _ _

@@ -2,9 +2,5 @@ use Rattle.console.proofs.Printing.{loaded}
 use borrow.Author.Rules.{rules}
 use Rattle.replay_files.proofs.replay_file.Goals as goal
 
--- UNMATCHED slice-aggregate-write-all
--- slice-aggregate-write-all : tie.Need-slice-aggregate-write-all
--- slice-aggregate-write-all c = search rules
-
 pub returns-in-Octets : goal.returns-in-Octets
 returns-in-Octets g c = loaded _ _ _ c.load-loaded.ensures c.in-Octets.is

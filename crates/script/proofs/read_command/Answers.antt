@@ -2,10 +2,6 @@ use Rattle.script.proofs.Lines.{commands}
 use borrow.Author.Rules.{rules}
 use Rattle.script.proofs.read_command.Goals as goal
 
--- UNMATCHED slice-aggregate-is-word
--- slice-aggregate-is-word : tie.Need-slice-aggregate-is-word
--- slice-aggregate-is-word c = search rules
-
 pub returns-then-is_word : goal.returns-then-is_word
 returns-then-is_word c = search commands
 

@@ -2,10 +2,6 @@ use Rattle.script.proofs.Lines.{speech-words}
 use borrow.Author.Rules.{rules}
 use Rattle.script.proofs.speech.Goals as goal
 
--- UNMATCHED slice-aggregate-place
--- slice-aggregate-place : tie.Need-slice-aggregate-place
--- slice-aggregate-place c = search rules
-
 pub returns-then-named-eq1 : goal.returns-then-named-eq1
 returns-then-named-eq1 c = search speech-words
 

@@ -2,10 +2,6 @@ use Rattle.script.proofs.Lines.{verb-words}
 use borrow.Author.Rules.{rules}
 use Rattle.script.proofs.verb.Goals as goal
 
--- UNMATCHED slice-aggregate-place
--- slice-aggregate-place : tie.Need-slice-aggregate-place
--- slice-aggregate-place c = search rules
-
 pub returns-then-from-line : goal.returns-then-from-line
 returns-then-from-line c = search verb-words
 

@@ -2,10 +2,6 @@ use Rattle.script.proofs.Lines.{from-ids}
 use borrow.Author.Rules.{rules}
 use Rattle.script.proofs.with_id.Goals as goal
 
--- UNMATCHED slice-aggregate-octet
--- slice-aggregate-octet : tie.Need-slice-aggregate-octet
--- slice-aggregate-octet c = search rules
-
 pub returns-else-id : goal.returns-else-id
 returns-else-id c = search from-ids
 

@@ -2,10 +2,6 @@ use Rattle.script.proofs.Lines.{from-numbers}
 use borrow.Author.Rules.{rules}
 use Rattle.script.proofs.with_number.Goals as goal
 
--- UNMATCHED slice-aggregate-octet
--- slice-aggregate-octet : tie.Need-slice-aggregate-octet
--- slice-aggregate-octet c = search rules
-
 pub returns-in_default : goal.returns-in_default
 returns-in_default c = search from-numbers
 

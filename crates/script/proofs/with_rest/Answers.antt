@@ -2,10 +2,6 @@ use Rattle.script.proofs.Lines.{from-rests, from-rest-good}
 use borrow.Author.Rules.{rules}
 use Rattle.script.proofs.with_rest.Goals as goal
 
--- UNMATCHED slice-aggregate-octet
--- slice-aggregate-octet : tie.Need-slice-aggregate-octet
--- slice-aggregate-octet c = search rules
-
 pub returns-then-kind-eq-EXTENSIONS : goal.returns-then-kind-eq-EXTENSIONS
 returns-then-kind-eq-EXTENSIONS c = search from-rests
 

@@ -8,9 +8,5 @@ returns-then-number-eq0 c = search refusals
 pub returns-then-count-eq0 : goal.returns-then-count-eq0
 returns-then-count-eq0 c = search refusals
 
--- UNMATCHED slice-aggregate-number-line
--- slice-aggregate-number-line : tie.Need-slice-aggregate-number-line
--- slice-aggregate-number-line c = search rules
-
 pub returns : goal.returns
 returns c = search refusals

@@ -11,10 +11,6 @@ use Rattle.tally_lines.proofs.type_lines.Goals as goal
 pub loop-k-init : goal.loop-k-init
 loop-k-init c = (omega arith, refl, refl)
 
--- UNMATCHED slice-aggregate-number-line
--- slice-aggregate-number-line : tie.Need-slice-aggregate-number-line invariant-loop decreases-loop
--- slice-aggregate-number-line c = search rules
-
 pub loop-k-preserved : goal.loop-k-preserved
 loop-k-preserved c = (omega arith, search rules, search loops)
 

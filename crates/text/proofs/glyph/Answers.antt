@@ -2,10 +2,6 @@ use Rattle.text.proofs.Pieces.{pieces}
 use borrow.Author.Rules.{rules}
 use Rattle.text.proofs.glyph.Goals as goal
 
--- UNMATCHED slice-aggregate-append
--- slice-aggregate-append : tie.Need-slice-aggregate-append
--- slice-aggregate-append c = search rules
-
 pub returns-then-k-eq16 : goal.returns-then-k-eq16
 returns-then-k-eq16 c = search pieces
 

@@ -7,7 +7,9 @@ use Rattle.text.proofs.Pieces.{pieces}
 use Rattle.text.proofs.glyphs.Given as goal
 
 abbrev pub invariant-loop-i : goal.invariant-loop-i
-invariant-loop-i l = (l.i ≤ length l.order) × (length l.d ≡ length l.initial.d) × (text l.d l.next ≡ written (glyphs l.id (take l.i l.order)) (text l.initial.d l.at))
+invariant-loop-i l =
+    (l.i ≤ length l.order) × (length l.d ≡ length l.initial.d)
+    × (text l.d l.next ≡ written (glyphs l.id (take l.i l.order)) (text l.initial.d l.at))
 
 abbrev pub decreases-loop-i : goal.decreases-loop-i
 decreases-loop-i l = length l.order - l.i

@@ -4,10 +4,6 @@ use Rattle.text.proofs.Digits.{signed-plain, signed-minus}
 use borrow.Author.Rules.{rules}
 use Rattle.text.proofs.signed.Goals as goal
 
--- UNMATCHED slice-aggregate-field
--- slice-aggregate-field : tie.Need-slice-aggregate-field
--- slice-aggregate-field c = search rules
-
 pub returns-then-z-lt0 : goal.returns-then-z-lt0
 returns-then-z-lt0 c =
     let z = c.args.z in

@@ -5,10 +5,6 @@ use Rattle.fields.proofs.hex.octets.Goals as goal
 pub returns-then-s-eq0 : goal.returns-then-s-eq0
 returns-then-s-eq0 c = search pair-octets
 
--- UNMATCHED slice-aggregate-is-word
--- slice-aggregate-is-word : tie.Need-slice-aggregate-is-word
--- slice-aggregate-is-word c = search rules
-
 pub returns-then-is_word : goal.returns-then-is_word
 returns-then-is_word c = search pair-octets
 

@@ -8,7 +8,9 @@ use Rattle.fields.proofs.Decoding.{ids}
 use Rattle.fields.proofs.hex.octets_at.Given as goal
 
 abbrev pub invariant-loop-i : goal.invariant-loop-i
-invariant-loop-i l = (length l.places ≡ 16) × (length l.octets ≡ 16) × (octets_at l.s l.places ≡ behind_all (take l.i l.octets) (octets_at l.s (drop l.i l.places)))
+invariant-loop-i l =
+    (length l.places ≡ 16) × (length l.octets ≡ 16)
+    × (octets_at l.s l.places ≡ behind_all (take l.i l.octets) (octets_at l.s (drop l.i l.places)))
 
 abbrev pub decreases-loop-i : goal.decreases-loop-i
 decreases-loop-i l = 16 - l.i

@@ -6,7 +6,9 @@ use Rattle.replaying.proofs.Alls.{AllOn, left, alls}
 use Rattle.replay_files.proofs.turns.show_turns.Given as goal
 
 abbrev pub invariant-loop-replay : goal.invariant-loop-replay
-invariant-loop-replay l = AllOn l.marks l.ifile l.afile (counted l.initial.replay.turns (summary (rest_of l.marks l.ifile l.afile l.initial.replay l.initial.d))) l.replay l.d × (length l.d ≡ length l.initial.d)
+invariant-loop-replay l =
+    AllOn l.marks l.ifile l.afile (counted l.initial.replay.turns (summary (rest_of l.marks l.ifile l.afile l.initial.replay l.initial.d))) l.replay l.d
+    × (length l.d ≡ length l.initial.d)
     × (length l.text ≡ length l.initial.text)
 
 abbrev pub decreases-loop-replay : goal.decreases-loop-replay

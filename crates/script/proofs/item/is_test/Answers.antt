@@ -5,9 +5,5 @@ use Rattle.script.proofs.item.is_test.Goals as goal
 pub returns-then-line-behind : goal.returns-then-line-behind
 returns-then-line-behind c = search test_words
 
--- UNMATCHED slice-aggregate-is-word
--- slice-aggregate-is-word : tie.Need-slice-aggregate-is-word
--- slice-aggregate-is-word c = search rules
-
 pub returns : goal.returns
 returns c = search test_words
