@@ -18,7 +18,6 @@ use Rattle.envelope.specs.declared.Read.{Read}
 use Rattle.envelope.specs.declared.Read.TheVariants as reads
 use Rattle.envelope.proofs.Tails.{token-inside, token-size, token-place}
 use Rattle.envelope_token.specs.declared.Carried.{Carried}
-use Rattle.envelope_token.specs.declared.Carried.TheVariants as answer
 use Rattle.envelope_token.specs.Tokens.{Span, span_in, span_of, carried_of, said, TokenAt}
 
 -- ---- the words of `span`

@@ -7,7 +7,7 @@
 --   carried_of s   that of the envelope in s, or the envelope's refusal
 --   said           what an answer of src/ says
 --   TokenAt s f k  the token f lies in s, and behind it stands the checksum k alone
-use Rattle.std.specs.Prelude.{ℕ, ◌+◌, ◌-◌, ◌≤◌, ◌≡◌, List, length}
+use Rattle.std.specs.Prelude.{ℕ, ◌+◌, ◌-◌, ◌≤◌, List, length}
 use Rattle.std.proofs.Math.Option.{Option, none, some}
 use Rattle.der.specs.Got.{Got, ok, no, bind}
 use Rattle.der.specs.Grammar.{field_octets}

@@ -1,9 +1,9 @@
 -- The fault of a token, in the words of the code.
 -- Assumes nothing.
-use Prim.Native.Nat.{ℕ, ◌+◌, ◌-◌, ◌<◌, ◌≤◌, ◌^◌}
+use Prim.Native.Nat.{ℕ, ◌+◌, ◌-◌, ◌<◌, ◌≤◌}
 use mathlib.Core.Path.{◌≡◌, sym, ap, ◌∙◌}
 use mathlib.Core.Logic.{inl, inr}
-use mathlib.Core.List.{List, []}
+use mathlib.Core.List.{List}
 use native.Mathlib.Omega.{arith}
 use lib.ListN.{length, take, drop, length-append, length-take, length-drop}
 use lib.Seq.{length-take-le}
@@ -16,7 +16,7 @@ use Rattle.message.specs.Show.{first_of}
 use Rattle.message.specs.Layout.{size}
 use Rattle.token.specs.declared.Answer.{Answer}
 use Rattle.token.specs.declared.Answer.TheVariants as answer
-use Rattle.token.specs.Token.{Reading, Refused, token_of, outcome_of, told}
+use Rattle.token.specs.Token.{Reading, token_of, outcome_of, told}
 use Rattle.token.specs.Split.{join}
 use Rattle.token.specs.Walk.{messages_of}
 use Rattle.token.proofs.Splits.{refused-stops}

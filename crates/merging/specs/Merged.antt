@@ -8,7 +8,7 @@
 --   next_by              a run of a side, as a turn
 --   next_in q i a        the next turn of what is left of two files, numbered from q on: no messages where there is none
 --   turns_left q i a     the turns of what is left of two files, numbered from q on
-use Rattle.std.specs.Prelude.{ℕ, ◌+◌, Bool, true, false, cond, List, [], ◌∷◌, length, leb, ltb}
+use Rattle.std.specs.Prelude.{ℕ, ◌+◌, Bool, true, false, cond, List, length, leb, ltb}
 use Rattle.message.specs.Check.{Verdict, read, refused}
 use Rattle.token.specs.Token.{Chain, end, refused as cut_at, message}
 use Rattle.token.specs.Split.{join}

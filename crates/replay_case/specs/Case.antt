@@ -12,7 +12,7 @@
 --   case_in s i a    the case that the text s is, where slices of i and of a octets are lent for the two lists
 --   side_as s p g d  what the answer says of a side, whose name stands at the place p of the text s and whose list at the front of the slice d
 --   case_as r s d e  the same of the whole answer; d and e are the slices of the initiator's and of the acceptor's list
-use Rattle.std.specs.Prelude.{ℕ, Bool, true, false, cond, not, List, [], ◌∷◌, length, take, get_or, eqb, ltb}
+use Rattle.std.specs.Prelude.{ℕ, Bool, false, cond, not, List, [], ◌∷◌, length, take, get_or, eqb, ltb}
 use Rattle.text.specs.Text.{quoted}
 use Rattle.fields.specs.Fields.{part}
 use Rattle.replay_case.specs.Given.{behind_word, Given, gives, nothing_given, given_of}

@@ -3,7 +3,7 @@
 use Prim.Native.Nat.{ℕ, ◌+◌, ◌<◌, ◌≤◌}
 use mathlib.Core.Path.{◌≡◌, refl, sym, ap, subst, ◌∙◌}
 use mathlib.Core.Bool.{Bool, true, false, cond, ◌&&◌}
-use mathlib.Core.Logic.{◌⊎◌, inl, inr}
+use mathlib.Core.Logic.{inl, inr}
 use mathlib.Core.List.{List, [], ◌∷◌, ◌++◌, append-nil}
 use native.Mathlib.Omega.{arith}
 use lib.ListN.{length, length-append}
@@ -17,7 +17,7 @@ use Rattle.token.specs.Token.{refused as cut_at, passes, order_rows, next_rows}
 use Rattle.token.specs.Split.{join}
 use Rattle.token.proofs.Cuts.{turn-fail}
 use Rattle.conversation.specs.declared.Record.{Record}
-use Rattle.conversation.specs.State.{closed, limit_rows}
+use Rattle.conversation.specs.State.{limit_rows}
 use Rattle.conversation.specs.Outcomes.{Outcome, closed_by, row, room}
 use Rattle.conversation.specs.Reading.{conversation_of, start_of, Judged, whole, halted, judge, chain_for, judged, token_rows, finish, reading_token}
 use Rattle.conversation.specs.Runs.{Call, read, End, act, moved, World, next, is_accepted}

@@ -20,7 +20,7 @@ use Rattle.schemes.specs.Lists.{distinct, list_ok, one_to16}
 use Rattle.schemes.specs.Sets.{below}
 use Rattle.conversation.specs.Logs.{messages_in}
 use Rattle.sides.specs.Merging.{fits, cut_from, messages_of, turns_of, together, in_row}
-use Rattle.sides.specs.Replay.{Whose, initiator, acceptor, neither, Ending, finished, refused, first_ending, cut_ending, file_ending, file_of, before}
+use Rattle.sides.specs.Replay.{Whose, acceptor, neither, Ending, finished, refused, first_ending, cut_ending, file_ending, file_of, before}
 use Rattle.merging.specs.declared.Cut.{Cut}
 use Rattle.merging.specs.Merged.{number_in, place_in, file_cut}
 use Rattle.replaying.specs.declared.Marks.{Marks}

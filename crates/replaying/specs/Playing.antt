@@ -21,7 +21,7 @@
 --   Ready s k n          what a turn of k octets and n messages asks of a replay at work
 --   octets_in, turn_in   the octets of the turn that a replay at work has just played, and the turn
 --   Further, Ended       a replay at work has played one more turn; it has ended; Goes: one of the two
-use Rattle.std.specs.Prelude.{ℕ, ◌+◌, ◌*◌, ◌-◌, ◌<◌, ◌≤◌, ◌≡◌, Bool, true, false, cond, not, ◌⊎◌, List, [], ◌∷◌, length, take, drop, eqb}
+use Rattle.std.specs.Prelude.{ℕ, ◌+◌, ◌-◌, ◌<◌, ◌≤◌, ◌≡◌, Bool, true, false, cond, not, ◌⊎◌, List, [], length, take, drop, eqb}
 use Rattle.std.proofs.Math.Option.{Option, none, some}
 use Rattle.token.specs.Walk.{Accepts}
 use Rattle.sides.specs.Merging.{Turn, token, messages_of, in_row}

@@ -12,7 +12,6 @@ use mir.Syntax.{w64}
 use mir.Val.{SFits, to_z, of_z}
 use borrow.Author.Tests.{leb-true, leb-false, le-leb, lt-leb}
 use Rattle.octets.proofs.Bools.{which}
-use Rattle.octets.specs.Octets.{octets}
 use Rattle.vector.specs.declared.TokenPlace.{TokenPlace}
 use Rattle.message.specs.Layout.{head_of}
 use Rattle.token.specs.declared.Answer.{Answer}

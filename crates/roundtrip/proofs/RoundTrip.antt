@@ -11,7 +11,7 @@ use lib.Seq.{take_at, drop_at, length-take-le}
 use lib.Dec.{leb, eqb}
 use borrow.Author.Tests.{leb-true, eqb-true}
 use Rattle.octets.proofs.Bools.{which, both}
-use Rattle.message.specs.Layout.{header_of, pads_of, Head, head_of, size, front, content_of, vectors_of}
+use Rattle.message.specs.Layout.{header_of, pads_of, Head, head_of, size, content_of, vectors_of}
 use Rattle.message.specs.Check.{all_keep_rule, first_failing, FirstFails}
 use Rattle.message.proofs.Tables.{refuses-first}
 use Rattle.message.specs.Show.{ids_at, ids_of, schemes_in}

@@ -17,7 +17,7 @@ use Rattle.message.specs.Layout.{head_of, scheme_vector}
 use Rattle.message.specs.Show.{ids_of, schemes_in, first_of}
 use Rattle.token.specs.declared.Answer.{Answer}
 use Rattle.token.specs.declared.Answer.TheVariants as answer
-use Rattle.token.specs.Token.{Reading, Refused, token_of, outcome_of, told}
+use Rattle.token.specs.Token.{Reading, token_of, outcome_of, told}
 use Rattle.token.specs.Split.{placed_from}
 use Rattle.token.specs.Walk.{messages_of, Accepts}
 use Rattle.token.proofs.Cuts.{behind, behind-length}

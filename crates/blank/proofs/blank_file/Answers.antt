@@ -1,5 +1,4 @@
 use Rattle.console.proofs.Printing.{loaded}
-use borrow.Author.Rules.{rules}
 use Rattle.blank.proofs.blank_file.Goals as goal
 
 pub slice_bounds-write_blanked-end : goal.slice_bounds-write_blanked-end

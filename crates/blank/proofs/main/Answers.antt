@@ -1,6 +1,5 @@
 use native.Mathlib.Omega.{arith}
 use lib.ListN.{length-take}
-use borrow.Author.Rules.{rules}
 use Rattle.blank.proofs.main.Goals as goal
 
 pub slice_bounds-blank_file-end : goal.slice_bounds-blank_file-end

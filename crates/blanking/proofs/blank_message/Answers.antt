@@ -1,5 +1,4 @@
 use Rattle.blanking.proofs.Wipes.{rooms}
-use borrow.Author.Rules.{rules}
 use Rattle.blanking.proofs.blank_message.Goals as goal
 
 pub le_u32-requires : goal.le_u32-requires

@@ -1,9 +1,6 @@
-use Rattle.blanking.proofs.Masks.{Masking, masks}
+use Rattle.blanking.proofs.Masks.{masks}
 use borrow.Author.Rules.{rules}
-use Prim.Native.Nat.{◌-◌}
-use mathlib.Core.Path.{◌≡◌, refl}
-use lib.ListN.{length}
-use Rattle.blanking.specs.Blanked.{blanked}
+use mathlib.Core.Path.{refl}
 use Rattle.blanking.proofs.blank_messages.Goals as goal
 
 pub loop-at-init : goal.loop-at-init

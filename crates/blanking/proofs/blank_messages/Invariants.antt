@@ -1,7 +1,6 @@
-use Rattle.blanking.proofs.Masks.{Masking, masks}
-use borrow.Author.Rules.{rules}
+use Rattle.blanking.proofs.Masks.{Masking}
 use Prim.Native.Nat.{◌-◌}
-use mathlib.Core.Path.{◌≡◌, refl}
+use mathlib.Core.Path.{◌≡◌}
 use lib.ListN.{length}
 use Rattle.blanking.specs.Blanked.{blanked}
 use Rattle.blanking.proofs.blank_messages.Given as goal

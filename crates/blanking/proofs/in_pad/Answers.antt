@@ -1,5 +1,4 @@
 use Rattle.blanking.proofs.Wipes.{pads}
-use borrow.Author.Rules.{rules}
 use Rattle.blanking.proofs.in_pad.Goals as goal
 
 pub returns-then-lies : goal.returns-then-lies

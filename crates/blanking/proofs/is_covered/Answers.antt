@@ -1,5 +1,4 @@
 use Rattle.blanking.proofs.Wipes.{covers}
-use borrow.Author.Rules.{rules}
 use Rattle.blanking.proofs.is_covered.Goals as goal
 
 pub returns-then-at-far : goal.returns-then-at-far

@@ -1,10 +1,6 @@
 use Rattle.blanking.proofs.Wipes.{wipes}
 use borrow.Author.Rules.{rules}
-use Prim.Native.Nat.{◌-◌}
-use mathlib.Core.Path.{◌≡◌, refl}
-use mathlib.Core.List.{◌++◌}
-use lib.ListN.{length, take, drop}
-use Rattle.blanking.specs.Wiped.{headed, wiped}
+use mathlib.Core.Path.{refl}
 use Rattle.blanking.proofs.wipe.Goals as goal
 
 pub loop-at-init : goal.loop-at-init

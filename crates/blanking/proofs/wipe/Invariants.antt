@@ -1,7 +1,5 @@
-use Rattle.blanking.proofs.Wipes.{wipes}
-use borrow.Author.Rules.{rules}
 use Prim.Native.Nat.{◌-◌}
-use mathlib.Core.Path.{◌≡◌, refl}
+use mathlib.Core.Path.{◌≡◌}
 use mathlib.Core.List.{◌++◌}
 use lib.ListN.{length, take, drop}
 use Rattle.blanking.specs.Wiped.{headed, wiped}

@@ -1,5 +1,4 @@
 use Rattle.calls.proofs.Refusals.{rooms}
-use borrow.Author.Rules.{rules}
 use Rattle.calls.proofs.has_room.Goals as goal
 
 pub returns-then-room-used : goal.returns-then-room-used

@@ -1,4 +1,3 @@
-use borrow.Author.Rules.{rules}
 use Rattle.calls.proofs.Replies.{replies}
 use Rattle.calls.proofs.in_reply.Goals as goal
 

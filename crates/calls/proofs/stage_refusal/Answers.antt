@@ -1,5 +1,4 @@
 use Rattle.calls.proofs.Refusals.{stages}
-use borrow.Author.Rules.{rules}
 use Rattle.calls.proofs.stage_refusal.Goals as goal
 
 pub returns-then-number-ne0 : goal.returns-then-number-ne0

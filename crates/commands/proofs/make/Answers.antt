@@ -1,5 +1,4 @@
 use Rattle.commands.proofs.Dispatch.{calls}
-use borrow.Author.Rules.{rules}
 use Rattle.commands.proofs.make.Goals as goal
 
 pub returns-then-c-eq-OPEN : goal.returns-then-c-eq-OPEN

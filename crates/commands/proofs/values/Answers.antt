@@ -1,5 +1,4 @@
 use Rattle.commands.proofs.Dispatch.{randoms}
-use borrow.Author.Rules.{rules}
 use Rattle.commands.proofs.values.Goals as goal
 
 pub returns : goal.returns

@@ -1,5 +1,4 @@
 use Rattle.commands.proofs.Dispatch.{negos}
-use borrow.Author.Rules.{rules}
 use Rattle.commands.proofs.write_nego.Goals as goal
 
 pub returns-then-c-eq-OFFER : goal.returns-then-c-eq-OFFER

@@ -1,9 +1,6 @@
-use borrow.Author.Rules.{rules}
 use Prim.Native.Nat.{ℕ, ◌<◌, ◌-◌}
-use mathlib.Core.Path.{◌≡◌, refl}
-use native.Mathlib.Omega.{arith}
+use mathlib.Core.Path.{◌≡◌}
 use lib.ListN.{length, get_or}
-use Rattle.coverage.proofs.Marks.{clear_next, clear-all}
 use Rattle.coverage.proofs.clear.Given as goal
 
 abbrev pub invariant-loop-i : goal.invariant-loop-i

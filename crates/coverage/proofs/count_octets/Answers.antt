@@ -1,5 +1,4 @@
 use Rattle.coverage.proofs.Marks.{countings}
-use borrow.Author.Rules.{rules}
 use Rattle.coverage.proofs.count_octets.Goals as goal
 
 pub returns-then-len-lt64 : goal.returns-then-len-lt64

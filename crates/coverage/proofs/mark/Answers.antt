@@ -1,6 +1,5 @@
 use Rattle.coverage.proofs.Marks.{sweeps}
 use Rattle.vector.proofs.Rule.{vector_rules}
-use borrow.Author.Rules.{rules}
 use Rattle.coverage.proofs.mark.Goals as goal
 
 pub returns-then-map-from : goal.returns-then-map-from

@@ -1,5 +1,4 @@
 use Rattle.coverage.proofs.Marks.{layouts}
-use borrow.Author.Rules.{rules}
 use Rattle.coverage.proofs.mark_nego.Goals as goal
 
 pub returns : goal.returns

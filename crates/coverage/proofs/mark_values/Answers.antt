@@ -1,12 +1,6 @@
 use Rattle.coverage.proofs.Marks.{sweeps}
-use Rattle.coverage.proofs.Marks.{values_from}
-use borrow.Author.Rules.{rules}
-use Prim.Native.Nat.{◌+◌, ◌*◌, ◌≤◌}
-use mathlib.Core.Path.{◌≡◌, refl}
+use mathlib.Core.Path.{refl}
 use native.Mathlib.Omega.{arith}
-use lib.ListN.{length}
-use Rattle.message.specs.Layout.{values_of, elements_of}
-use Rattle.coverage.specs.Sweep.{marked_all}
 use Rattle.coverage.proofs.mark_values.Goals as goal
 
 pub loop-left-init : goal.loop-left-init

@@ -1,6 +1,5 @@
 use Rattle.vector.proofs.Rule.{vector_rules}
 use Rattle.coverage.proofs.Marks.{parts}
-use borrow.Author.Rules.{rules}
 use Rattle.coverage.proofs.part.Goals as goal
 
 pub overflow_mul-v : goal.overflow_mul-v

@@ -1,8 +1,5 @@
-use Rattle.coverage.proofs.Marks.{sweeps, one-le}
-use borrow.Author.Rules.{rules}
 use Prim.Native.Nat.{◌+◌, ◌≤◌}
 use mathlib.Core.Path.{◌≡◌}
-use native.Mathlib.Omega.{arith}
 use lib.ListN.{length}
 use Rattle.coverage.specs.Sweep.{sweep}
 use Rattle.coverage.proofs.swept.Given as goal

@@ -1,8 +1,5 @@
 use borrow.Author.Rules.{rules}
-use Prim.Native.Nat.{◌-◌}
-use mathlib.Core.Path.{◌≡◌, refl}
-use lib.ListN.{length, drop}
-use Rattle.octets.specs.Octets.{same_octets}
+use mathlib.Core.Path.{refl}
 use Rattle.der.proofs.Comparing.{comparing}
 use Rattle.der.proofs.same.Goals as goal
 

@@ -1,9 +1,5 @@
 use borrow.Author.Rules.{rules}
-use Prim.Native.Nat.{◌-◌, ◌≤◌}
-use mathlib.Core.Path.{◌≡◌, refl}
-use lib.ListN.{length, drop}
-use Rattle.der.specs.Element.{number_from}
-use Rattle.der.specs.Holder.{capped}
+use mathlib.Core.Path.{refl}
 use Rattle.der.proofs.Wholes.{wholes}
 use Rattle.der.proofs.whole.Goals as goal
 

@@ -1,10 +1,8 @@
-use borrow.Author.Rules.{rules}
 use Prim.Native.Nat.{◌-◌, ◌≤◌}
-use mathlib.Core.Path.{◌≡◌, refl}
+use mathlib.Core.Path.{◌≡◌}
 use lib.ListN.{length, drop}
 use Rattle.der.specs.Element.{number_from}
 use Rattle.der.specs.Holder.{capped}
-use Rattle.der.proofs.Wholes.{wholes}
 use Rattle.der.proofs.whole.Given as goal
 
 abbrev pub invariant-loop-i : goal.invariant-loop-i

@@ -1,5 +1,4 @@
 use Rattle.der_put.proofs.Heads.{sizes}
-use borrow.Author.Rules.{rules}
 use Rattle.der_put.proofs.element_size.Goals as goal
 
 pub returns-then-n-lt128 : goal.returns-then-n-lt128

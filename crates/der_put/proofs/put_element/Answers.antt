@@ -1,6 +1,5 @@
 use Rattle.der.specs.Element.{element}
 use Rattle.der_put.proofs.Heads.{both}
-use borrow.Author.Rules.{rules}
 use Rattle.der_put.proofs.put_element.Goals as goal
 
 pub returns : goal.returns

@@ -1,7 +1,4 @@
-use mathlib.Core.Path.{◌≡◌}
-use Prim.Native.Nat.{◌-◌}
 use borrow.Author.Rules.{rules}
-use Rattle.elements.specs.Elements.{ordinary_from}
 use Rattle.elements.proofs.Limits.{ordinaries}
 use Rattle.elements.proofs.are_ordinary.Goals as goal
 

@@ -1,8 +1,6 @@
 use mathlib.Core.Path.{◌≡◌}
 use Prim.Native.Nat.{◌-◌}
-use borrow.Author.Rules.{rules}
 use Rattle.elements.specs.Elements.{ordinary_from}
-use Rattle.elements.proofs.Limits.{ordinaries}
 use Rattle.elements.proofs.are_ordinary.Given as goal
 
 abbrev pub invariant-loop-i : goal.invariant-loop-i

@@ -1,9 +1,6 @@
 use mathlib.Core.Path.{refl}
-use Prim.Native.Nat.{◌-◌}
-use lib.ListN.{length}
 use native.Mathlib.Omega.{arith}
-use borrow.Author.Rules.{rules}
-use Rattle.elements.proofs.Limits.{Tested, fit-many, tested-turn, tested-stop, tested-end}
+use Rattle.elements.proofs.Limits.{fit-many, tested-turn, tested-stop, tested-end}
 use Rattle.elements.proofs.fits.Goals as goal
 
 pub returns-then-count-gt-MOST : goal.returns-then-count-gt-MOST

@@ -1,8 +1,6 @@
-use Prim.Native.Nat.{◌-◌}
 use native.Mathlib.Omega.{arith}
-use borrow.Author.Rules.{rules}
 use Rattle.elements.proofs.Limits.{sum-turn}
-use Rattle.elements.proofs.Arrays.{Left, left-start, left-turn, left_end}
+use Rattle.elements.proofs.Arrays.{left-start, left-turn, left_end}
 use Rattle.elements.proofs.put_array.Goals as goal
 
 pub loop-i-init : goal.loop-i-init

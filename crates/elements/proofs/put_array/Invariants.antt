@@ -1,8 +1,5 @@
 use Prim.Native.Nat.{◌-◌}
-use native.Mathlib.Omega.{arith}
-use borrow.Author.Rules.{rules}
-use Rattle.elements.proofs.Limits.{sum-turn}
-use Rattle.elements.proofs.Arrays.{Left, left-start, left-turn, left_end}
+use Rattle.elements.proofs.Arrays.{Left}
 use Rattle.elements.proofs.put_array.Given as goal
 
 abbrev pub invariant-loop-i : goal.invariant-loop-i

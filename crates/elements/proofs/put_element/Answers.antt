@@ -1,6 +1,5 @@
 use mathlib.Core.Path.{refl}
 use Rattle.put.proofs.Laws.{wrote, step, done, as_number}
-use borrow.Author.Rules.{rules}
 use Rattle.elements.proofs.put_element.Goals as goal
 
 pub returns : goal.returns

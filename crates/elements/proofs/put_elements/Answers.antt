@@ -1,7 +1,5 @@
-use Prim.Native.Nat.{◌≤◌}
 use native.Mathlib.Omega.{arith}
 use Rattle.elements.proofs.Views.{handed, items-written}
-use borrow.Author.Rules.{rules}
 use Rattle.elements.proofs.put_elements.Goals as goal
 
 pub overflow_cast-size-2 : goal.overflow_cast-size-2

@@ -1,6 +1,5 @@
 use mathlib.Core.Path.{refl}
 use Rattle.put.proofs.Laws.{wrote, step, done}
-use borrow.Author.Rules.{rules}
 use Rattle.encode.proofs.put_octet_vector.Goals as goal
 
 pub returns : goal.returns

@@ -1,9 +1,4 @@
-use borrow.Author.Rules.{rules}
-use Rattle.entries.proofs.Walked.{Counted, counting}
-use Rattle.entries.specs.Entries.{entries_of}
-use Rattle.token.specs.Walk.{messages_of}
-use Rattle.token.specs.Token.{token_of}
-use lib.ListN.{length}
+use Rattle.entries.proofs.Walked.{counting}
 use Rattle.entries.proofs.count_entries.Goals as goal
 
 pub loop-rest-init : goal.loop-rest-init

@@ -1,5 +1,4 @@
-use borrow.Author.Rules.{rules}
-use Rattle.entries.proofs.Walked.{Counted, counting}
+use Rattle.entries.proofs.Walked.{Counted}
 use Rattle.entries.specs.Entries.{entries_of}
 use Rattle.token.specs.Walk.{messages_of}
 use Rattle.token.specs.Token.{token_of}

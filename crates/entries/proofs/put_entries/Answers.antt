@@ -1,10 +1,6 @@
 use borrow.Author.Rules.{rules}
-use Rattle.entries.proofs.Walked.{Shown, shows}
-use Rattle.entries.specs.Entries.{entries_of}
-use Rattle.token.specs.Walk.{messages_of}
-use Rattle.token.specs.Token.{token_of}
-use lib.ListN.{length}
-use mathlib.Core.Path.{◌≡◌, refl}
+use Rattle.entries.proofs.Walked.{shows}
+use mathlib.Core.Path.{refl}
 use Rattle.entries.proofs.put_entries.Goals as goal
 
 pub loop-rest-init : goal.loop-rest-init

@@ -1,10 +1,9 @@
-use borrow.Author.Rules.{rules}
-use Rattle.entries.proofs.Walked.{Shown, shows}
+use Rattle.entries.proofs.Walked.{Shown}
 use Rattle.entries.specs.Entries.{entries_of}
 use Rattle.token.specs.Walk.{messages_of}
 use Rattle.token.specs.Token.{token_of}
 use lib.ListN.{length}
-use mathlib.Core.Path.{◌≡◌, refl}
+use mathlib.Core.Path.{◌≡◌}
 use Rattle.entries.proofs.put_entries.Given as goal
 
 abbrev pub invariant-loop-rest : goal.invariant-loop-rest

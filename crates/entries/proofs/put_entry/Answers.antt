@@ -2,7 +2,6 @@ use mathlib.Core.Path.{refl}
 use Rattle.put.proofs.Laws.{wrote, step, done}
 use Rattle.table.specs.Table.{numbers}
 use Rattle.entries.specs.Entries.{entry_octets}
-use borrow.Author.Rules.{rules}
 use Rattle.entries.proofs.put_entry.Goals as goal
 
 pub returns : goal.returns

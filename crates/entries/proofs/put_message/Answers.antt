@@ -1,11 +1,6 @@
 use borrow.Author.Rules.{rules}
 use Rattle.entries.proofs.Bounds.{held-zero}
-use Rattle.entries.specs.Lookup.{count_in}
-use Rattle.entries.specs.Entries.{entries_in, entry_octets}
-use Rattle.put.specs.Put.{Written}
-use lib.ListN.{length, take, drop}
-use mathlib.Core.Path.{◌≡◌, refl}
-use Prim.Native.Nat.{◌-◌, ◌*◌, ◌/◌, ◌≤◌, min}
+use mathlib.Core.Path.{refl}
 use Rattle.entries.proofs.Walked.{parts, part-next}
 use Rattle.entries.proofs.put_message.Goals as goal
 
@@ -25,16 +20,15 @@ pub put_entry-next-requires : goal.put_entry-next-requires
 put_entry-next-requires c = search parts
 
 pub loop-k-preserved : goal.loop-k-preserved
-loop-k-preserved c =
-    (
-      search rules,
-      search rules,
-      search rules,
-      search rules,
-      search rules,
-      part-next c.args.place.0 c.args.message _ _ c.args.at _ _ _ c.loop-k.invariant.1 c.loop-k.invariant.3 c.loop-k.k _ _ c.loop-k.invariant.5
-          (search rules) _ c.entry_of.ensures _ _ c.put_entry-next.ensures,
-    )
+loop-k-preserved c = (
+  search rules,
+  search rules,
+  search rules,
+  search rules,
+  search rules,
+  part-next c.args.place.0 c.args.message _ _ c.args.at _ _ _ c.loop-k.invariant.1 c.loop-k.invariant.3 c.loop-k.k _ _ c.loop-k.invariant.5
+      (search rules) _ c.entry_of.ensures _ _ c.put_entry-next.ensures,
+)
 
 pub returns : goal.returns
 returns c = search parts

@@ -1,12 +1,9 @@
-use borrow.Author.Rules.{rules}
-use Rattle.entries.proofs.Bounds.{held-zero}
 use Rattle.entries.specs.Lookup.{count_in}
 use Rattle.entries.specs.Entries.{entries_in, entry_octets}
 use Rattle.put.specs.Put.{Written}
 use lib.ListN.{length, take, drop}
-use mathlib.Core.Path.{◌≡◌, refl}
+use mathlib.Core.Path.{◌≡◌}
 use Prim.Native.Nat.{◌-◌, ◌*◌, ◌/◌, ◌≤◌, min}
-use Rattle.entries.proofs.Walked.{parts, part-next}
 use Rattle.entries.proofs.put_message.Given as goal
 
 abbrev pub invariant-loop-k : goal.invariant-loop-k

@@ -1,5 +1,4 @@
 use Rattle.envelope.proofs.Levels.{close-refused}
-use borrow.Author.Rules.{rules}
 use Rattle.envelope.proofs.closed_read.Goals as goal
 
 pub returns-in-Refused : goal.returns-in-Refused

@@ -1,8 +1,4 @@
-use Prim.Native.Nat.{◌-◌, ◌≤◌}
-use mathlib.Core.Path.{◌≡◌}
 use borrow.Author.Rules.{rules}
-use Rattle.der.specs.Holder.{Holder, part}
-use Rattle.envelope.specs.Answers.{left_of, count_of}
 use Rattle.envelope.proofs.Lists.{turns, starting}
 use Rattle.envelope.proofs.identifiers_at.Goals as goal
 

@@ -1,5 +1,4 @@
 use Rattle.envelope_lines.proofs.Chains.{init-text}
-use borrow.Author.Rules.{rules}
 use Rattle.envelope_lines.proofs.init_text.Goals as goal
 
 pub returns : goal.returns

@@ -1,8 +1,5 @@
-use Prim.Native.Nat.{◌-◌}
-use mathlib.Core.Path.{◌≡◌, refl}
+use mathlib.Core.Path.{refl}
 use borrow.Author.Rules.{rules}
-use Rattle.der.specs.Holder.{Holder, part}
-use Rattle.envelope_parts.specs.Parts.{identifier_of}
 use Rattle.envelope_parts.proofs.Nths.{nths}
 use Rattle.envelope_parts.proofs.identifier.Goals as goal
 

@@ -1,9 +1,7 @@
 use Prim.Native.Nat.{◌-◌}
-use mathlib.Core.Path.{◌≡◌, refl}
-use borrow.Author.Rules.{rules}
+use mathlib.Core.Path.{◌≡◌}
 use Rattle.der.specs.Holder.{Holder, part}
 use Rattle.envelope_parts.specs.Parts.{identifier_of}
-use Rattle.envelope_parts.proofs.Nths.{nths}
 use Rattle.envelope_parts.proofs.identifier.Given as goal
 
 abbrev pub invariant-loop-next : goal.invariant-loop-next

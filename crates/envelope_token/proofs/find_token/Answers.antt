@@ -1,5 +1,4 @@
 use Rattle.envelope_token.proofs.Spans.{carries}
-use borrow.Author.Rules.{rules}
 use Rattle.envelope_token.proofs.find_token.Goals as goal
 
 pub returns-then-s-gt65535 : goal.returns-then-s-gt65535

@@ -1,5 +1,4 @@
 use Rattle.envelope_token.proofs.Spans.{spans}
-use borrow.Author.Rules.{rules}
 use Rattle.envelope_token.proofs.span.Goals as goal
 
 pub overflow_cast-result : goal.overflow_cast-result

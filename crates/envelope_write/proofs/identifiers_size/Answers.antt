@@ -1,9 +1,4 @@
-use Prim.Native.Nat.{◌+◌, ◌-◌, ◌≤◌}
-use mathlib.Core.Path.{◌≡◌}
 use borrow.Author.Rules.{rules}
-use lib.ListN.{length, drop}
-use Rattle.der.specs.Holder.{capped}
-use Rattle.envelope_write.specs.Given.{identifiers_size}
 use Rattle.envelope_write.proofs.Sums.{sizes, sizes-start}
 use Rattle.envelope_write.proofs.identifiers_size.Goals as goal
 

@@ -1,9 +1,5 @@
-use Prim.Native.Nat.{◌-◌}
-use mathlib.Core.Path.{◌≡◌, refl}
+use mathlib.Core.Path.{refl}
 use borrow.Author.Rules.{rules}
-use lib.ListN.{length, drop}
-use lib.Dec.{eqb}
-use Rattle.envelope_write.specs.Given.{sum_of}
 use Rattle.envelope_write.proofs.Sums.{sums}
 use Rattle.envelope_write.proofs.sums_to.Goals as goal
 

@@ -1,10 +1,8 @@
 use Prim.Native.Nat.{◌-◌}
-use mathlib.Core.Path.{◌≡◌, refl}
-use borrow.Author.Rules.{rules}
+use mathlib.Core.Path.{◌≡◌}
 use lib.ListN.{length, drop}
 use lib.Dec.{eqb}
 use Rattle.envelope_write.specs.Given.{sum_of}
-use Rattle.envelope_write.proofs.Sums.{sums}
 use Rattle.envelope_write.proofs.sums_to.Given as goal
 
 abbrev pub invariant-loop-i : goal.invariant-loop-i

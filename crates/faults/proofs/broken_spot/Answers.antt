@@ -1,5 +1,4 @@
 use Rattle.faults.proofs.Spots.{broken-spots, header-there}
-use borrow.Author.Rules.{rules}
 use Rattle.faults.proofs.broken_spot.Goals as goal
 
 pub returns-then-count-eq0 : goal.returns-then-count-eq0

@@ -1,10 +1,5 @@
 use borrow.Author.Rules.{rules}
 use Rattle.faults.proofs.Spots.{broken, type-room}
-use Rattle.faults.specs.Faults.{first_broken, broken_in}
-use Rattle.coverage.specs.Coverage.{vectors_in}
-use lib.ListN.{length, drop}
-use mathlib.Core.Path.{◌≡◌}
-use Prim.Native.Nat.{◌-◌, ◌≤◌}
 use Rattle.faults.proofs.broken_vector.Goals as goal
 
 pub le_u32-requires : goal.le_u32-requires

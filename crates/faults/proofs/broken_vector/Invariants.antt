@@ -1,5 +1,3 @@
-use borrow.Author.Rules.{rules}
-use Rattle.faults.proofs.Spots.{broken, type-room}
 use Rattle.faults.specs.Faults.{first_broken, broken_in}
 use Rattle.coverage.specs.Coverage.{vectors_in}
 use lib.ListN.{length, drop}

@@ -1,5 +1,4 @@
 use Rattle.faults.proofs.Spots.{checksum-spots}
-use borrow.Author.Rules.{rules}
 use Rattle.faults.proofs.checksum_spot.Goals as goal
 
 pub returns-then-m-lt-VERIFY_HEADER_LEN : goal.returns-then-m-lt-VERIFY_HEADER_LEN

@@ -1,5 +1,4 @@
 use Rattle.faults.proofs.Tokens.{before}
-use borrow.Author.Rules.{rules}
 use Rattle.faults.proofs.count_before.Goals as goal
 
 pub slice_bounds-read_token-end : goal.slice_bounds-read_token-end

@@ -1,10 +1,5 @@
 use borrow.Author.Rules.{rules}
 use Rattle.faults.proofs.Spots.{critical}
-use Rattle.faults.specs.Faults.{first_critical}
-use Rattle.message.specs.Layout.{elements_at, elements_of}
-use lib.ListN.{length}
-use mathlib.Core.Path.{◌≡◌}
-use Prim.Native.Nat.{◌-◌, ◌*◌, ◌/◌, ◌≤◌}
 use Rattle.faults.proofs.critical_element.Goals as goal
 
 pub loop-k-init : goal.loop-k-init

@@ -1,5 +1,3 @@
-use borrow.Author.Rules.{rules}
-use Rattle.faults.proofs.Spots.{critical}
 use Rattle.faults.specs.Faults.{first_critical}
 use Rattle.message.specs.Layout.{elements_at, elements_of}
 use lib.ListN.{length}

@@ -1,5 +1,4 @@
 use Rattle.faults.proofs.Tokens.{faults}
-use borrow.Author.Rules.{rules}
 use Rattle.faults.proofs.fault.Goals as goal
 
 pub returns-then-token-gt65535 : goal.returns-then-token-gt65535

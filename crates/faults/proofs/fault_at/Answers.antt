@@ -1,5 +1,4 @@
 use Rattle.faults.proofs.Tokens.{lefts}
-use borrow.Author.Rules.{rules}
 use Rattle.faults.proofs.fault_at.Goals as goal
 
 pub returns-then-number-eq2 : goal.returns-then-number-eq2

@@ -1,5 +1,4 @@
 use Rattle.faults.proofs.Tokens.{entries_at}
-use borrow.Author.Rules.{rules}
 use Rattle.faults.proofs.fault_entry.Goals as goal
 
 pub returns-then-rest-size : goal.returns-then-rest-size

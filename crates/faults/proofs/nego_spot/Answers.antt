@@ -1,5 +1,4 @@
 use Rattle.faults.proofs.Spots.{vector-spots}
-use borrow.Author.Rules.{rules}
 use Rattle.faults.proofs.nego_spot.Goals as goal
 
 pub returns-then-k-eq0 : goal.returns-then-k-eq0

@@ -1,5 +1,4 @@
 use Rattle.faults.proofs.Spots.{spots}
-use borrow.Author.Rules.{rules}
 use Rattle.faults.specs.Faults.{spot_of}
 use Rattle.faults.proofs.spot_of.Goals as goal
 

@@ -1,5 +1,4 @@
 use Rattle.fields.proofs.Parts.{parts}
-use borrow.Author.Rules.{rules}
 use Rattle.fields.proofs.part.Goals as goal
 
 pub returns-then-to-from : goal.returns-then-to-from

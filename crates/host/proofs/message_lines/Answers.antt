@@ -1,9 +1,4 @@
-use borrow.Author.Rules.{rules}
-use lib.ListN.{length}
-use Rattle.token.specs.Token.{token_of}
-use Rattle.token.specs.Walk.{messages_of}
-use Rattle.listing.specs.Listing.{all_lines}
-use Rattle.host.proofs.Counting.{Counted, counting}
+use Rattle.host.proofs.Counting.{counting}
 use Rattle.host.proofs.message_lines.Goals as goal
 
 pub loop-rest-init : goal.loop-rest-init

@@ -1,9 +1,8 @@
-use borrow.Author.Rules.{rules}
 use lib.ListN.{length}
 use Rattle.token.specs.Token.{token_of}
 use Rattle.token.specs.Walk.{messages_of}
 use Rattle.listing.specs.Listing.{all_lines}
-use Rattle.host.proofs.Counting.{Counted, counting}
+use Rattle.host.proofs.Counting.{Counted}
 use Rattle.host.proofs.message_lines.Given as goal
 
 abbrev pub invariant-loop-rest : goal.invariant-loop-rest

@@ -1,6 +1,5 @@
 use Rattle.replies.proofs.Answers.{answers}
 use Rattle.host.proofs.Counting.{totals}
-use borrow.Author.Rules.{rules}
 use Rattle.host.proofs.negoex_lines.Goals as goal
 
 pub message_lines-requires : goal.message_lines-requires

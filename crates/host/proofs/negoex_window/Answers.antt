@@ -1,5 +1,4 @@
 use Rattle.replies.proofs.Answers.{answers}
-use borrow.Author.Rules.{rules}
 use Rattle.host.proofs.negoex_window.Goals as goal
 
 pub show_window-requires : goal.show_window-requires

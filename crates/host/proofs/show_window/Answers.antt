@@ -1,5 +1,4 @@
 use Rattle.host.proofs.Windows.{windows}
-use borrow.Author.Rules.{rules}
 use Rattle.host.proofs.show_window.Goals as goal
 
 pub returns-then-message_lines-from : goal.returns-then-message_lines-from

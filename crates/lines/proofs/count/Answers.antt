@@ -1,5 +1,4 @@
 use Rattle.lines.proofs.Contents.{kinds}
-use borrow.Author.Rules.{rules}
 use Rattle.lines.proofs.count.Goals as goal
 
 pub le_u32-kind-requires : goal.le_u32-kind-requires

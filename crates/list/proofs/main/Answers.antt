@@ -1,6 +1,5 @@
 use native.Mathlib.Omega.{arith}
 use lib.ListN.{length-take}
-use borrow.Author.Rules.{rules}
 use Rattle.list.proofs.main.Goals as goal
 
 pub slice_bounds-list_file-end : goal.slice_bounds-list_file-end

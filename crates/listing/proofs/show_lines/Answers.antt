@@ -1,10 +1,5 @@
 use borrow.Author.Rules.{rules}
-use Prim.Native.Nat.{◌-◌}
-use mathlib.Core.Path.{◌≡◌, refl}
-use lib.ListN.{length, drop}
-use Rattle.lines.specs.Lines.{message_lines}
-use Rattle.windows.specs.Windows.{texts}
-use Rattle.windows.specs.Steps.{within, steps, Going}
+use mathlib.Core.Path.{refl}
 use Rattle.windows.proofs.Stepping.{stepped-going}
 use Rattle.listing.proofs.Stepping.{lines}
 use Rattle.listing.proofs.show_lines.Goals as goal

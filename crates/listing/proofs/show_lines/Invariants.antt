@@ -1,12 +1,9 @@
-use borrow.Author.Rules.{rules}
 use Prim.Native.Nat.{◌-◌}
-use mathlib.Core.Path.{◌≡◌, refl}
+use mathlib.Core.Path.{◌≡◌}
 use lib.ListN.{length, drop}
 use Rattle.lines.specs.Lines.{message_lines}
 use Rattle.windows.specs.Windows.{texts}
 use Rattle.windows.specs.Steps.{within, steps, Going}
-use Rattle.windows.proofs.Stepping.{stepped-going}
-use Rattle.listing.proofs.Stepping.{lines}
 use Rattle.listing.proofs.show_lines.Given as goal
 
 abbrev pub invariant-loop-index : goal.invariant-loop-index

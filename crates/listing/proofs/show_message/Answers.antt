@@ -1,5 +1,4 @@
 use Rattle.listing.proofs.Stepping.{lines}
-use borrow.Author.Rules.{rules}
 use Rattle.listing.proofs.show_message.Goals as goal
 
 pub returns-then-p-eq0 : goal.returns-then-p-eq0

@@ -1,14 +1,7 @@
 use borrow.Author.Rules.{rules}
-use Prim.Native.Nat.{◌+◌, ◌≤◌}
-use mathlib.Core.Path.{◌≡◌, refl}
-use lib.ListN.{length}
-use Rattle.token.specs.Token.{token_of}
-use Rattle.token.specs.Walk.{messages_of}
-use Rattle.windows.specs.Windows.{texts}
-use Rattle.windows.specs.Steps.{within, steps, Going}
+use mathlib.Core.Path.{refl}
 use Rattle.windows.proofs.Stepping.{steps-going-on}
-use Rattle.listing.specs.Listing.{all_lines}
-use Rattle.listing.proofs.Turns.{Going-on, walks}
+use Rattle.listing.proofs.Turns.{walks}
 use Rattle.listing.proofs.show_messages.Goals as goal
 
 pub loop-rest-init : goal.loop-rest-init

@@ -1,14 +1,12 @@
-use borrow.Author.Rules.{rules}
 use Prim.Native.Nat.{◌+◌, ◌≤◌}
-use mathlib.Core.Path.{◌≡◌, refl}
+use mathlib.Core.Path.{◌≡◌}
 use lib.ListN.{length}
 use Rattle.token.specs.Token.{token_of}
 use Rattle.token.specs.Walk.{messages_of}
 use Rattle.windows.specs.Windows.{texts}
 use Rattle.windows.specs.Steps.{within, steps, Going}
-use Rattle.windows.proofs.Stepping.{steps-going-on}
 use Rattle.listing.specs.Listing.{all_lines}
-use Rattle.listing.proofs.Turns.{Going-on, walks}
+use Rattle.listing.proofs.Turns.{Going-on}
 use Rattle.listing.proofs.show_messages.Given as goal
 
 abbrev pub invariant-loop-rest : goal.invariant-loop-rest

@@ -1,5 +1,4 @@
 use Rattle.listing.proofs.Stepping.{line-put}
-use borrow.Author.Rules.{rules}
 use Rattle.listing.proofs.show_refusal.Goals as goal
 
 pub returns : goal.returns

@@ -5,8 +5,11 @@ use borrow.Author.Rules.{rules}
 use Rattle.listing.proofs.window.Goals as goal
 
 pub show_messages-listed-requires : goal.show_messages-listed-requires
-show_messages-listed-requires c = record { accepts = search windows; going = start-going _ c.args.end _ _
-      c.start-progress.ensures (search rules) }
+show_messages-listed-requires c = record {
+  accepts = search windows;
+  going = start-going _ c.args.end _ _
+      c.start-progress.ensures (search rules);
+}
 
 pub show_end-requires : goal.show_end-requires
 show_end-requires c = went _ _ _ _ _ c.show_messages-listed.ensures

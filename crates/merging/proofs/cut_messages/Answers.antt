@@ -2,7 +2,7 @@ use borrow.Author.Rules.{rules}
 use Prim.Native.Nat.{◌<◌}
 use native.Mathlib.Omega.{arith}
 use lib.ListN.{length}
-use Rattle.merging.proofs.Cuts.{CutOn, cuts}
+use Rattle.merging.proofs.Cuts.{cuts}
 use Rattle.merging.proofs.cut_messages.Goals as goal
 
 pub loop-rest-init : goal.loop-rest-init

@@ -1,8 +1,5 @@
-use borrow.Author.Rules.{rules}
-use Prim.Native.Nat.{◌<◌}
-use native.Mathlib.Omega.{arith}
 use lib.ListN.{length}
-use Rattle.merging.proofs.Cuts.{CutOn, cuts}
+use Rattle.merging.proofs.Cuts.{CutOn}
 use Rattle.merging.proofs.cut_messages.Given as goal
 
 abbrev pub invariant-loop-rest : goal.invariant-loop-rest

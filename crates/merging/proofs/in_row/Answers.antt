@@ -1,7 +1,5 @@
 use borrow.Author.Rules.{rules}
-use Prim.Native.Nat.{◌+◌}
-use lib.ListN.{length}
-use Rattle.merging.proofs.Rows.{RowOn, rows}
+use Rattle.merging.proofs.Rows.{rows}
 use Rattle.merging.proofs.in_row.Goals as goal
 
 pub loop-i_left-init : goal.loop-i_left-init

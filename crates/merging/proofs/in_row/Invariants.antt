@@ -1,7 +1,6 @@
-use borrow.Author.Rules.{rules}
 use Prim.Native.Nat.{◌+◌}
 use lib.ListN.{length}
-use Rattle.merging.proofs.Rows.{RowOn, rows}
+use Rattle.merging.proofs.Rows.{RowOn}
 use Rattle.merging.proofs.in_row.Given as goal
 
 abbrev pub invariant-loop-i_left : goal.invariant-loop-i_left

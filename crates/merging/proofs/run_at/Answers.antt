@@ -1,6 +1,5 @@
 use borrow.Author.Rules.{rules}
-use lib.ListN.{length}
-use Rattle.merging.proofs.Runs.{RunOn, runs}
+use Rattle.merging.proofs.Runs.{runs}
 use Rattle.merging.proofs.Cuts.{header-within, header-less}
 use Rattle.merging.proofs.run_at.Goals as goal
 

@@ -1,7 +1,6 @@
 use native.Mathlib.Omega.{arith}
 use lib.ListN.{length-take}
 use Rattle.message.proofs.Readings.{readings}
-use borrow.Author.Rules.{rules}
 use Rattle.message.proofs.read_body.Goals as goal
 
 pub slice_bounds-refusal-end : goal.slice_bounds-refusal-end

@@ -1,5 +1,4 @@
 use Rattle.message.proofs.Headers.{headers}
-use borrow.Author.Rules.{rules}
 use Rattle.message.proofs.read_header.Goals as goal
 
 pub returns-then-rest-lt-COMMON_HEADER : goal.returns-then-rest-lt-COMMON_HEADER

@@ -1,5 +1,4 @@
 use Rattle.message.proofs.Readings.{readings}
-use borrow.Author.Rules.{rules}
 use Rattle.message.proofs.read_message.Goals as goal
 
 pub returns-in_default : goal.returns-in_default

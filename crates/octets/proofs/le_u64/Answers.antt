@@ -1,4 +1,3 @@
-use borrow.Author.Rules.{rules}
 use Rattle.octets.proofs.Le.{le-add}
 use Rattle.octets.proofs.le_u64.Goals as goal
 

@@ -1,4 +1,3 @@
-use borrow.Author.Rules.{rules}
 use Rattle.octets.proofs.Same.{ids}
 use Rattle.octets.proofs.same_id.Goals as goal
 

@@ -1,10 +1,4 @@
 use borrow.Author.Rules.{rules}
-use Prim.Native.Nat.{◌-◌}
-use mathlib.Core.Path.{◌≡◌}
-use mathlib.Core.Bool.{◌&&◌}
-use mathlib.Core.Logic.{⊎_elim}
-use lib.ListN.{length, drop}
-use Rattle.octets.specs.Octets.{same_id, same_octets}
 use Rattle.octets.proofs.Same.{ids}
 use Rattle.octets.proofs.same_octets.Goals as goal
 use Rattle.octets.proofs.same_octets.Goals.{then-a-i, else-a-i}

@@ -1,11 +1,8 @@
-use borrow.Author.Rules.{rules}
 use Prim.Native.Nat.{◌-◌}
 use mathlib.Core.Path.{◌≡◌}
 use mathlib.Core.Bool.{◌&&◌}
-use mathlib.Core.Logic.{⊎_elim}
 use lib.ListN.{length, drop}
 use Rattle.octets.specs.Octets.{same_id, same_octets}
-use Rattle.octets.proofs.Same.{ids}
 use Rattle.octets.proofs.same_octets.Given as goal
 
 abbrev pub invariant-loop-i : goal.invariant-loop-i

@@ -1,12 +1,9 @@
 use Rattle.offers.proofs.Entering.{turns, entered-few}
 use borrow.Author.Rules.{rules}
-use Prim.Native.Nat.{◌+◌, ◌*◌, ◌≤◌}
-use mathlib.Core.Path.{◌≡◌, refl}
+use mathlib.Core.Path.{refl}
 use native.Mathlib.Omega.{arith}
 use native.Mathlib.Nat.{add-sub_cancel_left}
-use lib.ListN.{length, drop, length-take, length-drop}
-use Rattle.message.specs.Show.{ids_at, ids_of}
-use Rattle.offers.specs.Table.{entered_all_in}
+use lib.ListN.{length-take, length-drop}
 use Rattle.offers.proofs.enter_all.Goals as goal
 
 pub loop-left-init : goal.loop-left-init

@@ -1,10 +1,6 @@
-use Rattle.offers.proofs.Entering.{turns, entered-few}
-use borrow.Author.Rules.{rules}
 use Prim.Native.Nat.{◌+◌, ◌*◌, ◌≤◌}
-use mathlib.Core.Path.{◌≡◌, refl}
-use native.Mathlib.Omega.{arith}
-use native.Mathlib.Nat.{add-sub_cancel_left}
-use lib.ListN.{length, drop, length-take, length-drop}
+use mathlib.Core.Path.{◌≡◌}
+use lib.ListN.{length, drop}
 use Rattle.message.specs.Show.{ids_at, ids_of}
 use Rattle.offers.specs.Table.{entered_all_in}
 use Rattle.offers.proofs.enter_all.Given as goal

@@ -1,11 +1,6 @@
 use Rattle.offers.proofs.Entering.{beyonds}
-use borrow.Author.Rules.{rules}
-use Prim.Native.Nat.{◌+◌, ◌*◌, ◌≤◌}
-use mathlib.Core.Path.{◌≡◌, refl}
+use mathlib.Core.Path.{refl}
 use native.Mathlib.Omega.{arith}
-use lib.ListN.{length, drop}
-use Rattle.message.specs.Show.{ids_at, ids_of}
-use Rattle.offers.specs.Offers.{all_in}
 use Rattle.offers.proofs.one_beyond.Goals as goal
 
 pub loop-left-init : goal.loop-left-init

@@ -1,8 +1,5 @@
-use Rattle.offers.proofs.Entering.{beyonds}
-use borrow.Author.Rules.{rules}
 use Prim.Native.Nat.{◌+◌, ◌*◌, ◌≤◌}
-use mathlib.Core.Path.{◌≡◌, refl}
-use native.Mathlib.Omega.{arith}
+use mathlib.Core.Path.{◌≡◌}
 use lib.ListN.{length, drop}
 use Rattle.message.specs.Show.{ids_at, ids_of}
 use Rattle.offers.specs.Offers.{all_in}

@@ -1,5 +1,4 @@
 use Rattle.offers.proofs.Entering.{listeds}
-use borrow.Author.Rules.{rules}
 use Rattle.offers.proofs.one_listed.Goals as goal
 
 pub returns-then-has_id : goal.returns-then-has_id

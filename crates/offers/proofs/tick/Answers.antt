@@ -1,12 +1,9 @@
 use Rattle.offers.proofs.Entering.{ticks, below_set}
 use Rattle.coverage.proofs.Marks.{one-le}
 use borrow.Author.Rules.{rules}
-use Prim.Native.Nat.{ℕ, ◌+◌, ◌≤◌, ◌<◌}
-use mathlib.Core.Path.{◌≡◌, refl}
+use mathlib.Core.Path.{refl}
 use native.Mathlib.Omega.{arith}
-use lib.ListN.{length, get_or, length-set}
-use Rattle.message.specs.Show.{ids_of}
-use Rattle.offers.specs.Table.{ticked_from}
+use lib.ListN.{length-set}
 use Rattle.offers.proofs.tick.Goals as goal
 
 pub loop-left-init : goal.loop-left-init

@@ -1,10 +1,6 @@
-use Rattle.offers.proofs.Entering.{ticks, below_set}
-use Rattle.coverage.proofs.Marks.{one-le}
-use borrow.Author.Rules.{rules}
 use Prim.Native.Nat.{ℕ, ◌+◌, ◌≤◌, ◌<◌}
-use mathlib.Core.Path.{◌≡◌, refl}
-use native.Mathlib.Omega.{arith}
-use lib.ListN.{length, get_or, length-set}
+use mathlib.Core.Path.{◌≡◌}
+use lib.ListN.{length, get_or}
 use Rattle.message.specs.Show.{ids_of}
 use Rattle.offers.specs.Table.{ticked_from}
 use Rattle.offers.proofs.tick.Given as goal

@@ -1,5 +1,4 @@
 use Rattle.parts.proofs.Shows.{shows}
-use borrow.Author.Rules.{rules}
 use Rattle.parts.proofs.extensions.Goals as goal
 
 pub returns-then-m-lt-NEGO_HEADER_LEN : goal.returns-then-m-lt-NEGO_HEADER_LEN

@@ -1,5 +1,4 @@
 use Rattle.parts.proofs.Shows.{shows}
-use borrow.Author.Rules.{rules}
 use Rattle.parts.proofs.value.Goals as goal
 
 pub returns-then-elements-at : goal.returns-then-elements-at

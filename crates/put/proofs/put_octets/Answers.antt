@@ -1,11 +1,9 @@
 -- The loop's invariant: the first i octets are copied. Assumes nothing.
-use borrow.Author.Rules.{rules}
 use Rattle.put.proofs.Laws.{copied, copy_step}
-use lib.Seq.{paste, paste-zero}
+use lib.Seq.{paste-zero}
 use lib.ListN.{length, length-set}
 use native.Mathlib.Omega.{arith}
 use mathlib.Core.Path.{◌≡◌, refl, ◌∙◌}
-use Prim.Native.Nat.{◌≤◌, ◌-◌}
 use Rattle.put.proofs.put_octets.Goals as goal
 
 pub loop-i-init : goal.loop-i-init

@@ -1,9 +1,6 @@
-use borrow.Author.Rules.{rules}
-use Rattle.put.proofs.Laws.{copied, copy_step}
-use lib.Seq.{paste, paste-zero}
-use lib.ListN.{length, length-set}
-use native.Mathlib.Omega.{arith}
-use mathlib.Core.Path.{◌≡◌, refl, ◌∙◌}
+use lib.Seq.{paste}
+use lib.ListN.{length}
+use mathlib.Core.Path.{◌≡◌}
 use Prim.Native.Nat.{◌≤◌, ◌-◌}
 use Rattle.put.proofs.put_octets.Given as goal
 

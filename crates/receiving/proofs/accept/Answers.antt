@@ -1,5 +1,4 @@
 use Rattle.receiving.proofs.Calls.{finishes}
-use borrow.Author.Rules.{rules}
 use Rattle.receiving.proofs.accept.Goals as goal
 
 pub returns : goal.returns

@@ -1,5 +1,4 @@
 use Rattle.receiving.proofs.Calls.{finishes}
-use borrow.Author.Rules.{rules}
 use Rattle.receiving.proofs.finish_token.Goals as goal
 
 pub returns-in_default : goal.returns-in_default

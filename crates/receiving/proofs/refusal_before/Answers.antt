@@ -1,5 +1,4 @@
 use Rattle.receiving.proofs.Calls.{befores}
-use borrow.Author.Rules.{rules}
 use Rattle.receiving.proofs.refusal_before.Goals as goal
 
 pub returns-then-number-ne0 : goal.returns-then-number-ne0

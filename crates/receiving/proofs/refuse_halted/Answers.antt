@@ -1,5 +1,4 @@
 use Rattle.receiving.proofs.Calls.{finishes}
-use borrow.Author.Rules.{rules}
 use Rattle.receiving.proofs.refuse_halted.Goals as goal
 
 pub returns-in-Halted : goal.returns-in-Halted

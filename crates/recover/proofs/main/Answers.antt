@@ -1,6 +1,5 @@
 use native.Mathlib.Omega.{arith}
 use lib.ListN.{length-take}
-use borrow.Author.Rules.{rules}
 use Rattle.recover.proofs.main.Goals as goal
 
 pub slice_bounds-recover_file-end : goal.slice_bounds-recover_file-end

@@ -1,12 +1,7 @@
-use borrow.Author.Rules.{rules}
 use Prim.Native.Nat.{◌-◌, ◌<◌, ◌≤◌}
 use mathlib.Core.Path.{◌≡◌}
-use native.Mathlib.Omega.{arith}
-use lib.ListN.{length, length-take}
+use lib.ListN.{length}
 use Rattle.recovery.specs.Recovery.{recovered_lines}
-use Rattle.recovery.proofs.Bounds.{short-recovered}
-use Rattle.console.proofs.Printing.{within-buffer, behind-inside, all_shown_lem}
-use Rattle.recovering.proofs.Printing.{recovered-few}
 use Rattle.recovering.proofs.print.Given as goal
 
 abbrev pub invariant-loop-text : goal.invariant-loop-text

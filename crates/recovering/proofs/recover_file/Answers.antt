@@ -1,5 +1,4 @@
 use Rattle.console.proofs.Printing.{loaded}
-use borrow.Author.Rules.{rules}
 use Rattle.recovering.proofs.recover_file.Goals as goal
 
 pub slice_bounds-print-end : goal.slice_bounds-print-end

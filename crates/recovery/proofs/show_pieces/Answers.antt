@@ -1,11 +1,6 @@
 use borrow.Author.Rules.{rules}
-use Prim.Native.Nat.{◌-◌}
-use mathlib.Core.Path.{◌≡◌, refl}
-use lib.ListN.{length}
-use Rattle.windows.specs.Windows.{texts}
-use Rattle.windows.specs.Steps.{within, steps}
-use Rattle.recovery.specs.Recovery.{taken_of, pieces_of, all_piece_lines}
-use Rattle.recovery.proofs.Scanning.{OnWay, ways}
+use mathlib.Core.Path.{refl}
+use Rattle.recovery.proofs.Scanning.{ways}
 use Rattle.recovery.proofs.show_pieces.Goals as goal
 
 pub loop-scan-init : goal.loop-scan-init

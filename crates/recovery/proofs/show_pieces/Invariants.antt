@@ -1,11 +1,10 @@
-use borrow.Author.Rules.{rules}
 use Prim.Native.Nat.{◌-◌}
-use mathlib.Core.Path.{◌≡◌, refl}
+use mathlib.Core.Path.{◌≡◌}
 use lib.ListN.{length}
 use Rattle.windows.specs.Windows.{texts}
 use Rattle.windows.specs.Steps.{within, steps}
 use Rattle.recovery.specs.Recovery.{taken_of, pieces_of, all_piece_lines}
-use Rattle.recovery.proofs.Scanning.{OnWay, ways}
+use Rattle.recovery.proofs.Scanning.{OnWay}
 use Rattle.recovery.proofs.show_pieces.Given as goal
 
 abbrev pub invariant-loop-scan : goal.invariant-loop-scan

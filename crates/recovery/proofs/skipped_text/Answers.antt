@@ -1,5 +1,4 @@
 use Rattle.recovery.proofs.Scanning.{skipped-text}
-use borrow.Author.Rules.{rules}
 use Rattle.recovery.proofs.skipped_text.Goals as goal
 
 pub returns : goal.returns

@@ -1,5 +1,4 @@
 use Rattle.replay_case.proofs.Lines.{countings}
-use borrow.Author.Rules.{rules}
 use Rattle.replay_case.proofs.counts.Goals as goal
 
 pub returns-then-line-eq0 : goal.returns-then-line-eq0

@@ -1,5 +1,4 @@
 use Rattle.replay_case.proofs.Cases.{four-lines}
-use borrow.Author.Rules.{rules}
 use Rattle.replay_case.proofs.four_lines.Goals as goal
 
 pub returns : goal.returns

@@ -1,5 +1,4 @@
 use Rattle.replay_case.proofs.Cases.{names}
-use borrow.Author.Rules.{rules}
 use Rattle.replay_case.proofs.name_line.Goals as goal
 
 pub returns-then-name-eq0 : goal.returns-then-name-eq0

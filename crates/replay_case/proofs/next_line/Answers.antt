@@ -1,9 +1,5 @@
 use Rattle.replay_case.proofs.Lines.{nexts}
-use borrow.Author.Rules.{rules}
-use Prim.Native.Nat.{◌-◌}
-use mathlib.Core.Path.{◌≡◌, refl}
-use lib.ListN.{length}
-use Rattle.replay_case.specs.Steps.{counted_from}
+use mathlib.Core.Path.{refl}
 use Rattle.replay_case.proofs.next_line.Goals as goal
 
 pub loop-from-init : goal.loop-from-init

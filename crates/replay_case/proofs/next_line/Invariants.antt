@@ -1,7 +1,5 @@
-use Rattle.replay_case.proofs.Lines.{nexts}
-use borrow.Author.Rules.{rules}
 use Prim.Native.Nat.{◌-◌}
-use mathlib.Core.Path.{◌≡◌, refl}
+use mathlib.Core.Path.{◌≡◌}
 use lib.ListN.{length}
 use Rattle.replay_case.specs.Steps.{counted_from}
 use Rattle.replay_case.proofs.next_line.Given as goal

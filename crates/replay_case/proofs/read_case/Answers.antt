@@ -1,5 +1,4 @@
 use Rattle.replay_case.proofs.Cases.{case-read}
-use borrow.Author.Rules.{rules}
 use Rattle.replay_case.proofs.read_case.Goals as goal
 
 pub returns : goal.returns

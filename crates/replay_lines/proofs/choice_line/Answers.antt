@@ -1,5 +1,4 @@
 use Rattle.replay_lines.proofs.Chains.{choices}
-use borrow.Author.Rules.{rules}
 use Rattle.replay_lines.proofs.choice_line.Goals as goal
 
 pub returns-else-chosen : goal.returns-else-chosen

@@ -1,5 +1,4 @@
 use Rattle.replay_lines.proofs.Chains.{ends}
-use borrow.Author.Rules.{rules}
 use Rattle.replay_lines.proofs.end_line.Goals as goal
 
 pub returns-then-f : goal.returns-then-f

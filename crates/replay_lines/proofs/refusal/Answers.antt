@@ -1,5 +1,4 @@
 use Rattle.replay_lines.proofs.Chains.{refusal_is}
-use borrow.Author.Rules.{rules}
 use Rattle.replay_lines.proofs.refusal.Goals as goal
 
 pub returns : goal.returns

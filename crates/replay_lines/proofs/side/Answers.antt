@@ -1,5 +1,4 @@
 use Rattle.replay_lines.proofs.Chains.{sides}
-use borrow.Author.Rules.{rules}
 use Rattle.replay_lines.proofs.side.Goals as goal
 
 pub returns-then-whose-eq-INITIATOR : goal.returns-then-whose-eq-INITIATOR

@@ -1,5 +1,4 @@
 use Rattle.replay_lines.proofs.Chains.{turns}
-use borrow.Author.Rules.{rules}
 use Rattle.replay_lines.proofs.turn_line.Goals as goal
 
 pub returns-then-acceptor : goal.returns-then-acceptor

@@ -1,5 +1,4 @@
 use Rattle.replies.proofs.Answers.{answers}
-use borrow.Author.Rules.{rules}
 use Rattle.replies.proofs.count_messages.Goals as goal
 
 pub returns-in-Messages : goal.returns-in-Messages

@@ -1,5 +1,4 @@
 use Rattle.replies.proofs.Answers.{answers}
-use borrow.Author.Rules.{rules}
 use Rattle.replies.proofs.fault_place.Goals as goal
 
 pub wide_number-requires : goal.wide_number-requires

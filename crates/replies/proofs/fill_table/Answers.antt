@@ -1,5 +1,4 @@
 use Rattle.replies.proofs.Tables.{tables}
-use borrow.Author.Rules.{rules}
 use Rattle.replies.proofs.fill_table.Goals as goal
 
 pub returns-then-buffer-table_size : goal.returns-then-buffer-table_size

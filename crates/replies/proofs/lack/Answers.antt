@@ -1,5 +1,4 @@
 use Rattle.replies.proofs.Messages.{lacks}
-use borrow.Author.Rules.{rules}
 use Rattle.replies.proofs.lack.Goals as goal
 
 pub returns-in-Messages : goal.returns-in-Messages

@@ -1,6 +1,5 @@
 use Rattle.replies.proofs.Messages.{messages}
 use Rattle.replies.proofs.Vectors.{lengths}
-use borrow.Author.Rules.{rules}
 use Rattle.replies.proofs.length_of_vector.Goals as goal
 
 pub returns-then-m-eq0 : goal.returns-then-m-eq0

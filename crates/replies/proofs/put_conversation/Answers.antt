@@ -1,5 +1,4 @@
 use Rattle.replies.proofs.Messages.{messages}
-use borrow.Author.Rules.{rules}
 use Rattle.replies.proofs.put_conversation.Goals as goal
 
 pub returns-then-m-eq0 : goal.returns-then-m-eq0

@@ -1,5 +1,4 @@
 use Rattle.replies.proofs.Answers.{answers}
-use borrow.Author.Rules.{rules}
 use Rattle.replies.proofs.write_table.Goals as goal
 
 pub fill_table-requires : goal.fill_table-requires

@@ -1,6 +1,5 @@
 use Rattle.reports.proofs.Chains.{choice-then}
 use Rattle.reports.specs.Reports.{choice_text}
-use borrow.Author.Rules.{rules}
 use Rattle.reports.proofs.choice.Goals as goal
 
 pub returns : goal.returns

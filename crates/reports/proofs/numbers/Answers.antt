@@ -1,5 +1,4 @@
 use Rattle.reports.proofs.Chains.{two_fields}
-use borrow.Author.Rules.{rules}
 use Rattle.reports.proofs.numbers.Goals as goal
 
 pub returns : goal.returns

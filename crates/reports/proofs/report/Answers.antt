@@ -1,5 +1,4 @@
 use Rattle.reports.proofs.Chains.{reports}
-use borrow.Author.Rules.{rules}
 use Rattle.reports.proofs.report.Goals as goal
 
 pub returns-then-a-ne0 : goal.returns-then-a-ne0

@@ -1,6 +1,5 @@
 use Rattle.reports.proofs.Chains.{two_fields}
 use Rattle.reports.specs.Reports.{used_line}
-use borrow.Author.Rules.{rules}
 use Rattle.reports.proofs.used.Goals as goal
 
 pub returns : goal.returns

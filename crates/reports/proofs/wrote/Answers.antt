@@ -1,6 +1,5 @@
 use Rattle.reports.specs.Reports.{wrote_text}
 use Rattle.reports.proofs.Chains.{field-then}
-use borrow.Author.Rules.{rules}
 use Rattle.reports.proofs.wrote.Goals as goal
 
 pub returns : goal.returns

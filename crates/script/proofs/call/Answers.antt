@@ -1,5 +1,4 @@
 use Rattle.script.proofs.Lines.{calleds}
-use borrow.Author.Rules.{rules}
 use Rattle.script.proofs.call.Goals as goal
 
 pub returns-then-end-eq0 : goal.returns-then-end-eq0

@@ -1,5 +1,4 @@
 use Rattle.script.proofs.Lines.{choices}
-use borrow.Author.Rules.{rules}
 use Rattle.script.proofs.choice.Goals as goal
 
 pub returns-in_default : goal.returns-in_default

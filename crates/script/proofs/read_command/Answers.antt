@@ -1,5 +1,4 @@
 use Rattle.script.proofs.Lines.{commands}
-use borrow.Author.Rules.{rules}
 use Rattle.script.proofs.read_command.Goals as goal
 
 pub returns-then-is_word : goal.returns-then-is_word

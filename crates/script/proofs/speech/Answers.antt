@@ -1,5 +1,4 @@
 use Rattle.script.proofs.Lines.{speech-words}
-use borrow.Author.Rules.{rules}
 use Rattle.script.proofs.speech.Goals as goal
 
 pub returns-then-named-eq1 : goal.returns-then-named-eq1

@@ -1,5 +1,4 @@
 use Rattle.script.proofs.Lines.{verb-words}
-use borrow.Author.Rules.{rules}
 use Rattle.script.proofs.verb.Goals as goal
 
 pub returns-then-from-line : goal.returns-then-from-line

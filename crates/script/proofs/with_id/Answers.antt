@@ -1,5 +1,4 @@
 use Rattle.script.proofs.Lines.{from-ids}
-use borrow.Author.Rules.{rules}
 use Rattle.script.proofs.with_id.Goals as goal
 
 pub returns-else-id : goal.returns-else-id

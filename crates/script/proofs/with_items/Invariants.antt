@@ -1,7 +1,5 @@
-use Rattle.script.proofs.Items.{Read, item-lists, items_more, behind-size}
-use borrow.Author.Rules.{rules}
-use native.Mathlib.Omega.{arith}
-use Prim.Native.Nat.{◌+◌, ◌-◌, ◌≤◌}
+use Rattle.script.proofs.Items.{Read}
+use Prim.Native.Nat.{◌+◌, ◌-◌}
 use lib.ListN.{length}
 use Rattle.script.proofs.with_items.Given as goal
 

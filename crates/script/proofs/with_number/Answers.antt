@@ -1,5 +1,4 @@
 use Rattle.script.proofs.Lines.{from-numbers}
-use borrow.Author.Rules.{rules}
 use Rattle.script.proofs.with_number.Goals as goal
 
 pub returns-in_default : goal.returns-in_default

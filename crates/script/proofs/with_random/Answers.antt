@@ -1,5 +1,4 @@
 use Rattle.script.proofs.Items.{randoms}
-use borrow.Author.Rules.{rules}
 use Rattle.script.proofs.with_random.Goals as goal
 
 pub returns-in_default : goal.returns-in_default

@@ -1,4 +1,3 @@
-use borrow.Author.Rules.{rules}
 use Rattle.sending.proofs.Schemes.{firsts}
 use Rattle.sending.proofs.first_of_reply.Goals as goal
 

@@ -1,4 +1,3 @@
-use borrow.Author.Rules.{rules}
 use Rattle.calls.proofs.Refusals.{stage-inside}
 use Rattle.sending.proofs.Named.{named-refusals}
 use Rattle.sending.proofs.named_refusal.Goals as goal

@@ -1,5 +1,4 @@
 use Rattle.sending.proofs.Schemes.{nows}
-use borrow.Author.Rules.{rules}
 use Rattle.sending.proofs.scheme_allowed.Goals as goal
 
 pub returns-then-token-eq-ANSWER : goal.returns-then-token-eq-ANSWER

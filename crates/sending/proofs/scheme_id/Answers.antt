@@ -1,5 +1,4 @@
 use Rattle.sending.proofs.Schemes.{scheme-named}
-use borrow.Author.Rules.{rules}
 use Rattle.sending.proofs.scheme_id.Goals as goal
 
 pub returns : goal.returns

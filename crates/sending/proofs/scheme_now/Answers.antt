@@ -1,5 +1,4 @@
 use Rattle.sending.proofs.Schemes.{nows}
-use borrow.Author.Rules.{rules}
 use Rattle.sending.proofs.scheme_now.Goals as goal
 
 pub returns-then-token-eq-FIRST : goal.returns-then-token-eq-FIRST

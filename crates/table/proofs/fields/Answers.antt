@@ -1,5 +1,4 @@
 use Rattle.table.proofs.Spans.{spans}
-use borrow.Author.Rules.{rules}
 use Rattle.table.proofs.fields.Goals as goal
 
 pub returns : goal.returns

@@ -1,6 +1,5 @@
 use Rattle.table.proofs.Numbers.{held_place}
 use Rattle.table.proofs.Entries.{entries}
-use borrow.Author.Rules.{rules}
 use Rattle.table.proofs.put_entry.Goals as goal
 
 pub overflow_cast-vector_count : goal.overflow_cast-vector_count

@@ -1,7 +1,6 @@
 use mathlib.Core.Path.{refl}
 use Rattle.put.proofs.Laws.{wrote, step, done, as_number}
 use Rattle.table.specs.Table.{numbers}
-use borrow.Author.Rules.{rules}
 use Rattle.table.proofs.put_span.Goals as goal
 
 pub returns : goal.returns

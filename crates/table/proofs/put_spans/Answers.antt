@@ -1,10 +1,5 @@
 use borrow.Author.Rules.{rules}
-use Prim.Native.Nat.{◌-◌, ◌*◌, ◌≤◌}
-use mathlib.Core.Path.{◌≡◌, refl}
-use lib.ListN.{length, take}
-use Rattle.coverage.specs.Coverage.{vectors_in}
-use Rattle.put.specs.Put.{Written}
-use Rattle.table.specs.Table.{spans_in, numbers}
+use mathlib.Core.Path.{refl}
 use Rattle.table.proofs.Numbers.{written-spans}
 use Rattle.table.proofs.put_spans.Goals as goal
 

@@ -1,11 +1,9 @@
-use borrow.Author.Rules.{rules}
 use Prim.Native.Nat.{◌-◌, ◌*◌, ◌≤◌}
-use mathlib.Core.Path.{◌≡◌, refl}
+use mathlib.Core.Path.{◌≡◌}
 use lib.ListN.{length, take}
 use Rattle.coverage.specs.Coverage.{vectors_in}
 use Rattle.put.specs.Put.{Written}
 use Rattle.table.specs.Table.{spans_in, numbers}
-use Rattle.table.proofs.Numbers.{written-spans}
 use Rattle.table.proofs.put_spans.Given as goal
 
 abbrev pub invariant-loop-k : goal.invariant-loop-k

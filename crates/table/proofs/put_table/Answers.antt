@@ -1,10 +1,6 @@
 use borrow.Author.Rules.{rules}
-use mathlib.Core.Path.{◌≡◌, refl}
-use lib.ListN.{length}
-use Rattle.token.specs.Token.{token_of}
-use Rattle.token.specs.Walk.{messages_of}
-use Rattle.table.specs.Table.{table_of}
-use Rattle.table.proofs.Entries.{Stored, stores}
+use mathlib.Core.Path.{refl}
+use Rattle.table.proofs.Entries.{stores}
 use Rattle.table.proofs.put_table.Goals as goal
 
 pub loop-rest-init : goal.loop-rest-init

@@ -1,10 +1,9 @@
-use borrow.Author.Rules.{rules}
-use mathlib.Core.Path.{◌≡◌, refl}
+use mathlib.Core.Path.{◌≡◌}
 use lib.ListN.{length}
 use Rattle.token.specs.Token.{token_of}
 use Rattle.token.specs.Walk.{messages_of}
 use Rattle.table.specs.Table.{table_of}
-use Rattle.table.proofs.Entries.{Stored, stores}
+use Rattle.table.proofs.Entries.{Stored}
 use Rattle.table.proofs.put_table.Given as goal
 
 abbrev pub invariant-loop-rest : goal.invariant-loop-rest

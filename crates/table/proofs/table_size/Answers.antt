@@ -1,9 +1,4 @@
-use borrow.Author.Rules.{rules}
-use lib.ListN.{length}
-use Rattle.token.specs.Token.{token_of}
-use Rattle.token.specs.Walk.{messages_of}
-use Rattle.table.specs.Table.{table_of}
-use Rattle.table.proofs.Entries.{Sized, sizes}
+use Rattle.table.proofs.Entries.{sizes}
 use Rattle.table.proofs.table_size.Goals as goal
 
 pub loop-rest-init : goal.loop-rest-init

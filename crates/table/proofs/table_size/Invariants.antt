@@ -1,9 +1,8 @@
-use borrow.Author.Rules.{rules}
 use lib.ListN.{length}
 use Rattle.token.specs.Token.{token_of}
 use Rattle.token.specs.Walk.{messages_of}
 use Rattle.table.specs.Table.{table_of}
-use Rattle.table.proofs.Entries.{Sized, sizes}
+use Rattle.table.proofs.Entries.{Sized}
 use Rattle.table.proofs.table_size.Given as goal
 
 abbrev pub invariant-loop-rest : goal.invariant-loop-rest

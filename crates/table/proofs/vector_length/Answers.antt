@@ -1,5 +1,4 @@
 use Rattle.vector.proofs.Rule.{vector_rules}
-use borrow.Author.Rules.{rules}
 use Rattle.table.proofs.vector_length.Goals as goal
 
 pub overflow_mul-result : goal.overflow_mul-result

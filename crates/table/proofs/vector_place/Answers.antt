@@ -1,5 +1,4 @@
 use Rattle.table.proofs.Spans.{spans}
-use borrow.Author.Rules.{rules}
 use Rattle.table.proofs.vector_place.Goals as goal
 
 pub returns-then-vector_length-eq0 : goal.returns-then-vector_length-eq0

@@ -1,5 +1,4 @@
 use Rattle.console.proofs.Printing.{loaded}
-use borrow.Author.Rules.{rules}
 use Rattle.tally.proofs.count_by.Goals as goal
 
 pub slice_bounds-count_next-end : goal.slice_bounds-count_next-end

@@ -1,5 +1,4 @@
 use Rattle.tally_lines.proofs.Chained.{last-lines}
-use borrow.Author.Rules.{rules}
 use Rattle.tally_lines.proofs.last_lines.Goals as goal
 
 pub returns : goal.returns

@@ -1,5 +1,4 @@
 use Rattle.tally_lines.proofs.Chained.{refusals}
-use borrow.Author.Rules.{rules}
 use Rattle.tally_lines.proofs.refused_line.Goals as goal
 
 pub returns-then-number-eq0 : goal.returns-then-number-eq0

@@ -1,10 +1,6 @@
 use Rattle.tally_lines.proofs.Chained.{loops}
-use Prim.Native.Nat.{◌-◌, ◌≤◌}
-use mathlib.Core.Path.{◌≡◌, refl}
+use mathlib.Core.Path.{refl}
 use native.Mathlib.Omega.{arith}
-use lib.ListN.{length, drop}
-use Rattle.text.specs.Text.{text, written}
-use Rattle.tally_lines.specs.Lines.{answer_lines}
 use borrow.Author.Rules.{rules}
 use Rattle.tally_lines.proofs.refused_lines.Goals as goal
 

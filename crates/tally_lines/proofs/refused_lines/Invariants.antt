@@ -1,11 +1,8 @@
-use Rattle.tally_lines.proofs.Chained.{loops}
 use Prim.Native.Nat.{◌-◌, ◌≤◌}
-use mathlib.Core.Path.{◌≡◌, refl}
-use native.Mathlib.Omega.{arith}
+use mathlib.Core.Path.{◌≡◌}
 use lib.ListN.{length, drop}
 use Rattle.text.specs.Text.{text, written}
 use Rattle.tally_lines.specs.Lines.{answer_lines}
-use borrow.Author.Rules.{rules}
 use Rattle.tally_lines.proofs.refused_lines.Given as goal
 
 abbrev pub invariant-loop-k : goal.invariant-loop-k

@@ -1,5 +1,4 @@
 use Rattle.tally_lines.proofs.Chained.{scheme-line}
-use borrow.Author.Rules.{rules}
 use Rattle.tally_lines.proofs.scheme_line.Goals as goal
 
 pub returns : goal.returns

@@ -1,11 +1,6 @@
 use Rattle.tally_lines.proofs.Chained.{loops}
-use Prim.Native.Nat.{◌+◌, ◌*◌}
-use mathlib.Core.Path.{◌≡◌, refl}
+use mathlib.Core.Path.{refl}
 use native.Mathlib.Omega.{arith}
-use lib.ListN.{length, drop, take}
-use Rattle.text.specs.Text.{text, written}
-use Rattle.message.specs.Show.{ids_at}
-use Rattle.tally_lines.specs.Lines.{scheme_lines}
 use borrow.Author.Rules.{rules}
 use Rattle.tally_lines.proofs.scheme_lines.Goals as goal
 

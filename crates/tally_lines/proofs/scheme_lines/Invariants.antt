@@ -1,12 +1,9 @@
-use Rattle.tally_lines.proofs.Chained.{loops}
 use Prim.Native.Nat.{◌+◌, ◌*◌}
-use mathlib.Core.Path.{◌≡◌, refl}
-use native.Mathlib.Omega.{arith}
+use mathlib.Core.Path.{◌≡◌}
 use lib.ListN.{length, drop, take}
 use Rattle.text.specs.Text.{text, written}
 use Rattle.message.specs.Show.{ids_at}
 use Rattle.tally_lines.specs.Lines.{scheme_lines}
-use borrow.Author.Rules.{rules}
 use Rattle.tally_lines.proofs.scheme_lines.Given as goal
 
 abbrev pub invariant-loop-left : goal.invariant-loop-left

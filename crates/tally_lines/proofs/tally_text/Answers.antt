@@ -1,5 +1,4 @@
 use Rattle.tally_lines.proofs.Chained.{tallies}
-use borrow.Author.Rules.{rules}
 use Rattle.tally_lines.proofs.tally_text.Goals as goal
 
 pub returns-then-table-gt64 : goal.returns-then-table-gt64

@@ -1,5 +1,4 @@
 use Rattle.tally_lines.proofs.Chained.{total-line}
-use borrow.Author.Rules.{rules}
 use Rattle.tally_lines.proofs.total_line.Goals as goal
 
 pub returns : goal.returns

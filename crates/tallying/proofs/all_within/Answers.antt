@@ -1,9 +1,5 @@
-use borrow.Author.Rules.{rules}
-use Prim.Native.Nat.{◌-◌, ◌≤◌}
-use mathlib.Core.Path.{◌≡◌, refl}
+use mathlib.Core.Path.{refl}
 use native.Mathlib.Omega.{arith}
-use lib.ListN.{length, drop}
-use Rattle.tallying.specs.Tally.{all_within}
 use Rattle.tallying.proofs.Steps.{withins}
 use Rattle.tallying.proofs.all_within.Goals as goal
 

@@ -1,6 +1,5 @@
 use Rattle.tallying.proofs.Steps.{limits}
 use Rattle.tallying.specs.Tally.{in_limits}
-use borrow.Author.Rules.{rules}
 use Rattle.tallying.proofs.in_limits.Goals as goal
 
 pub returns-then-table-gt64 : goal.returns-then-table-gt64

@@ -1,5 +1,4 @@
 use Rattle.tallying.proofs.Steps.{more-out, more-fits}
-use borrow.Author.Rules.{rules}
 use Rattle.tallying.proofs.one_more.Goals as goal
 
 pub returns-then-a-k : goal.returns-then-a-k

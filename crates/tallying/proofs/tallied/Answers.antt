@@ -1,5 +1,4 @@
 use Rattle.tallying.proofs.Steps.{counteds}
-use borrow.Author.Rules.{rules}
 use Rattle.tallying.proofs.tallied.Goals as goal
 
 pub returns-else-in_limits : goal.returns-else-in_limits

@@ -1,11 +1,6 @@
 use borrow.Author.Rules.{rules}
-use mathlib.Core.Path.{◌≡◌, refl}
-use lib.ListN.{length}
-use Rattle.token.specs.Token.{token_of}
-use Rattle.token.specs.Walk.{messages_of}
-use Rattle.tallying.specs.Files.{all_octets}
-use Rattle.tallying.specs.Tally.{with_messages}
-use Rattle.tallying.proofs.Steps.{Going-on, walks}
+use mathlib.Core.Path.{refl}
+use Rattle.tallying.proofs.Steps.{walks}
 use Rattle.tallying.proofs.with_messages.Goals as goal
 
 pub loop-rest-init : goal.loop-rest-init

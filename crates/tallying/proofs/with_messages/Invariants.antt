@@ -1,11 +1,10 @@
-use borrow.Author.Rules.{rules}
-use mathlib.Core.Path.{◌≡◌, refl}
+use mathlib.Core.Path.{◌≡◌}
 use lib.ListN.{length}
 use Rattle.token.specs.Token.{token_of}
 use Rattle.token.specs.Walk.{messages_of}
 use Rattle.tallying.specs.Files.{all_octets}
 use Rattle.tallying.specs.Tally.{with_messages}
-use Rattle.tallying.proofs.Steps.{Going-on, walks}
+use Rattle.tallying.proofs.Steps.{Going-on}
 use Rattle.tallying.proofs.with_messages.Given as goal
 
 abbrev pub invariant-loop-rest : goal.invariant-loop-rest

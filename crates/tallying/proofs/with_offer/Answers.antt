@@ -1,5 +1,4 @@
 use Rattle.tallying.proofs.Steps.{tables}
-use borrow.Author.Rules.{rules}
 use Rattle.tallying.proofs.with_offer.Goals as goal
 
 pub returns-then-kind-gt-ACCEPTOR_NEGO : goal.returns-then-kind-gt-ACCEPTOR_NEGO

@@ -1,5 +1,4 @@
 use Rattle.text.proofs.Pieces.{pieces}
-use borrow.Author.Rules.{rules}
 use Rattle.text.proofs.append.Goals as goal
 
 pub returns-then-d-v : goal.returns-then-d-v

@@ -1,5 +1,4 @@
 use Rattle.text.proofs.Pieces.{chains}
-use borrow.Author.Rules.{rules}
 use Rattle.text.proofs.field.Goals as goal
 
 pub returns : goal.returns

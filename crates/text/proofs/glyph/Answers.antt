@@ -1,5 +1,4 @@
 use Rattle.text.proofs.Pieces.{pieces}
-use borrow.Author.Rules.{rules}
 use Rattle.text.proofs.glyph.Goals as goal
 
 pub returns-then-k-eq16 : goal.returns-then-k-eq16

@@ -1,8 +1,5 @@
 use borrow.Author.Rules.{rules}
-use Prim.Native.Nat.{◌≤◌, ◌-◌}
-use mathlib.Core.Path.{◌≡◌, refl}
-use lib.ListN.{length, take}
-use Rattle.text.specs.Text.{text, written, glyphs}
+use mathlib.Core.Path.{refl}
 use Rattle.text.proofs.Pieces.{pieces}
 use Rattle.text.proofs.glyphs.Goals as goal
 

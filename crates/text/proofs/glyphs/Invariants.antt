@@ -1,9 +1,7 @@
-use borrow.Author.Rules.{rules}
 use Prim.Native.Nat.{◌≤◌, ◌-◌}
-use mathlib.Core.Path.{◌≡◌, refl}
+use mathlib.Core.Path.{◌≡◌}
 use lib.ListN.{length, take}
 use Rattle.text.specs.Text.{text, written, glyphs}
-use Rattle.text.proofs.Pieces.{pieces}
 use Rattle.text.proofs.glyphs.Given as goal
 
 abbrev pub invariant-loop-i : goal.invariant-loop-i

@@ -1,5 +1,4 @@
 use Rattle.text.proofs.Pieces.{pieces}
-use borrow.Author.Rules.{rules}
 use Rattle.text.proofs.hex.Goals as goal
 
 pub returns : goal.returns

@@ -1,8 +1,5 @@
 use borrow.Author.Rules.{rules}
-use Prim.Native.Nat.{◌-◌}
-use mathlib.Core.Path.{◌≡◌, refl}
-use lib.ListN.{length, drop}
-use Rattle.text.specs.Text.{digits_of, text, written}
+use mathlib.Core.Path.{refl}
 use Rattle.text.proofs.Pieces.{digits}
 use Rattle.text.proofs.hex_all.Goals as goal
 

@@ -1,9 +1,7 @@
-use borrow.Author.Rules.{rules}
 use Prim.Native.Nat.{◌-◌}
-use mathlib.Core.Path.{◌≡◌, refl}
+use mathlib.Core.Path.{◌≡◌}
 use lib.ListN.{length, drop}
 use Rattle.text.specs.Text.{digits_of, text, written}
-use Rattle.text.proofs.Pieces.{digits}
 use Rattle.text.proofs.hex_all.Given as goal
 
 abbrev pub invariant-loop-i : goal.invariant-loop-i

@@ -1,5 +1,4 @@
 use Rattle.token.proofs.Walks.{walks}
-use borrow.Author.Rules.{rules}
 use Rattle.token.proofs.has_message.Goals as goal
 
 pub returns-in_default : goal.returns-in_default

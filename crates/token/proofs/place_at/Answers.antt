@@ -1,5 +1,4 @@
 use Rattle.token.proofs.Walks.{walks}
-use borrow.Author.Rules.{rules}
 use Rattle.token.proofs.place_at.Goals as goal
 
 pub returns-else-has_message : goal.returns-else-has_message

@@ -1,8 +1,5 @@
 use borrow.Author.Rules.{rules}
-use Prim.Native.Nat.{◌+◌, ◌≤◌}
-use mathlib.Core.Path.{◌≡◌}
-use lib.ListN.{length}
-use Rattle.token.proofs.Messages.{more, outcome_from, readings}
+use Rattle.token.proofs.Messages.{readings}
 use Rattle.token.proofs.read_messages.Goals as goal
 
 pub loop-rest-init : goal.loop-rest-init

@@ -1,8 +1,7 @@
-use borrow.Author.Rules.{rules}
 use Prim.Native.Nat.{◌+◌, ◌≤◌}
 use mathlib.Core.Path.{◌≡◌}
 use lib.ListN.{length}
-use Rattle.token.proofs.Messages.{more, outcome_from, readings}
+use Rattle.token.proofs.Messages.{more, outcome_from}
 use Rattle.token.proofs.read_messages.Given as goal
 
 abbrev pub invariant-loop-rest : goal.invariant-loop-rest

@@ -1,5 +1,4 @@
 use Rattle.token.proofs.Orders.{orders}
-use borrow.Author.Rules.{rules}
 use Rattle.token.proofs.read_next.Goals as goal
 
 pub returns-in_default : goal.returns-in_default

@@ -1,5 +1,4 @@
 use Rattle.token.proofs.Messages.{readings}
-use borrow.Author.Rules.{rules}
 use Rattle.token.proofs.read_token.Goals as goal
 
 pub returns-then-token-gt65535 : goal.returns-then-token-gt65535

@@ -1,5 +1,4 @@
 use Rattle.token.proofs.Messages.{refused-here, read_here}
-use borrow.Author.Rules.{rules}
 use Rattle.token.proofs.refused_at.Goals as goal
 
 pub returns-in-Refused : goal.returns-in-Refused

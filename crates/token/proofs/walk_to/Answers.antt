@@ -1,5 +1,5 @@
 use borrow.Author.Rules.{rules}
-use Rattle.token.proofs.Walks.{OnWay, ways}
+use Rattle.token.proofs.Walks.{ways}
 use Rattle.token.proofs.walk_to.Goals as goal
 
 pub loop-left-init : goal.loop-left-init

@@ -1,5 +1,4 @@
-use borrow.Author.Rules.{rules}
-use Rattle.token.proofs.Walks.{OnWay, ways}
+use Rattle.token.proofs.Walks.{OnWay}
 use Rattle.token.proofs.walk_to.Given as goal
 
 abbrev pub invariant-loop-left : goal.invariant-loop-left

@@ -1,5 +1,4 @@
 use Rattle.console.proofs.Printing.{loaded}
-use borrow.Author.Rules.{rules}
 use Rattle.unwrapping.proofs.unwrap_file.Goals as goal
 
 pub returns-in-Octets : goal.returns-in-Octets

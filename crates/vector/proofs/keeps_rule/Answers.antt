@@ -1,5 +1,4 @@
 use Rattle.vector.proofs.Rule.{vector_rules}
-use borrow.Author.Rules.{rules}
 use Rattle.vector.proofs.keeps_rule.Goals as goal
 
 pub overflow_mul-extent : goal.overflow_mul-extent

@@ -1,5 +1,4 @@
 use Rattle.vector.proofs.Rule.{vector_rules, part-within}
-use borrow.Author.Rules.{rules}
 use Rattle.vector.proofs.vector_octets.Goals as goal
 
 pub overflow_mul-extent : goal.overflow_mul-extent

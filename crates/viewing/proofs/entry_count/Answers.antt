@@ -1,6 +1,5 @@
 use Rattle.replies.proofs.Answers.{answers}
 use Rattle.viewing.proofs.Windows.{windows}
-use borrow.Author.Rules.{rules}
 use Rattle.viewing.proofs.entry_count.Goals as goal
 
 pub count_entries-requires : goal.count_entries-requires

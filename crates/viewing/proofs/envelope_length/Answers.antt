@@ -1,5 +1,4 @@
 use Rattle.viewing.proofs.Faults.{spans}
-use borrow.Author.Rules.{rules}
 use Rattle.viewing.proofs.envelope_length.Goals as goal
 
 pub returns-in-At : goal.returns-in-At

@@ -1,5 +1,4 @@
 use Rattle.viewing.proofs.Windows.{windows}
-use borrow.Author.Rules.{rules}
 use Rattle.viewing.proofs.fill_entries.Goals as goal
 
 pub returns-then-count_entries-first : goal.returns-then-count_entries-first

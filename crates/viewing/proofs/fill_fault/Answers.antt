@@ -1,5 +1,4 @@
 use Rattle.viewing.proofs.Faults.{entry-answers}
-use borrow.Author.Rules.{rules}
 use Rattle.viewing.proofs.fill_fault.Goals as goal
 
 pub returns-then-buffer-lt-SIZE : goal.returns-then-buffer-lt-SIZE

@@ -1,8 +1,6 @@
 use borrow.Author.Rules.{rules}
 use Rattle.viewing.proofs.Coverages.{ones}
-use lib.ListN.{length, take, replicate}
-use mathlib.Core.Path.{◌≡◌, refl}
-use Prim.Native.Nat.{◌-◌, ◌≤◌}
+use mathlib.Core.Path.{refl}
 use Rattle.viewing.proofs.fill_ones.Goals as goal
 
 pub loop-i-init : goal.loop-i-init

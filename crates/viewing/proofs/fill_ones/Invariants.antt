@@ -1,7 +1,5 @@
-use borrow.Author.Rules.{rules}
-use Rattle.viewing.proofs.Coverages.{ones}
 use lib.ListN.{length, take, replicate}
-use mathlib.Core.Path.{◌≡◌, refl}
+use mathlib.Core.Path.{◌≡◌}
 use Prim.Native.Nat.{◌-◌, ◌≤◌}
 use Rattle.viewing.proofs.fill_ones.Given as goal
 

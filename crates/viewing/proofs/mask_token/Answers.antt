@@ -1,5 +1,4 @@
 use Rattle.viewing.proofs.Coverages.{masked-is}
-use borrow.Author.Rules.{rules}
 use Rattle.viewing.proofs.mask_token.Goals as goal
 
 pub returns : goal.returns

@@ -1,5 +1,4 @@
 use Rattle.replies.proofs.Answers.{answers}
-use borrow.Author.Rules.{rules}
 use Rattle.viewing.proofs.write_coverage.Goals as goal
 
 pub fill_coverage-requires : goal.fill_coverage-requires

@@ -1,5 +1,4 @@
 use Rattle.replies.proofs.Answers.{answers}
-use borrow.Author.Rules.{rules}
 use Rattle.viewing.proofs.write_entries.Goals as goal
 
 pub fill_entries-requires : goal.fill_entries-requires

@@ -1,5 +1,4 @@
 use Rattle.viewing.proofs.Faults.{fault-answers}
-use borrow.Author.Rules.{rules}
 use Rattle.viewing.proofs.write_fault.Goals as goal
 
 pub returns-in-Messages : goal.returns-in-Messages

@@ -1,5 +1,4 @@
 use Rattle.windows.proofs.Stepping.{puts}
-use borrow.Author.Rules.{rules}
 use Rattle.windows.proofs.put_line.Goals as goal
 
 pub returns-then-p-eq0 : goal.returns-then-p-eq0

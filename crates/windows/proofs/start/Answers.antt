@@ -1,5 +1,4 @@
 use Rattle.windows.proofs.Windows.{start-empty}
-use borrow.Author.Rules.{rules}
 use Rattle.windows.proofs.start.Goals as goal
 
 pub returns-then-end-first : goal.returns-then-end-first

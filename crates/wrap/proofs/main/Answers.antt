@@ -1,6 +1,5 @@
 use native.Mathlib.Omega.{arith}
 use lib.ListN.{length-take}
-use borrow.Author.Rules.{rules}
 use Rattle.wrap.proofs.main.Goals as goal
 
 pub slice_bounds-wrap_file-end : goal.slice_bounds-wrap_file-end

@@ -1,5 +1,4 @@
 use Rattle.admitting.proofs.Admits.{admits}
-use borrow.Author.Rules.{rules}
 use Rattle.admitting.proofs.admit.admit_message.Goals as goal
 
 pub returns-then-position-eq0 : goal.returns-then-position-eq0

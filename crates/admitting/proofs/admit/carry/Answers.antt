@@ -1,4 +1,3 @@
-use borrow.Author.Rules.{rules}
 use Rattle.admitting.proofs.Admits.{carryings}
 use Rattle.admitting.proofs.admit.carry.Goals as goal
 

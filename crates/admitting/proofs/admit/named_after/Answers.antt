@@ -1,5 +1,4 @@
 use Rattle.admitting.proofs.Admits.{carryings}
-use borrow.Author.Rules.{rules}
 use Rattle.admitting.proofs.admit.named_after.Goals as goal
 
 pub returns-then-class-eq-METADATA : goal.returns-then-class-eq-METADATA

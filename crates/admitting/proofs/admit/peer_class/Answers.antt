@@ -1,4 +1,3 @@
-use borrow.Author.Rules.{rules}
 use Rattle.admitting.proofs.admit.peer_class.Goals as goal
 
 pub returns-then-acceptor : goal.returns-then-acceptor

@@ -1,5 +1,4 @@
 use Rattle.admitting.proofs.Spent.{hearings}
-use borrow.Author.Rules.{rules}
 use Rattle.admitting.proofs.confirmed.early_counts.Goals as goal
 
 pub returns-else-is_at : goal.returns-else-is_at

@@ -1,5 +1,4 @@
 use Rattle.admitting.proofs.Allowed.{exchanges}
-use borrow.Author.Rules.{rules}
 use Rattle.admitting.proofs.fits.exchange_fits.Goals as goal
 
 pub returns-else-starts_with : goal.returns-else-starts_with

@@ -1,5 +1,4 @@
 use Rattle.admitting.proofs.Allowed.{exchanges}
-use borrow.Author.Rules.{rules}
 use Rattle.admitting.proofs.fits.further_fits.Goals as goal
 
 pub returns-then-r : goal.returns-then-r

@@ -1,5 +1,4 @@
 use Rattle.admitting.proofs.Allowed.{at_part}
-use borrow.Author.Rules.{rules}
 use Rattle.admitting.proofs.fits.same_at.Goals as goal
 
 pub returns : goal.returns

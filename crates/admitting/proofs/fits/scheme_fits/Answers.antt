@@ -1,5 +1,4 @@
 use Rattle.admitting.proofs.Allowed.{kinds}
-use borrow.Author.Rules.{rules}
 use Rattle.admitting.proofs.fits.scheme_fits.Goals as goal
 
 pub returns-then-class-eq-NEGO : goal.returns-then-class-eq-NEGO

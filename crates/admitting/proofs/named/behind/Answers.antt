@@ -1,5 +1,4 @@
 use Rattle.admitting.proofs.Lists.{lists}
-use borrow.Author.Rules.{rules}
 use Rattle.admitting.proofs.named.behind.Goals as goal
 
 pub returns-then-s-from : goal.returns-then-s-from

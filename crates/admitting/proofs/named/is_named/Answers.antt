@@ -1,8 +1,6 @@
 use borrow.Author.Rules.{rules}
-use Prim.Native.Nat.{◌≤◌}
-use mathlib.Core.Path.{◌≡◌, refl}
-use Rattle.schemes.specs.Lists.{mem}
-use Rattle.admitting.proofs.Lists.{named_in, named-on, namings}
+use mathlib.Core.Path.{refl}
+use Rattle.admitting.proofs.Lists.{named-on, namings}
 use Rattle.admitting.proofs.named.is_named.Goals as goal
 
 pub loop-left-init : goal.loop-left-init

@@ -1,8 +1,7 @@
-use borrow.Author.Rules.{rules}
 use Prim.Native.Nat.{◌≤◌}
-use mathlib.Core.Path.{◌≡◌, refl}
+use mathlib.Core.Path.{◌≡◌}
 use Rattle.schemes.specs.Lists.{mem}
-use Rattle.admitting.proofs.Lists.{named_in, named-on, namings}
+use Rattle.admitting.proofs.Lists.{named_in}
 use Rattle.admitting.proofs.named.is_named.Given as goal
 
 abbrev pub invariant-loop-left : goal.invariant-loop-left

@@ -1,7 +1,6 @@
 use native.Mathlib.Omega.{arith}
 use lib.ListN.{length-take}
 use Rattle.admitting.proofs.Lists.{lists}
-use borrow.Author.Rules.{rules}
 use Rattle.admitting.proofs.named.listed.Goals as goal
 
 pub returns-then-t-lt-HEADER : goal.returns-then-t-lt-HEADER

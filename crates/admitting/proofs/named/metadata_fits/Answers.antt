@@ -1,5 +1,4 @@
 use Rattle.admitting.proofs.Lists.{metadatas}
-use borrow.Author.Rules.{rules}
 use Rattle.admitting.proofs.named.metadata_fits.Goals as goal
 
 pub returns-then-t-lt-HEADER : goal.returns-then-t-lt-HEADER

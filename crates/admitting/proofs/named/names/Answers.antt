@@ -1,5 +1,4 @@
 use Rattle.admitting.proofs.Lists.{namings}
-use borrow.Author.Rules.{rules}
 use Rattle.admitting.proofs.named.names.Goals as goal
 
 pub returns-then-s-lt-SCHEME_END : goal.returns-then-s-lt-SCHEME_END

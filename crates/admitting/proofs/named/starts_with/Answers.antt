@@ -1,7 +1,6 @@
 use native.Mathlib.Omega.{arith}
 use lib.ListN.{length-take}
 use Rattle.admitting.proofs.Lists.{lists}
-use borrow.Author.Rules.{rules}
 use Rattle.admitting.proofs.named.starts_with.Goals as goal
 
 pub returns-then-list-lt-ID : goal.returns-then-list-lt-ID

@@ -1,10 +1,6 @@
 use borrow.Author.Rules.{rules}
-use Rattle.blanking.specs.Blanked.{kept}
-use Rattle.blanking.specs.Covered.{covered}
-use lib.ListN.{length}
-use mathlib.Core.Path.{◌≡◌, refl}
-use Prim.Native.Nat.{◌-◌}
-use Rattle.blanking.proofs.Masks.{Masking, masks}
+use mathlib.Core.Path.{refl}
+use Rattle.blanking.proofs.Masks.{masks}
 use Rattle.blanking.proofs.covering.cover_messages.Goals as goal
 
 pub loop-at-init : goal.loop-at-init

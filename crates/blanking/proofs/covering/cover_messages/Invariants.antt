@@ -1,10 +1,9 @@
-use borrow.Author.Rules.{rules}
 use Rattle.blanking.specs.Blanked.{kept}
 use Rattle.blanking.specs.Covered.{covered}
 use lib.ListN.{length}
-use mathlib.Core.Path.{◌≡◌, refl}
+use mathlib.Core.Path.{◌≡◌}
 use Prim.Native.Nat.{◌-◌}
-use Rattle.blanking.proofs.Masks.{Masking, masks}
+use Rattle.blanking.proofs.Masks.{Masking}
 use Rattle.blanking.proofs.covering.cover_messages.Given as goal
 
 abbrev pub invariant-loop-at : goal.invariant-loop-at

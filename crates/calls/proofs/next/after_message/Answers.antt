@@ -1,4 +1,3 @@
-use borrow.Author.Rules.{rules}
 use Rattle.calls.proofs.next.after_message.Goals as goal
 
 pub returns : goal.returns

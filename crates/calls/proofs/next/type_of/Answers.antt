@@ -1,4 +1,3 @@
-use borrow.Author.Rules.{rules}
 use Rattle.calls.proofs.Types.{types}
 use Rattle.calls.proofs.next.type_of.Goals as goal
 

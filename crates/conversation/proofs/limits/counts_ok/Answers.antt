@@ -1,5 +1,4 @@
 use Rattle.conversation.proofs.Bounds.{places}
-use borrow.Author.Rules.{rules}
 use Rattle.conversation.proofs.limits.counts_ok.Goals as goal
 
 pub returns-then-used-gt65535 : goal.returns-then-used-gt65535

@@ -1,5 +1,4 @@
 use Rattle.conversation.proofs.Bounds.{places}
-use borrow.Author.Rules.{rules}
 use Rattle.conversation.proofs.limits.kept_ok.Goals as goal
 
 pub returns : goal.returns

@@ -1,5 +1,4 @@
 use Rattle.conversation.proofs.Bounds.{limits}
-use borrow.Author.Rules.{rules}
 use Rattle.conversation.proofs.limits.outside.Goals as goal
 
 pub returns-then-r-lt1 : goal.returns-then-r-lt1

@@ -1,5 +1,4 @@
 use Rattle.conversation.proofs.Places.{turns}
-use borrow.Author.Rules.{rules}
 use Rattle.conversation.proofs.turns.may_read.Goals as goal
 
 pub returns-then-token-eq-NO_TOKEN : goal.returns-then-token-eq-NO_TOKEN

@@ -1,5 +1,4 @@
 use Rattle.conversation.proofs.Places.{turns}
-use borrow.Author.Rules.{rules}
 use Rattle.conversation.proofs.turns.place_after.Goals as goal
 
 pub returns-then-is_again : goal.returns-then-is_again

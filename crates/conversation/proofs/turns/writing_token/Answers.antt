@@ -1,5 +1,4 @@
 use Rattle.conversation.proofs.Places.{turns}
-use borrow.Author.Rules.{rules}
 use Rattle.conversation.proofs.turns.writing_token.Goals as goal
 
 pub returns-then-acceptor : goal.returns-then-acceptor

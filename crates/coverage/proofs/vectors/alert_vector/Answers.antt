@@ -1,5 +1,4 @@
 use Rattle.coverage.proofs.Numbered.{places}
-use borrow.Author.Rules.{rules}
 use Rattle.coverage.proofs.vectors.alert_vector.Goals as goal
 
 pub returns-then-k-eq0 : goal.returns-then-k-eq0

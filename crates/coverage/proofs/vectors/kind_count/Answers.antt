@@ -1,5 +1,4 @@
 use Rattle.coverage.proofs.Numbered.{counts}
-use borrow.Author.Rules.{rules}
 use Rattle.coverage.proofs.vectors.kind_count.Goals as goal
 
 pub extension_vector-requires : goal.extension_vector-requires

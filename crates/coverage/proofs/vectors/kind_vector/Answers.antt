@@ -1,6 +1,5 @@
 use Rattle.coverage.proofs.Numbered.{kind-vectors}
 use Rattle.coverage.proofs.Marks.{kinds}
-use borrow.Author.Rules.{rules}
 use Rattle.coverage.proofs.vectors.kind_vector.Goals as goal
 
 pub nego_vector-requires : goal.nego_vector-requires

@@ -1,5 +1,4 @@
 use Rattle.coverage.proofs.Numbered.{values}
-use borrow.Author.Rules.{rules}
 use Rattle.coverage.proofs.vectors.value_of.Goals as goal
 
 pub returns-then-array-k : goal.returns-then-array-k

@@ -1,5 +1,4 @@
 use Rattle.coverage.proofs.Numbered.{wholes}
-use borrow.Author.Rules.{rules}
 use Rattle.coverage.proofs.vectors.vector_count.Goals as goal
 
 pub returns-then-m-lt64 : goal.returns-then-m-lt64

@@ -1,6 +1,5 @@
 use Rattle.entries.proofs.Layouts.{vectors}
 use Rattle.coverage.proofs.Numbered.{room-extensions, room-alerts}
-use borrow.Author.Rules.{rules}
 use Rattle.entries.proofs.lookup.array_vector.Goals as goal
 
 pub extension_vector-requires : goal.extension_vector-requires

@@ -1,6 +1,5 @@
 use Rattle.entries.proofs.Pieces.{wholes}
 use Rattle.entries.proofs.Bounds.{held-type}
-use borrow.Author.Rules.{rules}
 use Rattle.entries.proofs.lookup.entry_of.Goals as goal
 
 pub le_u32-requires : goal.le_u32-requires

@@ -1,5 +1,4 @@
 use Rattle.entries.proofs.Pieces.{fields-are}
-use borrow.Author.Rules.{rules}
 use Rattle.entries.proofs.lookup.field_entry.Goals as goal
 
 pub returns : goal.returns

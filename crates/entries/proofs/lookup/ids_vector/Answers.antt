@@ -1,6 +1,5 @@
 use Rattle.entries.proofs.Layouts.{vectors}
 use Rattle.coverage.proofs.Numbered.{room-extensions}
-use borrow.Author.Rules.{rules}
 use Rattle.entries.proofs.lookup.ids_vector.Goals as goal
 
 pub scheme_vector-requires : goal.scheme_vector-requires

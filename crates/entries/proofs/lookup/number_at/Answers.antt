@@ -1,5 +1,4 @@
 use Rattle.entries.proofs.Fields.{numbers-at}
-use borrow.Author.Rules.{rules}
 use Rattle.entries.proofs.lookup.number_at.Goals as goal
 
 pub returns-then-size-lt4 : goal.returns-then-size-lt4

@@ -1,7 +1,6 @@
 use Rattle.entries.proofs.Pieces.{fields-are}
 use native.Mathlib.Omega.{arith}
 use Prim.Native.Nat.{◌*◌}
-use borrow.Author.Rules.{rules}
 use Rattle.entries.proofs.lookup.table_entry.Goals as goal
 
 pub overflow_cast-what : goal.overflow_cast-what

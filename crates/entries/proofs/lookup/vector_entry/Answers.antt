@@ -1,5 +1,4 @@
 use Rattle.entries.proofs.Pieces.{vectors-are}
-use borrow.Author.Rules.{rules}
 use Rattle.entries.proofs.lookup.vector_entry.Goals as goal
 
 pub overflow_cast-result : goal.overflow_cast-result

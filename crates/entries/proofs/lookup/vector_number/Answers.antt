@@ -1,5 +1,4 @@
 use Rattle.entries.proofs.Layouts.{vector-numbers}
-use borrow.Author.Rules.{rules}
 use Rattle.entries.proofs.lookup.vector_number.Goals as goal
 
 pub returns-then-kind-le-ACCEPTOR_NEGO : goal.returns-then-kind-le-ACCEPTOR_NEGO

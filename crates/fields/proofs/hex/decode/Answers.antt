@@ -1,8 +1,5 @@
 use borrow.Author.Rules.{rules}
-use Prim.Native.Nat.{◌-◌, ◌*◌, ◌/◌, ◌≤◌}
-use mathlib.Core.Path.{◌≡◌, refl}
-use lib.ListN.{length, take, drop}
-use Rattle.fields.specs.Fields.{behind_all, pairs_of}
+use mathlib.Core.Path.{refl}
 use Rattle.fields.proofs.Decoding.{pair-octets}
 use Rattle.fields.proofs.hex.decode.Goals as goal
 

@@ -1,9 +1,7 @@
-use borrow.Author.Rules.{rules}
 use Prim.Native.Nat.{◌-◌, ◌*◌, ◌/◌, ◌≤◌}
-use mathlib.Core.Path.{◌≡◌, refl}
+use mathlib.Core.Path.{◌≡◌}
 use lib.ListN.{length, take, drop}
 use Rattle.fields.specs.Fields.{behind_all, pairs_of}
-use Rattle.fields.proofs.Decoding.{pair-octets}
 use Rattle.fields.proofs.hex.decode.Given as goal
 
 abbrev pub invariant-loop-i : goal.invariant-loop-i

@@ -1,5 +1,4 @@
 use Rattle.fields.proofs.Decoding.{ids}
-use borrow.Author.Rules.{rules}
 use Rattle.fields.proofs.hex.has_dashes.Goals as goal
 
 pub returns-then-octet-ne45 : goal.returns-then-octet-ne45

@@ -1,5 +1,4 @@
 use Rattle.fields.proofs.Decoding.{ids, id-octets}
-use borrow.Author.Rules.{rules}
 use Rattle.fields.proofs.hex.id.Goals as goal
 
 pub returns-then-s-ne36 : goal.returns-then-s-ne36

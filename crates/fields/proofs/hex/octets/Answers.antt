@@ -1,5 +1,4 @@
 use Rattle.fields.proofs.Decoding.{pair-octets}
-use borrow.Author.Rules.{rules}
 use Rattle.fields.proofs.hex.octets.Goals as goal
 
 pub returns-then-s-eq0 : goal.returns-then-s-eq0

@@ -1,9 +1,5 @@
 use borrow.Author.Rules.{rules}
 use native.Mathlib.Omega.{arith}
-use Prim.Native.Nat.{◌-◌}
-use mathlib.Core.Path.{◌≡◌}
-use lib.ListN.{length, take, drop}
-use Rattle.fields.specs.Fields.{behind_all, octets_at}
 use Rattle.fields.proofs.Decoding.{ids}
 use Rattle.fields.proofs.hex.octets_at.Goals as goal
 

@@ -1,5 +1,4 @@
 use Rattle.fields.proofs.Numerals.{pairs}
-use borrow.Author.Rules.{rules}
 use Rattle.fields.proofs.hex.pair.Goals as goal
 
 pub returns-then-high-eq16 : goal.returns-then-high-eq16

@@ -1,5 +1,4 @@
 use Rattle.fields.proofs.Numerals.{fixed}
-use borrow.Author.Rules.{rules}
 use Rattle.fields.proofs.number.hexadecimal.Goals as goal
 
 pub returns-then-s-digits : goal.returns-then-s-digits

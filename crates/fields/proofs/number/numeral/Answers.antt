@@ -1,10 +1,8 @@
 use borrow.Author.Rules.{rules}
-use Prim.Native.Nat.{◌-◌, ◌*◌, ◌≤◌}
+use Prim.Native.Nat.{◌*◌, ◌≤◌}
 use native.Mathlib.Nat.{mul-le-mul}
 use native.Mathlib.Omega.{arith}
-use mathlib.Core.Path.{◌≡◌, refl}
-use lib.ListN.{length, drop}
-use Rattle.fields.specs.Fields.{numeral_from}
+use mathlib.Core.Path.{refl}
 use Rattle.fields.proofs.Numerals.{numerals}
 use Rattle.fields.proofs.number.numeral.Goals as goal
 

@@ -1,5 +1,4 @@
 use Rattle.fields.proofs.Numerals.{fixed}
-use borrow.Author.Rules.{rules}
 use Rattle.fields.proofs.number.room.Goals as goal
 
 pub returns-then-s-lt1 : goal.returns-then-s-lt1

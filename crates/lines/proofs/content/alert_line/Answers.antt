@@ -1,5 +1,4 @@
 use Rattle.lines.proofs.Contents.{contents}
-use borrow.Author.Rules.{rules}
 use Rattle.lines.proofs.content.alert_line.Goals as goal
 
 pub returns-then-index-eq0 : goal.returns-then-index-eq0

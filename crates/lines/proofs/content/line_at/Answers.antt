@@ -1,5 +1,4 @@
 use Rattle.lines.proofs.Contents.{kinds}
-use borrow.Author.Rules.{rules}
 use Rattle.lines.proofs.content.line_at.Goals as goal
 
 pub message-requires : goal.message-requires

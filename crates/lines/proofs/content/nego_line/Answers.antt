@@ -1,5 +1,4 @@
 use Rattle.lines.proofs.Contents.{contents}
-use borrow.Author.Rules.{rules}
 use Rattle.lines.proofs.content.nego_line.Goals as goal
 
 pub returns-then-index-count : goal.returns-then-index-count

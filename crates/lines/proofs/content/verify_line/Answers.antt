@@ -1,5 +1,4 @@
 use Rattle.lines.proofs.Contents.{contents}
-use borrow.Author.Rules.{rules}
 use Rattle.lines.proofs.content.verify_line.Goals as goal
 
 pub returns-then-index-eq0 : goal.returns-then-index-eq0

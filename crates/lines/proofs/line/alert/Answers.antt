@@ -1,5 +1,4 @@
 use Rattle.lines.proofs.Chained.{alert-text}
-use borrow.Author.Rules.{rules}
 use Rattle.lines.proofs.line.alert.Goals as goal
 
 pub returns : goal.returns

@@ -1,5 +1,4 @@
 use Rattle.lines.proofs.Chained.{end-text}
-use borrow.Author.Rules.{rules}
 use Rattle.lines.proofs.line.end.Goals as goal
 
 pub returns : goal.returns

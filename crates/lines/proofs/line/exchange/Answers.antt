@@ -1,5 +1,4 @@
 use Rattle.lines.proofs.Chained.{exchange-text}
-use borrow.Author.Rules.{rules}
 use Rattle.lines.proofs.line.exchange.Goals as goal
 
 pub returns : goal.returns

@@ -1,5 +1,4 @@
 use Rattle.lines.proofs.Chained.{lengths-text}
-use borrow.Author.Rules.{rules}
 use Rattle.lines.proofs.line.lengths.Goals as goal
 
 pub returns : goal.returns

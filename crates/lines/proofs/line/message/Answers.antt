@@ -1,5 +1,4 @@
 use Rattle.lines.proofs.Chained.{message-text}
-use borrow.Author.Rules.{rules}
 use Rattle.lines.proofs.line.message.Goals as goal
 
 pub returns : goal.returns

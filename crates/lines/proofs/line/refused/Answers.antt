@@ -1,5 +1,4 @@
 use Rattle.lines.proofs.Chained.{refused-text}
-use borrow.Author.Rules.{rules}
 use Rattle.lines.proofs.line.refused.Goals as goal
 
 pub returns : goal.returns

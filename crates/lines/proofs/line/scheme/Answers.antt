@@ -1,5 +1,4 @@
 use Rattle.lines.proofs.Chained.{scheme-text}
-use borrow.Author.Rules.{rules}
 use Rattle.lines.proofs.line.scheme.Goals as goal
 
 pub returns : goal.returns

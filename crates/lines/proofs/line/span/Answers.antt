@@ -1,5 +1,4 @@
 use Rattle.lines.proofs.Chained.{span-text}
-use borrow.Author.Rules.{rules}
 use Rattle.lines.proofs.line.span.Goals as goal
 
 pub returns : goal.returns

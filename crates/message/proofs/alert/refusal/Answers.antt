@@ -1,5 +1,4 @@
 use Rattle.message.proofs.Bodies.{alerts}
-use borrow.Author.Rules.{rules}
 use Rattle.message.proofs.alert.refusal.Goals as goal
 
 pub returns-else-keeps_rule : goal.returns-else-keeps_rule

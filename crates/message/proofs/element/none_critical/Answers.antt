@@ -1,11 +1,6 @@
-use borrow.Author.Rules.{rules}
-use Prim.Native.Nat.{◌+◌, ◌*◌, ◌≤◌}
-use mathlib.Core.Path.{◌≡◌, refl}
+use mathlib.Core.Path.{refl}
 use native.Mathlib.Omega.{arith}
-use lib.ListN.{length}
-use Rattle.message.specs.Layout.{elements_of}
-use Rattle.message.specs.Check.{none_critical}
-use Rattle.message.proofs.Elements.{none_from, elements}
+use Rattle.message.proofs.Elements.{elements}
 use Rattle.message.proofs.element.none_critical.Goals as goal
 
 pub loop-left-init : goal.loop-left-init

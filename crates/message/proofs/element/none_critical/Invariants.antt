@@ -1,11 +1,9 @@
-use borrow.Author.Rules.{rules}
 use Prim.Native.Nat.{◌+◌, ◌*◌, ◌≤◌}
-use mathlib.Core.Path.{◌≡◌, refl}
-use native.Mathlib.Omega.{arith}
+use mathlib.Core.Path.{◌≡◌}
 use lib.ListN.{length}
 use Rattle.message.specs.Layout.{elements_of}
 use Rattle.message.specs.Check.{none_critical}
-use Rattle.message.proofs.Elements.{none_from, elements}
+use Rattle.message.proofs.Elements.{none_from}
 use Rattle.message.proofs.element.none_critical.Given as goal
 
 abbrev pub invariant-loop-left : goal.invariant-loop-left

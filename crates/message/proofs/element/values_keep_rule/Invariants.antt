@@ -1,11 +1,9 @@
-use borrow.Author.Rules.{rules}
 use Prim.Native.Nat.{◌+◌, ◌*◌, ◌≤◌}
-use mathlib.Core.Path.{◌≡◌, refl}
-use native.Mathlib.Omega.{arith}
+use mathlib.Core.Path.{◌≡◌}
 use lib.ListN.{length}
 use Rattle.message.specs.Layout.{values_of, elements_of}
 use Rattle.message.specs.Check.{all_keep_rule}
-use Rattle.message.proofs.Elements.{values_fit, elements}
+use Rattle.message.proofs.Elements.{values_fit}
 use Rattle.message.proofs.element.values_keep_rule.Given as goal
 
 abbrev pub invariant-loop-left : goal.invariant-loop-left

@@ -1,5 +1,4 @@
 use Rattle.message.proofs.Bodies.{exchanges}
-use borrow.Author.Rules.{rules}
 use Rattle.message.proofs.exchange.refusal.Goals as goal
 
 pub returns-then-keeps_rule : goal.returns-then-keeps_rule

@@ -1,4 +1,3 @@
-use borrow.Author.Rules.{rules}
 use Rattle.message.proofs.field.octet_vector.Goals as goal
 
 pub returns : goal.returns

@@ -1,5 +1,4 @@
 use Rattle.message.proofs.Bodies.{negos}
-use borrow.Author.Rules.{rules}
 use Rattle.message.proofs.nego.refusal.Goals as goal
 
 pub returns-then-le_u64-ne0 : goal.returns-then-le_u64-ne0

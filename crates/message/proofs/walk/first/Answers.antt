@@ -1,5 +1,4 @@
 use Rattle.message.proofs.Walks.{firsts}
-use borrow.Author.Rules.{rules}
 use Rattle.message.proofs.walk.first.Goals as goal
 
 pub returns-then-rest-lt-COMMON_HEADER : goal.returns-then-rest-lt-COMMON_HEADER

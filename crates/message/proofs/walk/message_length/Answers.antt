@@ -1,5 +1,4 @@
 use Rattle.message.proofs.Walks.{firsts}
-use borrow.Author.Rules.{rules}
 use Rattle.message.proofs.walk.message_length.Goals as goal
 
 pub returns : goal.returns

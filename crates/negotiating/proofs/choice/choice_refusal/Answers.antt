@@ -1,7 +1,6 @@
 use Prim.Native.Nat.{◌≤◌}
 use Rattle.negotiating.proofs.Choices.{choice-refusals, choice-few}
 use native.Mathlib.Omega.{arith}
-use borrow.Author.Rules.{rules}
 use Rattle.negotiating.proofs.choice.choice_refusal.Goals as goal
 
 pub returns-then-number-ne0 : goal.returns-then-number-ne0

@@ -1,5 +1,4 @@
 use Rattle.negotiating.proofs.Choices.{choices}
-use borrow.Author.Rules.{rules}
 use Rattle.negotiating.proofs.choice.chosen_record.Goals as goal
 
 pub returns : goal.returns

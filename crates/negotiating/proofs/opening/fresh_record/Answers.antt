@@ -1,5 +1,4 @@
 use Rattle.negotiating.proofs.Openings.{openings}
-use borrow.Author.Rules.{rules}
 use Rattle.negotiating.proofs.opening.fresh_record.Goals as goal
 
 pub returns : goal.returns

@@ -1,5 +1,4 @@
 use Rattle.negotiating.proofs.Openings.{openings}
-use borrow.Author.Rules.{rules}
 use Rattle.negotiating.proofs.opening.open.Goals as goal
 
 pub fresh_record-next-requires : goal.fresh_record-next-requires

@@ -1,5 +1,4 @@
 use Rattle.receiving.proofs.Judging.{refusals}
-use borrow.Author.Rules.{rules}
 use Rattle.receiving.proofs.judge.cut_at.Goals as goal
 
 pub returns-in-Refused : goal.returns-in-Refused

@@ -1,5 +1,4 @@
 use Rattle.receiving.proofs.Judging.{tokens}
-use borrow.Author.Rules.{rules}
 use Rattle.receiving.proofs.judge.expected.Goals as goal
 
 pub returns-then-token-eq-FIRST : goal.returns-then-token-eq-FIRST

@@ -1,5 +1,4 @@
 use Rattle.receiving.proofs.Judging.{refusals}
-use borrow.Author.Rules.{rules}
 use Rattle.receiving.proofs.judge.halted_at.Goals as goal
 
 pub returns-in-Stop : goal.returns-in-Stop

@@ -1,10 +1,7 @@
 use borrow.Author.Rules.{rules}
-use Prim.Native.Nat.{◌+◌, ◌<◌, ◌≤◌}
-use mathlib.Core.Path.{◌≡◌}
+use Prim.Native.Nat.{◌<◌}
 use native.Mathlib.Omega.{arith}
 use lib.ListN.{length}
-use Rattle.token.specs.Token.{chain_of}
-use Rattle.conversation.specs.Reading.{start_of, judge}
 use Rattle.receiving.proofs.Judging.{whole_length, place-fits, judgings}
 use Rattle.receiving.proofs.judge.judge_messages.Goals as goal
 

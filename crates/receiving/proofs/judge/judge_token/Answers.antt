@@ -1,5 +1,4 @@
 use Rattle.receiving.proofs.Judging.{tokens}
-use borrow.Author.Rules.{rules}
 use Rattle.receiving.proofs.judge.judge_token.Goals as goal
 
 pub returns-then-t-lt-COMMON_HEADER : goal.returns-then-t-lt-COMMON_HEADER

@@ -1,6 +1,5 @@
 use native.Mathlib.Omega.{arith}
 use Rattle.receiving.proofs.Takes.{token-small}
-use borrow.Author.Rules.{rules}
 use Rattle.receiving.proofs.taken.moved.Goals as goal
 
 pub overflow_add-next : goal.overflow_add-next
@@ -8,7 +7,7 @@ overflow_add-next c = omega (arith, token-small c.args.r _ c.reading_token-token
 
 pub returns : goal.returns
 returns c = rw (
-      c.reading_token-token.ensures,
-      c.conversation_of-conversation.ensures,
-      c.counts_after-attested.ensures,
-    )
+  c.reading_token-token.ensures,
+  c.conversation_of-conversation.ensures,
+  c.counts_after-attested.ensures,
+)

@@ -1,5 +1,4 @@
 use Rattle.replay_case.proofs.Givens.{behinds}
-use borrow.Author.Rules.{rules}
 use Rattle.replay_case.proofs.given.read_behind.Goals as goal
 
 pub returns-then-is_word : goal.returns-then-is_word

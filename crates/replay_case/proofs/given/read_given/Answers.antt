@@ -1,5 +1,4 @@
 use Rattle.replay_case.proofs.Givens.{givens}
-use borrow.Author.Rules.{rules}
 use Rattle.replay_case.proofs.given.read_given.Goals as goal
 
 pub returns-else-is_word : goal.returns-else-is_word

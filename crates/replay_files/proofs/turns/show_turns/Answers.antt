@@ -1,8 +1,5 @@
 use borrow.Author.Rules.{rules}
-use mathlib.Core.Path.{◌≡◌}
-use lib.ListN.{length}
-use Rattle.replaying.specs.Playing.{summary, counted, rest_of}
-use Rattle.replaying.proofs.Alls.{AllOn, left, alls}
+use Rattle.replaying.proofs.Alls.{alls}
 use Rattle.replay_files.proofs.turns.show_turns.Goals as goal
 
 pub loop-replay-init : goal.loop-replay-init

@@ -1,8 +1,7 @@
-use borrow.Author.Rules.{rules}
 use mathlib.Core.Path.{◌≡◌}
 use lib.ListN.{length}
 use Rattle.replaying.specs.Playing.{summary, counted, rest_of}
-use Rattle.replaying.proofs.Alls.{AllOn, left, alls}
+use Rattle.replaying.proofs.Alls.{AllOn, left}
 use Rattle.replaying.proofs.play.play_all.Given as goal
 
 abbrev pub invariant-loop-replay : goal.invariant-loop-replay

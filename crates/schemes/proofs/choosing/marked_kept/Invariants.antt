@@ -1,9 +1,7 @@
-use borrow.Author.Rules.{rules}
 use Prim.Native.Nat.{◌≤◌}
 use mathlib.Core.Path.{◌≡◌}
 use lib.ListN.{drop}
 use Rattle.schemes.specs.Answers.{marked_at}
-use Rattle.schemes.proofs.Builds.{markings}
 use Rattle.schemes.proofs.choosing.marked_kept.Given as goal
 
 abbrev pub invariant-loop-k : goal.invariant-loop-k

@@ -1,12 +1,8 @@
 use borrow.Author.Rules.{rules}
 use native.Mathlib.Omega.{arith}
 use lib.ListN.{length-drop}
-use Prim.Native.Nat.{◌-◌, ◌≤◌}
-use mathlib.Core.Path.{◌≡◌}
-use Rattle.message.specs.Show.{ids_at}
-use Rattle.schemes.specs.Lists.{distinct}
 use Rattle.octets.proofs.Slices.{tail_all}
-use Rattle.schemes.proofs.Ids.{rest, repeats}
+use Rattle.schemes.proofs.Ids.{repeats}
 use Rattle.schemes.proofs.list.distinct_ids.Goals as goal
 
 pub loop-k-init : goal.loop-k-init

@@ -1,9 +1,5 @@
 use borrow.Author.Rules.{rules}
-use Prim.Native.Nat.{◌+◌, ◌-◌, ◌≤◌}
-use mathlib.Core.Path.{◌≡◌}
-use Rattle.message.specs.Show.{ids_at}
-use Rattle.schemes.specs.Lists.{place}
-use Rattle.schemes.proofs.Ids.{rest, searches}
+use Rattle.schemes.proofs.Ids.{searches}
 use Rattle.schemes.proofs.list.find.Goals as goal
 
 pub loop-k-init : goal.loop-k-init

@@ -1,9 +1,8 @@
-use borrow.Author.Rules.{rules}
 use Prim.Native.Nat.{◌+◌, ◌-◌, ◌≤◌}
 use mathlib.Core.Path.{◌≡◌}
 use Rattle.message.specs.Show.{ids_at}
 use Rattle.schemes.specs.Lists.{place}
-use Rattle.schemes.proofs.Ids.{rest, searches}
+use Rattle.schemes.proofs.Ids.{rest}
 use Rattle.schemes.proofs.list.find.Given as goal
 
 abbrev pub invariant-loop-k : goal.invariant-loop-k

@@ -1,5 +1,4 @@
 use Rattle.schemes.proofs.Ids.{searches}
-use borrow.Author.Rules.{rules}
 use Rattle.schemes.proofs.list.has_id.Goals as goal
 
 pub returns : goal.returns

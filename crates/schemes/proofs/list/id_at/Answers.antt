@@ -1,8 +1,5 @@
 use borrow.Author.Rules.{rules}
-use Prim.Native.Nat.{◌-◌, ◌≤◌}
-use mathlib.Core.Path.{◌≡◌, refl}
-use lib.ListN.{take, drop}
-use Rattle.schemes.specs.Sets.{pad_to}
+use mathlib.Core.Path.{refl}
 use Rattle.schemes.proofs.Pads.{copies}
 use Rattle.schemes.proofs.list.id_at.Goals as goal
 

@@ -1,9 +1,7 @@
-use borrow.Author.Rules.{rules}
 use Prim.Native.Nat.{◌-◌, ◌≤◌}
-use mathlib.Core.Path.{◌≡◌, refl}
+use mathlib.Core.Path.{◌≡◌}
 use lib.ListN.{take, drop}
 use Rattle.schemes.specs.Sets.{pad_to}
-use Rattle.schemes.proofs.Pads.{copies}
 use Rattle.schemes.proofs.list.id_at.Given as goal
 
 abbrev pub invariant-loop-j : goal.invariant-loop-j

@@ -1,5 +1,4 @@
 use Rattle.schemes.proofs.Ids.{own-lists}
-use borrow.Author.Rules.{rules}
 use Rattle.schemes.proofs.list.list_ok.Goals as goal
 
 pub returns-then-own-ne0 : goal.returns-then-own-ne0

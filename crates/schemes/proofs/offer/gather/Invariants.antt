@@ -1,12 +1,8 @@
-use borrow.Author.Rules.{rules}
-use native.Mathlib.Omega.{arith}
-use lib.ListN.{length}
 use Prim.Native.Nat.{◌-◌, ◌≤◌}
 use mathlib.Core.Path.{◌≡◌}
 use Rattle.message.specs.Show.{ids_at}
 use Rattle.schemes.specs.Sets.{left}
 use Rattle.schemes.specs.Answers.{schemes_of}
-use Rattle.schemes.proofs.Offers.{gather-room, gather-take, gatherings}
 use Rattle.schemes.proofs.offer.gather.Given as goal
 
 abbrev pub invariant-loop-k : goal.invariant-loop-k

@@ -1,7 +1,4 @@
 use borrow.Author.Rules.{rules}
-use Prim.Native.Nat.{◌*◌, ◌-◌, ◌≤◌}
-use mathlib.Core.Path.{◌≡◌}
-use lib.Seq.{paste}
 use Rattle.schemes.proofs.Offers.{appends}
 use Rattle.schemes.proofs.offer.with_id.Goals as goal
 

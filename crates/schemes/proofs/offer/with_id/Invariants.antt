@@ -1,8 +1,6 @@
-use borrow.Author.Rules.{rules}
 use Prim.Native.Nat.{◌*◌, ◌-◌, ◌≤◌}
 use mathlib.Core.Path.{◌≡◌}
 use lib.Seq.{paste}
-use Rattle.schemes.proofs.Offers.{appends}
 use Rattle.schemes.proofs.offer.with_id.Given as goal
 
 abbrev pub invariant-loop-j : goal.invariant-loop-j

@@ -1,9 +1,7 @@
-use borrow.Author.Rules.{rules}
 use Prim.Native.Nat.{◌-◌, ◌≤◌}
 use mathlib.Core.Path.{◌≡◌}
 use lib.ListN.{length, drop}
 use Rattle.schemes.specs.Sets.{has}
-use Rattle.schemes.proofs.Mentions.{places}
 use Rattle.schemes.proofs.reply.has_place.Given as goal
 
 abbrev pub invariant-loop-i : goal.invariant-loop-i

@@ -1,10 +1,8 @@
-use borrow.Author.Rules.{rules}
 use Prim.Native.Nat.{◌-◌, ◌≤◌}
 use mathlib.Core.Path.{◌≡◌}
 use Rattle.message.specs.Show.{ids_at}
 use Rattle.schemes.specs.Sets.{kept_places}
 use Rattle.schemes.specs.Answers.{kept_of}
-use Rattle.schemes.proofs.Mentions.{keepings}
 use Rattle.schemes.proofs.reply.kept_places.Given as goal
 
 abbrev pub invariant-loop-j : goal.invariant-loop-j

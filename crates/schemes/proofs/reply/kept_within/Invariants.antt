@@ -1,9 +1,7 @@
-use borrow.Author.Rules.{rules}
 use Prim.Native.Nat.{◌-◌, ◌≤◌}
 use mathlib.Core.Path.{◌≡◌}
 use lib.ListN.{drop}
 use Rattle.schemes.specs.Sets.{kept_below}
-use Rattle.schemes.proofs.Limits.{limits}
 use Rattle.schemes.proofs.reply.kept_within.Given as goal
 
 abbrev pub invariant-loop-k : goal.invariant-loop-k

@@ -1,9 +1,4 @@
 use borrow.Author.Rules.{rules}
-use Prim.Native.Nat.{◌≤◌}
-use mathlib.Core.Path.{◌≡◌}
-use Rattle.message.specs.Show.{ids_of}
-use Rattle.schemes.specs.Sets.{common_set}
-use Rattle.schemes.proofs.Ids.{rest}
 use Rattle.schemes.proofs.Builds.{commons}
 use Rattle.schemes.proofs.set.common_set.Goals as goal
 

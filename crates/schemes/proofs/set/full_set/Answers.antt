@@ -1,5 +1,4 @@
 use Rattle.schemes.proofs.Digits.{digits}
-use borrow.Author.Rules.{rules}
 use Rattle.schemes.proofs.set.full_set.Goals as goal
 
 pub overflow_sub-result : goal.overflow_sub-result

@@ -1,6 +1,5 @@
 use native.Mathlib.Omega.{arith}
 use Rattle.script.proofs.Places.{others-are}
-use borrow.Author.Rules.{rules}
 use Rattle.script.proofs.field.behind.Goals as goal
 
 pub returns : goal.returns

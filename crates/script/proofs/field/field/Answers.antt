@@ -1,5 +1,4 @@
 use Rattle.script.proofs.Places.{parts}
-use borrow.Author.Rules.{rules}
 use Rattle.script.proofs.field.field.Goals as goal
 
 pub returns : goal.returns

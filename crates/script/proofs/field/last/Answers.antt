@@ -1,5 +1,4 @@
 use Rattle.script.proofs.Places.{parts}
-use borrow.Author.Rules.{rules}
 use Rattle.script.proofs.field.last.Goals as goal
 
 pub returns-then-end-s : goal.returns-then-end-s

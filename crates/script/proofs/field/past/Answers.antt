@@ -1,5 +1,4 @@
 use Rattle.script.proofs.Lines.{pasts}
-use borrow.Author.Rules.{rules}
 use Rattle.script.proofs.field.past.Goals as goal
 
 pub returns-then-read : goal.returns-then-read

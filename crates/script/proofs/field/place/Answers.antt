@@ -1,11 +1,6 @@
 use Rattle.script.proofs.Places.{places}
 use borrow.Author.Rules.{rules}
 use native.Mathlib.Omega.{arith}
-use Prim.Native.Nat.{◌+◌, ◌-◌, ◌≤◌}
-use mathlib.Core.Path.{◌≡◌}
-use lib.ListN.{length}
-use Rattle.script.specs.Grammar.{fields_of, place_from, place_of}
-use Rattle.script.specs.Places.{fields_from}
 use Rattle.script.proofs.field.place.Goals as goal
 
 pub loop-at-init : goal.loop-at-init

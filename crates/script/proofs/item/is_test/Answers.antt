@@ -1,5 +1,4 @@
 use Rattle.script.proofs.Items.{test_words}
-use borrow.Author.Rules.{rules}
 use Rattle.script.proofs.item.is_test.Goals as goal
 
 pub returns-then-line-behind : goal.returns-then-line-behind

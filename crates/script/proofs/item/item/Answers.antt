@@ -1,5 +1,4 @@
 use Rattle.script.proofs.Items.{item-texts}
-use borrow.Author.Rules.{rules}
 use Rattle.script.proofs.item.item.Goals as goal
 
 pub returns-then-octet-ne58 : goal.returns-then-octet-ne58

@@ -1,5 +1,4 @@
 use Rattle.script.proofs.Lines.{named-ids}
-use borrow.Author.Rules.{rules}
 use Rattle.script.proofs.value.id_in.Goals as goal
 
 pub returns-then-some : goal.returns-then-some

@@ -1,12 +1,8 @@
 use Rattle.script.proofs.Ids.{id-lists}
 use borrow.Author.Rules.{rules}
 use native.Mathlib.Omega.{arith}
-use Prim.Native.Nat.{◌+◌, ◌-◌, ◌≤◌}
 use mathlib.Core.Path.{◌≡◌, refl}
-use lib.ListN.{length, take}
-use Rattle.fields.specs.Fields.{behind_all}
-use Rattle.script.specs.Grammar.{ids_of}
-use Rattle.script.specs.Places.{fields_from}
+use lib.ListN.{length}
 use Rattle.script.proofs.value.ids.Goals as goal
 
 pub loop-at-init : goal.loop-at-init

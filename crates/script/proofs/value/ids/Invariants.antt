@@ -1,8 +1,5 @@
-use Rattle.script.proofs.Ids.{id-lists}
-use borrow.Author.Rules.{rules}
-use native.Mathlib.Omega.{arith}
 use Prim.Native.Nat.{◌+◌, ◌-◌, ◌≤◌}
-use mathlib.Core.Path.{◌≡◌, refl}
+use mathlib.Core.Path.{◌≡◌}
 use lib.ListN.{length, take}
 use Rattle.fields.specs.Fields.{behind_all}
 use Rattle.script.specs.Grammar.{ids_of}

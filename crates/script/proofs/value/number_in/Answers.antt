@@ -1,5 +1,4 @@
 use Rattle.script.proofs.Lines.{numbers}
-use borrow.Author.Rules.{rules}
 use Rattle.script.proofs.value.number_in.Goals as goal
 
 pub returns-then-kind-eq-NONE : goal.returns-then-kind-eq-NONE

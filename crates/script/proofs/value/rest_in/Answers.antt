@@ -1,5 +1,4 @@
 use Rattle.script.proofs.Lines.{rests}
-use borrow.Author.Rules.{rules}
 use Rattle.script.proofs.value.rest_in.Goals as goal
 
 pub returns-then-kind-eq-IDS : goal.returns-then-kind-eq-IDS

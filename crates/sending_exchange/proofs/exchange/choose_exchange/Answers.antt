@@ -1,7 +1,6 @@
 use mathlib.Core.Path.{refl}
 use Rattle.conversation.specs.Writing.{request}
 use Rattle.negotiating.proofs.Choices.{choosings, choose-made}
-use borrow.Author.Rules.{rules}
 use Rattle.sending_exchange.proofs.exchange.choose_exchange.Goals as goal
 
 pub returns-then-number-ne0 : goal.returns-then-number-ne0

@@ -1,5 +1,4 @@
 use Rattle.sending_exchange.proofs.Exchanges.{requesteds}
-use borrow.Author.Rules.{rules}
 use Rattle.sending_exchange.proofs.exchange.requested_by.Goals as goal
 
 pub returns-then-writing_token-eq0 : goal.returns-then-writing_token-eq0

@@ -1,4 +1,3 @@
-use borrow.Author.Rules.{rules}
 use Rattle.calls.proofs.Sizes.{sized}
 use Rattle.sending.proofs.Named.{named-inside}
 use Rattle.sending_exchange.proofs.Exchanges.{exchange-refused, exchange-ready, exchange-written}

@@ -1,6 +1,5 @@
 use Prim.Native.Nat.{◌≤◌}
 use native.Mathlib.Omega.{arith}
-use borrow.Author.Rules.{rules}
 use Rattle.sending_exchange.proofs.Tellings.{find-few, tolds}
 use Rattle.sending_exchange.proofs.metadata.metadata_allowed.Goals as goal
 

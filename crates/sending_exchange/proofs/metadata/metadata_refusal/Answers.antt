@@ -1,4 +1,3 @@
-use borrow.Author.Rules.{rules}
 use Rattle.calls.proofs.Refusals.{stage-inside}
 use Rattle.sending_exchange.proofs.Tellings.{metadata-refusals}
 use Rattle.sending_exchange.proofs.metadata.metadata_refusal.Goals as goal

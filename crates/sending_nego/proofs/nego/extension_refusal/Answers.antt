@@ -1,6 +1,5 @@
 use Rattle.elements.proofs.Views.{few-given}
 use Rattle.sending_nego.proofs.Extensions.{extensions}
-use borrow.Author.Rules.{rules}
 use Rattle.sending_nego.proofs.nego.extension_refusal.Goals as goal
 
 pub returns-else-fits : goal.returns-else-fits

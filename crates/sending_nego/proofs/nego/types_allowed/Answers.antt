@@ -1,5 +1,4 @@
 use Rattle.sending_nego.proofs.Extensions.{types-tested}
-use borrow.Author.Rules.{rules}
 use Rattle.sending_nego.proofs.nego.types_allowed.Goals as goal
 
 pub returns : goal.returns

@@ -1,7 +1,6 @@
 use mathlib.Core.List.{[]}
 use Rattle.conversation.specs.Writing.{NegoContent}
 use Rattle.sending_nego.proofs.Offering.{offer-stage, offer-list-size, offer-header-size, offer-role, offer-extensions, offer-crowded, offer-fits}
-use borrow.Author.Rules.{rules}
 use Rattle.sending_nego.proofs.offer.offer_refusal.Goals as goal
 
 pub returns-then-stage-ne0 : goal.returns-then-stage-ne0

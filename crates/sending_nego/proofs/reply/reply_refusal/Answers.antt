@@ -2,7 +2,6 @@ use mathlib.Core.List.{[]}
 use native.Mathlib.Omega.{arith}
 use Rattle.conversation.specs.Writing.{NegoContent}
 use Rattle.sending_nego.proofs.Replying.{reply-few, reply-stage, reply-role, reply-marks, reply-extensions, reply-none, reply-crowded, reply-fits}
-use borrow.Author.Rules.{rules}
 use Rattle.sending_nego.proofs.reply.reply_refusal.Goals as goal
 
 pub returns-then-stage-ne0 : goal.returns-then-stage-ne0

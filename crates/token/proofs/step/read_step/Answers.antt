@@ -1,5 +1,4 @@
 use Rattle.token.proofs.Orders.{orders}
-use borrow.Author.Rules.{rules}
 use Rattle.token.proofs.step.read_step.Goals as goal
 
 pub returns-in_default : goal.returns-in_default

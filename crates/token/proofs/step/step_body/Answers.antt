@@ -1,7 +1,6 @@
 use native.Mathlib.Omega.{arith}
 use lib.ListN.{length-take}
 use Rattle.message.proofs.Readings.{readings}
-use borrow.Author.Rules.{rules}
 use Rattle.token.proofs.step.step_body.Goals as goal
 
 pub slice_bounds-step_refusal-end : goal.slice_bounds-step_refusal-end

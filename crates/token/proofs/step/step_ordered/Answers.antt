@@ -1,5 +1,4 @@
 use Rattle.token.proofs.Orders.{orders}
-use borrow.Author.Rules.{rules}
 use Rattle.token.proofs.step.step_ordered.Goals as goal
 
 pub returns-then-h-sequence : goal.returns-then-h-sequence

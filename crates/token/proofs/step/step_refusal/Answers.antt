@@ -1,4 +1,3 @@
-use borrow.Author.Rules.{rules}
 use Rattle.message.proofs.Shapes.{shapes}
 use Rattle.token.proofs.step.step_refusal.Goals as goal
 

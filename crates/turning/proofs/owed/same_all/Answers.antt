@@ -1,8 +1,5 @@
 use borrow.Author.Rules.{rules}
-use Prim.Native.Nat.{◌-◌}
-use mathlib.Core.Path.{◌≡◌, refl}
-use lib.ListN.{length, drop}
-use Rattle.octets.specs.Octets.{same_octets}
+use mathlib.Core.Path.{refl}
 use Rattle.turning.proofs.Owing.{alls}
 use Rattle.turning.proofs.owed.same_all.Goals as goal
 

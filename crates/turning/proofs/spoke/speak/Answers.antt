@@ -1,6 +1,5 @@
 use borrow.Author.Rules.{rules}
-use lib.ListN.{length}
-use Rattle.turning.proofs.Saying.{SpeakOn, sayings}
+use Rattle.turning.proofs.Saying.{sayings}
 use Rattle.merging.proofs.Cuts.{header-within, header-less}
 use Rattle.turning.proofs.spoke.speak.Goals as goal
 

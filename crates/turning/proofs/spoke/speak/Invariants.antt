@@ -1,7 +1,5 @@
-use borrow.Author.Rules.{rules}
 use lib.ListN.{length}
-use Rattle.turning.proofs.Saying.{SpeakOn, sayings}
-use Rattle.merging.proofs.Cuts.{header-within, header-less}
+use Rattle.turning.proofs.Saying.{SpeakOn}
 use Rattle.turning.proofs.spoke.speak.Given as goal
 
 abbrev pub invariant-loop-rest : goal.invariant-loop-rest

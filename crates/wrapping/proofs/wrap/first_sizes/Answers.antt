@@ -1,6 +1,5 @@
 use native.Mathlib.Omega.{arith}
 use lib.ListN.{length-take}
-use borrow.Author.Rules.{rules}
 use Rattle.wrapping.proofs.wrap.first_sizes.Goals as goal
 
 pub slice_bounds-result-end : goal.slice_bounds-result-end
