@@ -17,7 +17,7 @@ use Rattle.der.specs.declared.Framed.{Framed}
 use Rattle.der.specs.declared.Framed.TheVariants as frames
 use Rattle.der.specs.declared.Cut.{Cut}
 use Rattle.der.specs.declared.Cut.TheVariants.{Element, Refused}
-use Rattle.der.proofs.Parts.{part_none, part-cons, length_part, drop-part, take_part, get_d_part}
+use Rattle.der.proofs.Parts.{part_none, part-cons, length_part, drop-part, take_part, get_or-part}
 
 -- from its length on
 module _ (s : List ℕ) (at end : ℕ) (h : Holder s at end) where
@@ -38,7 +38,7 @@ module _ (s : List ℕ) (at end : ℕ) (h : Holder s at end) where
   module _ (some : at ≡ end → ⊥) (k : ℕ) (k-is : k ≡ 1 + (get_or s at 0 - 128)) where
     lead_is : lead_of (part s at end) ≡ k
     unfolding lead_of
-    lead_is = let o = h.order in rw (get_d_part s at end h.order h.inside 0 (omega arith), add-zero) (sym k-is)
+    lead_is = let o = h.order in rw (get_or-part s at end h.order h.inside 0 (omega arith), add-zero) (sym k-is)
 
     pub frame-cut : end - at < k → Says (frames.Refused 20)
     frame-cut g = let o = h.order in cut_off (omega (arith, size-of-v, lead_is))

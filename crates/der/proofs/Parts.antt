@@ -36,9 +36,9 @@ module _ (s : List ℕ) (at end : ℕ) (order : at ≤ end) (inside : end ≤ le
       let z : at + i - at ≡ i = omega arith in
       rw z (take-take i (end - at) (drop at s) (omega arith))
 
-  pub get_d_part : (i : ℕ) → at + i < end → get_or (part s at end) i 0 ≡ get_or s (at + i) 0
+  pub get_or-part : (i : ℕ) → at + i < end → get_or (part s at end) i 0 ≡ get_or s (at + i) 0
   unfolding part
-  get_d_part i h = get_or-take (end - at) (drop at s) i 0 (omega arith) ∙ get_or-drop at s i 0
+  get_or-part i h = get_or-take (end - at) (drop at s) i 0 (omega arith) ∙ get_or-drop at s i 0
 
 pub part-cons : (s : List ℕ) (at end : ℕ) → at < end → end ≤ length s → part s at end ≡ get_or s at 0 ∷ part s (at + 1) end
 unfolding part

@@ -15,10 +15,10 @@ use Rattle.fields.specs.declared.hex.Decoded.{Decoded}
 use Rattle.fields.specs.declared.hex.Decoded.TheVariants as decoded
 use Rattle.fields.specs.Fields.{pair_of, Octets, of, none, behind_all, front, bad, fit, pairs_of, octets_of, random_of, decoded_as, Decodes, octets_at, dashed, id_of, id_places}
 
-pub get_d_past : (l : List ℕ) (i : ℕ) → length l ≤ i → 0 ≡ get_or l i 0
-get_d_past [] i h = refl
-get_d_past (x ∷ l) zero h = absurd (omega arith)
-get_d_past (x ∷ l) (suc i) h = get_d_past l i (omega arith)
+pub get_or-past : (l : List ℕ) (i : ℕ) → length l ≤ i → 0 ≡ get_or l i 0
+get_or-past [] i h = refl
+get_or-past (x ∷ l) zero h = absurd (omega arith)
+get_or-past (x ∷ l) (suc i) h = get_or-past l i (omega arith)
 
 pub behind-twice : (l m : List ℕ) (x : Octets) → behind_all l (behind_all m x) ≡ behind_all (l ++ m) x
 behind-twice l m (of r) = ap of (sym (append_assoc l m r))

@@ -23,7 +23,7 @@ use Rattle.text.specs.Text.{Text, written}
 use Rattle.parts.proofs.Shows.{length-elements}
 use Rattle.lines.specs.Lines.{message_line, scheme_line, extension_line, exchange_line, checksum_line, error_line, alert_line, numbered, message_lines}
 use Rattle.lines.specs.Fit.{Fit, shape_in, lines_in}
-use Rattle.lines.proofs.Lists.{length-numbered, get_d_numbered, get_or-elements, in-first, in-second}
+use Rattle.lines.proofs.Lists.{length-numbered, get_or-numbered, get_or-elements, in-first, in-second}
 
 -- a vector that keeps its rule is shown whole
 kept : (header : ℕ) (m : List ℕ) (v : Vector) (a : List ℕ) → keeps_rule header (length m) v ≡ true → a ≡ shown header m v → a ≡ part m v
@@ -51,7 +51,7 @@ element f a k h =
     let n : k < length (elements_of a) = omega (arith, length-elements (length a / 12) a 0) in
     let i : 0 + k ≡ k = omega arith in
     let at : 0 + 12 * k ≡ 12 * k = omega arith in
-    get_d_numbered f 0 (elements_of a) k none n
+    get_or-numbered f 0 (elements_of a) k none n
     ∙ ap (λ (j : ℕ). f j (get_or (elements_of a) k none)) i
     ∙ ap (f k) (get_or-elements (length a / 12) a 0 k none h ∙ ap (element_at a) at)
 
@@ -102,7 +102,7 @@ module _ (m : List ℕ) (fit : Fit nego m) where
           let g : get_or (lines_in nego m) j [] ≡ scheme_line j (take 16 (drop (16 * j) a)) =
           ap (λ (ls : List (List (List ℕ))). get_or ls j []) (nego-lines b refl)
           ∙ in-first schemes (others b) j (length a / 16) [] length-schemes h
-          ∙ get_d_numbered scheme_line 0 (ids_of a) j [] n
+          ∙ get_or-numbered scheme_line 0 (ids_of a) j [] n
           ∙ ap (λ (i : ℕ). scheme_line i (get_or (ids_of a) j [])) k
           ∙ ap (scheme_line j) (id-at (length a / 16) a j h) in
           same t x _ _ (ap (scheme_line j) c ∙ sym g) e

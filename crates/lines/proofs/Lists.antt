@@ -14,13 +14,13 @@ unfolding numbered_from
 length-numbered f k [] = refl
 length-numbered f k (x ∷ xs) = ap suc (length-numbered f (k + 1) xs)
 
-pub get_d_numbered : {A : Type 0} (f : ℕ → A → List (List ℕ)) (k : ℕ) (xs : List A) (i : ℕ) (z : A) → i < length xs
+pub get_or-numbered : {A : Type 0} (f : ℕ → A → List (List ℕ)) (k : ℕ) (xs : List A) (i : ℕ) (z : A) → i < length xs
     → get_or (numbered_from f k xs) i [] ≡ f (k + i) (get_or xs i z)
 unfolding numbered_from
-get_d_numbered f k [] i z h = absurd (omega arith)
-get_d_numbered f k (x ∷ xs) zero z h = let e : k ≡ k + 0 = omega arith in ap (λ (n : ℕ). f n x) e
-get_d_numbered f k (x ∷ xs) (suc i) z h =
-    let e : k + 1 + i ≡ k + suc i = omega arith in get_d_numbered f (k + 1) xs i z (omega arith) ∙ ap (λ (n : ℕ). f n (get_or xs i z)) e
+get_or-numbered f k [] i z h = absurd (omega arith)
+get_or-numbered f k (x ∷ xs) zero z h = let e : k ≡ k + 0 = omega arith in ap (λ (n : ℕ). f n x) e
+get_or-numbered f k (x ∷ xs) (suc i) z h =
+    let e : k + 1 + i ≡ k + suc i = omega arith in get_or-numbered f (k + 1) xs i z (omega arith) ∙ ap (λ (n : ℕ). f n (get_or xs i z)) e
 
 pub get_or-elements : (n : ℕ) (a : List ℕ) (at i : ℕ) (z : Element) → i < n → get_or (elements_at n a at) i z ≡ element_at a (at + 12 * i)
 unfolding elements_at

@@ -71,7 +71,7 @@ pub(crate) fn used(e: End) -> usize {
     0
 }
 
-// What an end's transcript Holds from a place on, up to `end`.
+// What an end's transcript holds from a place on, up to `end`.
 pub(crate) fn held(both: &[u8], e: End, start: usize, end: usize) -> &[u8] {
     part(part(both, e.from, e.to), start, end)
 }
