@@ -1,11 +1,11 @@
 -- The digits that the kit's `io` writes are the decimal text: once over the width.
 -- Assumes nothing.
 use Prim.Native.Nat.{ℕ, zero, suc, ◌+◌, ◌-◌, ◌*◌, ◌/◌, ◌%◌, ◌^◌, ◌<◌, ◌≤◌}
-use mathlib.Core.Path.{◌≡◌, sym, ap, ◌∙◌}
+use mathlib.Core.Path.{◌≡◌, refl, sym, ap, ◌∙◌}
 use mathlib.Core.Bool.{true, false}
 use mathlib.Core.Logic.{inl, inr}
 use mathlib.Core.List.{List, [], ◌∷◌, ◌++◌}
-use native.Mathlib.Nat.{pow-suc, mod-lt, mod-eq_of_lt, pow-le-pow_right}
+use native.Mathlib.Nat.{suc-add, pow-suc, mod-lt, mod-eq_of_lt, pow-le-pow_right}
 use native.Mathlib.Omega.{arith}
 use lib.Dec.{ltb}
 use lib.IntN.{ℤ, pos, negsuc, nat_abs}
@@ -50,14 +50,32 @@ digits_decimal w n k o h f = go k f.0 f.1 f.2 (few w n k o h f) where
   go zero a b c m = absurd (omega arith)
   go (suc k) a b c m = decimal-digits w k n (omega arith) b (λ z. rw (pred-suc k) at (c (omega arith)))
 
--- the digits of a number that were appended
-module _ (out : List ℕ) (k n : ℕ) (fewest : IsDigitCount 10 1 n k) (is : take k out ≡ last_digits 10 k n) (t x : Text)
-    (e : x ≡ written (take k out ∷ []) t) where
-  pub number-written : n < 4294967296 → x ≡ written (decimal n ∷ []) t
-  number-written h = e ∙ ap (λ (v : List ℕ). written (v ∷ []) t) (is ∙ digits_decimal 10 n k (omega arith) (omega arith) fewest)
+-- a number of at most w digits is the same in more
+more : (w k n : ℕ) → 1 ≤ w → n < 10 ^ w → decimal_to (w + k) n ≡ decimal_to w n
+unfolding decimal_to
+more zero k n o h = absurd (omega arith)
+more (suc zero) k n o h = rw (suc-add zero k, lt-ltb n 10 h) refl
+more (suc (suc w)) k n o h =
+    let p : 10 ^ suc (suc w) ≡ 10 ^ suc w * 10 = pow-suc 10 (suc w) in
+    longer (more (suc w) k (n / 10) (omega arith) (omega arith)) where
+      longer : decimal_to (suc w + k) (n / 10) ≡ decimal_to (suc w) (n / 10) → decimal_to (suc (suc w) + k) n ≡ decimal_to (suc (suc w)) n
+      longer e = rw (suc-add (suc w) k, e) refl
 
-  pub wide-written : n < 18446744073709551616 → x ≡ written (decimal64 n ∷ []) t
-  wide-written h = e ∙ ap (λ (v : List ℕ). written (v ∷ []) t) (is ∙ digits_decimal 20 n k (omega arith) (omega arith) fewest)
+-- a number of 32 bits, written as one of 64
+module _ (n : ℕ) (small : n < 4294967296) (t x : Text) where
+  narrow : decimal64 n ≡ decimal n
+  narrow = more 10 10 n (omega arith) (omega arith)
+
+  pub number-written : x ≡ written (decimal64 n ∷ []) t → x ≡ written (decimal n ∷ []) t
+  number-written e = e ∙ ap (λ (v : List ℕ). written (v ∷ []) t) narrow
+
+  pub field-written : (v : List ℕ) → x ≡ written (v ∷ decimal64 n ∷ []) t → x ≡ written (v ∷ decimal n ∷ []) t
+  field-written v e = e ∙ ap (λ (d : List ℕ). written (v ∷ d ∷ []) t) narrow
+
+-- the digits of a number that were appended
+pub wide-written : (out : List ℕ) (k n : ℕ) → IsDigitCount 10 1 n k → take k out ≡ last_digits 10 k n → (t x : Text)
+    → x ≡ written (take k out ∷ []) t → n < 18446744073709551616 → x ≡ written (decimal64 n ∷ []) t
+wide-written out k n fewest is t x e h = e ∙ ap (λ (v : List ℕ). written (v ∷ []) t) (is ∙ digits_decimal 20 n k (omega arith) (omega arith) fewest)
 
 pub length-decimal : (w n : ℕ) → length (decimal_to w n) ≤ w
 unfolding decimal_to
@@ -85,4 +103,4 @@ module _ (z : ℤ) (f : SFits w32 z) (m : ℕ) (m-is : m ≡ nat_abs (to_z w32 (
       is_below z f h in
       e ∙ ap (λ (n : ℕ). written (quoted "-" ∷ decimal n ∷ []) t) (abs ∙ b.abs_is) ∙ ap (λ (y : ℤ). written (signed y) t) (sym b.is)
 
-pub ruleset numbers = (number-written, wide-written)
+pub ruleset numbers = (number-written, field-written, wide-written)

@@ -1,6 +1,6 @@
 -- Pieces of text written one behind the other.
 -- Assumes nothing.
-use Prim.Native.Nat.{ℕ, suc, ◌+◌, ◌-◌, ◌/◌, ◌%◌, ◌<◌, ◌≤◌}
+use Prim.Native.Nat.{ℕ, suc, ◌+◌, ◌/◌, ◌%◌, ◌<◌, ◌≤◌}
 use mathlib.Core.Path.{◌≡◌, refl, sym, ap, ◌∙◌}
 use mathlib.Core.Bool.{Bool, true, false, cond}
 use mathlib.Core.Logic.{inl, inr}
@@ -8,7 +8,7 @@ use mathlib.Core.List.{List, [], ◌∷◌, ◌++◌}
 use native.Mathlib.Nat.{add-zero}
 use native.Mathlib.Numerals.{add-one}
 use native.Mathlib.Omega.{arith}
-use lib.ListN.{length, drop, take, get_or, length-append, drop_of_length-le, get_or-eq_default}
+use lib.ListN.{length, drop, take, get_or, length-append, drop_of_length-le}
 use lib.Seq.{drop-cons, take-suc, take-length, take_at, length-take-le}
 use lib.Dec.{leb, eqb}
 use borrow.Author.Tests.{le-leb, eq-eqb, ne_eqb, leb-true}
@@ -103,21 +103,14 @@ front-is ps d d' r h e =
 
 -- the answers of `append`
 module _ (d v : List ℕ) (at : ℕ) where
-  left_out : (at + length v ≤ length d → ⊥) → text d at ≡ written (v ∷ []) (text d at)
+  pub append-out : (at + length v ≤ length d → ⊥) → text d at ≡ written (v ∷ []) (text d at)
   unfolding written appended
-  left_out h = elim (which (leb (at + length v) (length d))) [ inl e ↦ absurd (h (leb-true _ _ e)) | inr e ↦ rw e refl ]
+  append-out h = elim (which (leb (at + length v) (length d))) [ inl e ↦ absurd (h (leb-true _ _ e)) | inr e ↦ rw e refl ]
 
-  pub append-long : length d < length v → text d at ≡ written (v ∷ []) (text d at)
-  append-long h = left_out (λ z. omega arith)
-
-  module _ (fit : length v ≤ length d) where
-    pub append-late : length d - length v < at → text d at ≡ written (v ∷ []) (text d at)
-    append-late h = left_out (λ z. omega arith)
-
-    pub append-put : at ≤ length d - length v → (d' : List ℕ) (next : ℕ) → Written d at (length v) v d' next
-        → text d' next ≡ written (v ∷ []) (text d at)
-    unfolding written
-    append-put h d' next w = rw (w.holds, w.after) (sym (fits (text d at) v (omega arith)))
+  pub append-put : at + length v ≤ length d → (d' : List ℕ) (next : ℕ) → Written d at (length v) v d' next
+      → text d' next ≡ written (v ∷ []) (text d at)
+  unfolding written
+  append-put h d' next w = rw (w.holds, w.after) (sym (fits (text d at) v h))
 
 -- an octet's two digits, and an id's glyph
 module _ (t x : Text) where
@@ -128,12 +121,8 @@ module _ (t x : Text) where
     pub glyph-dash : k ≡ 16 → x ≡ written (quoted "-" ∷ []) t → x ≡ written (glyph_of i k ∷ []) t
     glyph-dash h e = rw (eq-eqb k 16 h) e
 
-    module _ (octet : k ≡ 16 → ⊥) where
-      pub glyph-octet : k < length i → x ≡ written (hex_of (get_or i k 0) ∷ []) t → x ≡ written (glyph_of i k ∷ []) t
-      glyph-octet h e = rw (ne_eqb k 16 octet) e
-
-      pub glyph-past : length i ≤ k → x ≡ written (hex_of 0 ∷ []) t → x ≡ written (glyph_of i k ∷ []) t
-      glyph-past h e = rw (ne_eqb k 16 octet, get_or-eq_default i 0 h) e
+    pub glyph-octet : (k ≡ 16 → ⊥) → x ≡ written (hex_of (get_or i k 0) ∷ []) t → x ≡ written (glyph_of i k ∷ []) t
+    glyph-octet octet e = rw (ne_eqb k 16 octet) e
 
 -- one turn of the loop over the places of an id's text
 glyphs-append : (i ks ls : List ℕ) → glyphs i (ks ++ ls) ≡ glyphs i ks ++ glyphs i ls
@@ -167,7 +156,7 @@ module _ (t : Text) (i order : List ℕ) where
       let z : k ≡ length order = omega arith in
       e ∙ ap (λ (ks : List ℕ). written (glyphs i ks) t) (ap (λ (n : ℕ). take n order) z ∙ take-length order)
 
-pub ruleset pieces = (append-long, append-late, append-put, hex-written, glyph-dash, glyph-octet, glyph-past, glyphs-start, glyphs-more, glyphs-end)
+pub ruleset pieces = (append-put, hex-written, glyph-dash, glyph-octet, glyphs-start, glyphs-more, glyphs-end)
 
 -- the length of pieces behind pieces
 pub length-joined : (ps qs : List (List ℕ)) → length (joined (ps ++ qs)) ≡ length (joined ps) + length (joined qs)

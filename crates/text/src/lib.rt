@@ -1,8 +1,8 @@
 // Pieces of text appended in a lent slice. Each writer is given the place behind what is written already, and answers the next one. A piece that
-// has no room is left out.
+// has no room is left out. Slice and place stay two parameters: a struct of both would hold the lent slice, and each caller would have to lend it anew.
 #![tactic(auto)]
 
-ghost use Rattle.std.specs.Prelude.{◌≡◌, ◌<◌, ◌∷◌, [], nat_abs};
+ghost use Rattle.std.specs.Prelude.{◌≡◌, ◌<◌, ◌∷◌, []};
 ghost use Rattle.text.specs.Text.{text, written, decimal, decimal64, signed as Text·signed, glyph_of, glyphs as Text·glyphs, hex_of, digits_of, hex_digit, id_text};
 
 use put::put_octets;
@@ -11,10 +11,7 @@ use put::put_octets;
 pub fn append(d: &mut [u8], at: usize, v: &[u8]) -> usize
     ensures { text d.new result ≡ written (v.now ∷ []) (text d.old at) }
 {
-    if d.len() < v.len() {
-        return at;
-    }
-    if d.len() - v.len() < at {
+    if d.len() < v.len() || d.len() - v.len() < at {
         return at;
     }
     put_octets(d, at, v)
@@ -24,9 +21,7 @@ pub fn append(d: &mut [u8], at: usize, v: &[u8]) -> usize
 pub fn number(d: &mut [u8], at: usize, n: u32) -> usize
     ensures { text d.new result ≡ written (decimal n ∷ []) (text d.old at) }
 {
-    let mut digits = [0u8; 20];
-    let count = io::decimal(n as u64, &mut digits);
-    append(d, at, &digits[..count])
+    wide_number(d, at, n as usize)
 }
 
 // A place or a size in decimal.
@@ -42,8 +37,7 @@ pub fn wide_number(d: &mut [u8], at: usize, n: usize) -> usize
 pub fn field(d: &mut [u8], at: usize, v: &[u8], n: u32) -> usize
     ensures { text d.new result ≡ written (v.now ∷ decimal n ∷ []) (text d.old at) }
 {
-    let next = append(d, at, v);
-    number(d, next, n)
+    wide_field(d, at, v, n as usize)
 }
 
 // The octets v, and a place or a size behind them.
@@ -54,21 +48,14 @@ pub fn wide_field(d: &mut [u8], at: usize, v: &[u8], n: usize) -> usize
     wide_number(d, next, n)
 }
 
-// How far a number is from zero. The lowest has no opposite of its own type, so no sign is turned.
-fn magnitude(z: i32) -> u32
-    ensures { result ≡ nat_abs z }
-{
-    if z < 0 { (-1 - z) as u32 + 1 } else { z as u32 }
-}
-
 // A signed number in decimal.
 pub fn signed(d: &mut [u8], at: usize, z: i32) -> usize
     ensures { text d.new result ≡ written (Text·signed z) (text d.old at) }
 {
     if z < 0 {
-        return field(d, at, b"-", magnitude(z));
+        return field(d, at, b"-", z.unsigned_abs());
     }
-    number(d, at, magnitude(z))
+    number(d, at, z.unsigned_abs())
 }
 
 // A hexadecimal digit.
@@ -76,7 +63,7 @@ fn hex_digit(x: u8) -> u8
     requires { x < 16 }
     ensures { result ≡ hex_digit x }
 {
-    if x < 10 { 48 + x } else { 55 + x }
+    if x < 10 { b'0' + x } else { b'A' + (x - 10) }
 }
 
 // An octet as two digits.
@@ -92,26 +79,21 @@ pub fn hex_all(d: &mut [u8], at: usize, v: &[u8]) -> usize
     ensures { text d.new result ≡ written (digits_of v.now) (text d.old at) }
 {
     let mut next = at;
-    let mut i = 0;
-    while i < v.len() {
-        next = hex(d, next, v[i]);
-        i += 1;
+    for x in v {
+        next = hex(d, next, *x);
     }
     next
 }
 
-// The octet of an id at place k, 0 where it has none; or a dash, where k is 16.
+// The octet of an id at place k, 0 where it has none; or a dash, where k is 16: the definition `id_order` has 16 for a dash, and an `Option` for each place
+// would need a second order beside it.
 fn glyph(d: &mut [u8], at: usize, id: &[u8], k: u8) -> usize
     ensures { text d.new result ≡ written (glyph_of id.now k ∷ []) (text d.old at) }
 {
     if k == 16 {
         return append(d, at, b"-");
     }
-    let i = k as usize;
-    if i < id.len() {
-        return hex(d, at, id[i]);
-    }
-    hex(d, at, 0)
+    hex(d, at, id.get(k as usize).copied().unwrap_or(0))
 }
 
 // The octets of an id at the places `order`, with dashes.
@@ -119,10 +101,8 @@ fn glyphs(d: &mut [u8], at: usize, id: &[u8], order: &[u8]) -> usize
     ensures { text d.new result ≡ written (Text·glyphs id.now order.now) (text d.old at) }
 {
     let mut next = at;
-    let mut i = 0;
-    while i < order.len() {
-        next = glyph(d, next, id, order[i]);
-        i += 1;
+    for k in order {
+        next = glyph(d, next, id, *k);
     }
     next
 }

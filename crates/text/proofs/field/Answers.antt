@@ -1,5 +1,5 @@
-use Rattle.text.proofs.Pieces.{chains}
+use Rattle.text.proofs.Digits.{numbers}
 use Rattle.text.proofs.field.Goals as goal
 
 pub returns : goal.returns
-returns c = search chains
+returns c = search numbers

@@ -3,11 +3,11 @@ use mathlib.Core.Path.{refl}
 use Rattle.text.proofs.Pieces.{pieces}
 use Rattle.text.proofs.glyphs.Goals as goal
 
-pub loop-i-init : goal.loop-i-init
-loop-i-init c = (search rules, refl, search pieces)
+pub loop-k-init : goal.loop-k-init
+loop-k-init c = (refl, search pieces)
 
-pub loop-i-preserved : goal.loop-i-preserved
-loop-i-preserved c = (search rules, search rules, search pieces)
+pub loop-k-preserved : goal.loop-k-preserved
+loop-k-preserved c = (search rules, search pieces)
 
 pub returns : goal.returns
 returns c = search pieces

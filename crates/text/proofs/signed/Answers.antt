@@ -8,12 +8,12 @@ pub returns-then-z-lt0 : goal.returns-then-z-lt0
 returns-then-z-lt0 c =
     let z = c.args.z in
     let f : SFits w32 z = search rules in
-    signed-minus z f _ c.magnitude.ensures _ _ c.if-z-lt0.true
+    signed-minus z f _ c.unsigned_abs.ensures.value _ _ c.if-z-lt0.true
     c.field.ensures
 
 pub returns : goal.returns
 returns c =
     let z = c.args.z in
     let f : SFits w32 z = search rules in
-    signed-plain z f _ c.magnitude-2.ensures _ _ c.if-z-lt0.false
+    signed-plain z f _ c.unsigned_abs-2.ensures.value _ _ c.if-z-lt0.false
     c.number.ensures
