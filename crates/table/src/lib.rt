@@ -11,10 +11,10 @@ ghost use Rattle.table.specs.Table.{placed_at, fields_in, vector_place, spans_in
 
 use coverage::vectors::{vector_count, vector_of};
 use message::field;
-use message::walk::first;
+use messages::Messages;
 use octets::le_u32;
 use put::put_u32;
-use vector::{MessageOffset, TokenPlace, Vector, in_token};
+use vector::{TokenPlace, Vector, in_token};
 
 // The header's fields of the message m at a place.
 pub fn fields(place: TokenPlace, m: &[u8]) -> [u32; 5]
@@ -65,12 +65,9 @@ fn put_spans(d: &mut [u8], at: usize, place: TokenPlace, m: &[u8]) -> usize
     ensures { Written d.old at (8 * length (vectors_in m.now)) (numbers (spans_in place.0 (vectors_in m.now)))
         d.new result }
 {
-    let count = vector_count(m);
     let mut next = at;
-    let mut k: usize = 0;
-    while k < count {
+    for k in 0..vector_count(m) {
         next = put_span(d, next, place, vector_of(m, k));
-        k += 1;
     }
     next
 }
@@ -104,13 +101,9 @@ pub fn table_size(token: &[u8]) -> usize
     requires { Accepts token.now }
     ensures { result ≡ length (table_of (messages_of (token_of token.now))) }
 {
-    let mut rest = token;
     let mut size: usize = 0;
-    while 0 < rest.len() {
-        let m = first(rest);
-        let length = m.len();
+    for (_, m) in Messages::of(token) {
         size += 24 + 8 * vector_count(m);
-        rest = &rest[length..];
     }
     size
 }
@@ -122,16 +115,9 @@ pub fn put_table(d: &mut [u8], token: &[u8]) -> usize
     ensures { Written d.old 0 (length (table_of (messages_of (token_of token.now))))
         (table_of (messages_of (token_of token.now))) d.new result }
 {
-    let mut rest = token;
-    let mut place = TokenPlace(0);
     let mut next: usize = 0;
-    while 0 < rest.len() {
-        let m = first(rest);
-        let length = m.len();
-        let end = length as u32;
+    for (place, m) in Messages::of(token) {
         next = put_entry(d, next, place, m);
-        place = in_token(place, MessageOffset(end));
-        rest = &rest[length..];
     }
     next
 }
