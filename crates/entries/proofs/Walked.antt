@@ -18,6 +18,8 @@ use Rattle.token.specs.Split.{Numbered, join, placed_from}
 use Rattle.token.specs.Walk.{messages_of, Accepts}
 use Rattle.token.proofs.Cuts.{behind, behind-length}
 use Rattle.token.proofs.Splits.{accepted-splits}
+use Rattle.messages.specs.Messages.{Passed}
+use Rattle.messages.proofs.Steps.{left_behind}
 use Rattle.token.proofs.Walks.{Left, Turn, turn, turn-fits, turn-less, accepted-short, Walk, walk-begun, walk-ended, walk-passed}
 use Rattle.coverage.proofs.Marks.{drop-least, take-least}
 use Rattle.put.specs.Put.{Written}
@@ -288,6 +290,9 @@ module _ (T : List Entry) (d : List ℕ) (from : ℕ) (rest : List ℕ) (place i
   pub shown-left : Left rest
   shown-left = on.walked.walk.left
 
+  pub shown-count : i + length rest < 2 ^ 64
+  shown-count = omega (arith, on.walked.early, on.walked.ends)
+
   pub shown-end : length rest ≤ 0 → Filled d 0 (drop from T) e next
   shown-end h = subst (λ (l : List Entry). Filled d 0 (drop from l) e next) (walked_end T rest place i on.done on.walked h) on.written
 
@@ -317,24 +322,32 @@ module _ (T : List Entry) (d : List ℕ) (from : ℕ) (rest : List ℕ) (place i
         (omega (arith, octets-length A, length-take ((length d - 0) / 24) (drop from on.done))) in
         omega (arith, w.after, length-take ((length d - 0) / 24) (drop from on.done))
 
-    pub shown-on : (e' : List ℕ) (next' place' skip' c : ℕ) → c ≡ count_in m → place' ≡ place + length m → skip' ≡ skip - c
-        → Filled e next (drop skip (entries_in place i m)) e' next'
-        → Shown T d from (behind rest (length m)) place' (i + 1) skip' e' next'
-    shown-on e' next' place' skip' c c-is place_is skip_is w =
+    shown_next : (e' : List ℕ) (next' skip' : ℕ) → skip' ≡ skip - count_in m → Filled e next (drop skip (entries_in place i m)) e' next'
+        → Shown T d from (behind rest (length m)) (place + length m) (i + 1) skip' e' next'
+    shown_next e' next' skip' skip_is w =
         let both : drop from on.done ++ drop skip (entries_in place i m) ≡ drop from (on.done ++ entries_in place i m) =
         ap (λ (j : ℕ). drop from on.done ++ drop j (entries_in place i m)) on.skipped ∙ sym (drop-both on.done (entries_in place i m) from) in
-        subst (λ (p : ℕ). Shown T d from (behind rest (length m)) p (i + 1) skip' e' next') (sym place_is)
-        (record {
+        record {
           done = on.done ++ entries_in place i m;
           walked = walked_on T rest place i on.done on.walked more m m-is;
           skipped = let s = on.skipped in omega (arith, length-append on.done (entries_in place i m), count-is place i m);
           written =
               subst (λ (l : List Entry). Filled d 0 l e' next') both
               (fill_more d (drop from on.done) (drop skip (entries_in place i m)) e next e' next' on.written w);
-        })
+        }
+
+    -- past the message, by the step's own words
+    pub shown-on : (rest' : List ℕ) (at place' k i' : ℕ) → Passed rest place at m rest' place' → k ≡ i → i' ≡ i + 1 → (e' : List ℕ) (next' skip' c : ℕ)
+        → c ≡ count_in m → skip' ≡ skip - c → Filled e next (drop skip (entries_in at k m)) e' next'
+        → Shown T d from rest' place' i' skip' e' next'
+    shown-on rest' at place' k i' p k-is i-is e' next' skip' c c-is skip_is w =
+        rw (left_behind p) (rw p.next (rw i-is
+        (shown_next e' next' skip' (omega (arith, skip_is, c-is))
+        (subst (λ (a : ℕ). Filled e next (drop skip (entries_in a i m)) e' next') p.stands
+        (subst (λ (j : ℕ). Filled e next (drop skip (entries_in at j m)) e' next') k-is w)))))
 
 pub ruleset shows =
-    (shown-begin, shown-end, shown-left, turn-fits, turn-less, shown-held, shown-message, shown-small, shown-place, shown-next, shown-room, shown-on)
+    (shown-begin, shown-count, shown-end, shown-left, turn-fits, turn-less, shown-held, shown-message, shown-small, shown-place, shown-next, shown-room, shown-on)
 
 -- ---- an accepted token has no more entries than octets
 few-from : (ms : List (List ℕ)) (place i q : ℕ) (v : List ℕ) → Numbered q v ms → place + length (join ms) ≤ 65535

@@ -1,7 +1,7 @@
 // All that a viewer shows of a token, as entries of one size.
 #![tactic(auto)]
 
-ghost use Rattle.std.specs.Prelude.{◌≡◌, ◌+◌, ◌≤◌, min, ◌∷◌, [], length, drop};
+ghost use Rattle.std.specs.Prelude.{◌≡◌, ◌+◌, ◌≤◌, ◌∷◌, [], length, drop};
 ghost use Rattle.token.specs.Token.{token_of};
 ghost use Rattle.token.specs.Walk.{messages_of, Accepts};
 ghost use Rattle.put.specs.Put.{Written};
@@ -9,10 +9,10 @@ ghost use Rattle.table.specs.Table.{Held};
 ghost use Rattle.entries.specs.Entries.{entries_in, entries_of, entry_octets};
 ghost use Rattle.entries.specs.Lookup.{Filled};
 
-use lookup::{entry_count, entry_of, less};
-use message::walk::first;
+use lookup::{entry_count, entry_of};
+use messages::Messages;
 use put::put_u32;
-use vector::{MessageOffset, TokenPlace, in_token};
+use vector::TokenPlace;
 
 pub mod lookup;
 pub mod name;
@@ -44,13 +44,6 @@ pub fn put_entry(d: &mut [u8], at: usize, e: Entry) -> usize
     put_u32(d, length_at, e.length)
 }
 
-// The lesser of two numbers.
-fn least(a: usize, b: usize) -> usize
-    ensures { result ≡ min a b }
-{
-    if a < b { a } else { b }
-}
-
 // The entries of the message m at a place, from number `from` on, as many as there is room for from `at` on.
 fn put_message(
     d: &mut [u8],
@@ -64,13 +57,11 @@ fn put_message(
     ensures { Filled d.old at (drop from (entries_in place.0 message m.now)) d.new result }
 {
     let all = entry_count(m);
-    let begin = least(from, all);
-    let count = least(all - begin, (d.len() - at) / SIZE);
+    let begin = from.min(all);
+    let count = (all - begin).min((d.len() - at) / SIZE);
     let mut next = at;
-    let mut k: usize = 0;
-    while k < count {
+    for k in 0..count {
         next = put_entry(d, next, entry_of(place, message, m, begin + k));
-        k += 1;
     }
     next
 }
@@ -80,13 +71,9 @@ pub fn count_entries(token: &[u8]) -> usize
     requires { Accepts token.now }
     ensures { result ≡ length (entries_of (messages_of (token_of token.now))) }
 {
-    let mut rest = token;
     let mut count: usize = 0;
-    while 0 < rest.len() {
-        let m = first(rest);
-        let length = m.len();
+    for (_, m) in Messages::of(token) {
         count += entry_count(m);
-        rest = &rest[length..];
     }
     count
 }
@@ -96,20 +83,11 @@ pub fn put_entries(d: &mut [u8], token: &[u8], from: usize) -> usize
     requires { Accepts token.now }
     ensures { Filled d.old 0 (drop from (entries_of (messages_of (token_of token.now)))) d.new result }
 {
-    let mut rest = token;
-    let mut place = TokenPlace(0);
-    let mut message: u32 = 0;
     let mut skip = from;
     let mut next: usize = 0;
-    while 0 < rest.len() {
-        let m = first(rest);
-        let length = m.len();
-        let end = length as u32;
-        next = put_message(d, next, place, message, m, skip);
-        skip = less(skip, entry_count(m));
-        place = in_token(place, MessageOffset(end));
-        message += 1;
-        rest = &rest[length..];
+    for (message, (place, m)) in Messages::of(token).enumerate() {
+        next = put_message(d, next, place, message as u32, m, skip);
+        skip = skip.saturating_sub(entry_count(m));
     }
     next
 }

@@ -127,27 +127,17 @@ fn vector_what(kind: Kind, k: usize) -> u32
     name::ALERT_VALUE
 }
 
-// A number less another, or 0 where that is more.
-pub(crate) fn less(k: usize, n: usize) -> usize
-    ensures { result ≡ k - n }
-{
-    if k < n {
-        return 0;
-    }
-    k - n
-}
-
 // The number of vector k in its list.
 fn vector_number(kind: Kind, k: usize) -> usize
     ensures { result ≡ vector_number (shape_of kind.0) k }
 {
     if kind.0 <= Kind::ACCEPTOR_NEGO {
-        return less(k, 2);
+        return k.saturating_sub(2);
     }
     if kind.0 <= Kind::VERIFY {
         return 0;
     }
-    less(k, 1)
+    k.saturating_sub(1)
 }
 
 // The entry of the octets that vector k points at.

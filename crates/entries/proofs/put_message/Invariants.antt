@@ -1,9 +1,7 @@
-use Rattle.entries.specs.Lookup.{count_in}
-use Rattle.entries.specs.Entries.{entries_in, entry_octets}
+use Rattle.std.proofs.Common.{◌-◌, ◌*◌, ◌/◌, ◌≤◌, ◌≡◌, min, length, take, drop}
 use Rattle.put.specs.Put.{Written}
-use lib.ListN.{length, take, drop}
-use mathlib.Core.Path.{◌≡◌}
-use Prim.Native.Nat.{◌-◌, ◌*◌, ◌/◌, ◌≤◌, min}
+use Rattle.entries.specs.Entries.{entries_in, entry_octets}
+use Rattle.entries.specs.Lookup.{count_in}
 use Rattle.entries.proofs.put_message.Given as goal
 
 abbrev pub invariant-loop-k : goal.invariant-loop-k
@@ -11,6 +9,3 @@ invariant-loop-k l =
     (l.k ≤ l.count) × (l.all ≡ count_in l.m) × (l.begin ≡ min l.from l.all)
     × (l.count ≡ min (l.all - l.begin) ((length l.initial.d - l.at) / 24)) × (length l.d ≡ length l.initial.d)
     × Written l.initial.d l.at (24 * l.k) (entry_octets (take l.k (drop l.begin (entries_in l.place.0 l.message l.m)))) l.d l.next
-
-abbrev pub decreases-loop-k : goal.decreases-loop-k
-decreases-loop-k l = l.count - l.k
