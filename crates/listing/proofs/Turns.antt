@@ -1,6 +1,6 @@
 -- One turn of the walk through an accepted token, line by line. In the words of `show_messages`.
 -- Assumes nothing.
-use Prim.Native.Nat.{ℕ, ◌+◌, ◌<◌, ◌≤◌, ◌^◌}
+use Prim.Native.Nat.{ℕ, ◌+◌, ◌<◌, ◌≤◌}
 use mathlib.Core.Path.{◌≡◌, refl, sym, ap, subst, ◌∙◌}
 use mathlib.Core.Bool.{true}
 use mathlib.Core.List.{List, ◌∷◌, ◌++◌}
@@ -14,8 +14,10 @@ use Rattle.message.proofs.Tables.{given}
 use Rattle.token.specs.Token.{Placed, token_of}
 use Rattle.token.specs.Split.{Message}
 use Rattle.token.specs.Walk.{messages_of, Accepts}
-use Rattle.token.proofs.Cuts.{behind, behind-length, passes-parts, passes-sized}
-use Rattle.token.proofs.Walks.{Left, Turn, turn, turn-fits, turn-less, accepted-short, Walk, walk-begun, walk-ended, walk-passed}
+use Rattle.token.proofs.Cuts.{behind, passes-parts, passes-sized}
+use Rattle.messages.specs.Messages.{Passed}
+use Rattle.messages.proofs.Steps.{left_behind}
+use Rattle.token.proofs.Walks.{Left, Turn, turn, accepted-short, Walk, walk-begun, walk-ended, walk-passed}
 use Rattle.lines.specs.Lines.{message_lines}
 use Rattle.lines.specs.Fit.{Fit, shape_in}
 use Rattle.windows.specs.Windows.{texts}
@@ -65,13 +67,7 @@ module _ (x : State) (rest : List ℕ) (place : ℕ) (t : State) (on : Going-on 
     pub walk-fit : Fit (shape_in m) m
     walk-fit = message-fit _ _ m here.first
 
-    pub walk-small : (L : ℕ) → place + length rest ≡ L → L ≤ 65535 → length m < 2 ^ 32
-    walk-small L e h = omega (arith, here.fits)
-
-    pub walk-place : (next L : ℕ) → next ≡ place + length m → place + length rest ≡ L → next + length (behind rest (length m)) ≡ L
-    walk-place next L e h = omega (arith, behind-length rest (length m), here.fits)
-
-    pub walk-on : (next : ℕ) → next ≡ place + length m → (u : State) → u ≡ steps (texts (message_lines place m)) t
+    walk-on : (next : ℕ) → next ≡ place + length m → (u : State) → u ≡ steps (texts (message_lines place m)) t
         → Going-on x (behind rest (length m)) next u
     unfolding Going-on
     walk-on next next-is u u-is =
@@ -82,4 +78,10 @@ module _ (x : State) (rest : List ℕ) (place : ℕ) (t : State) (on : Going-on 
         ∙ steps-append (texts (message_lines place m)) (texts (all_lines ps)) t
         ∙ ap (steps (texts (all_lines ps))) (sym u-is)))
 
-pub ruleset walks = (begin, accepted-short, at-end, left, turn-fits, turn-less, walk-fit, walk-small, walk-place, walk-on)
+    -- past the message, by the step's own words
+    pub walk-step : (rest' : List ℕ) (at place' : ℕ) → Passed rest place at m rest' place' → (u : State) → u ≡ steps (texts (message_lines at m)) t
+        → Going-on x rest' place' u
+    walk-step rest' at place' p u u-is =
+        rw (left_behind p) (walk-on place' p.next u (u-is ∙ ap (λ (k : ℕ). steps (texts (message_lines k m)) t) p.stands))
+
+pub ruleset walks = (begin, accepted-short, at-end, left, walk-fit, walk-step)

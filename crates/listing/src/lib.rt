@@ -12,9 +12,9 @@ ghost use Rattle.windows.specs.Steps.{within, step, steps, Going};
 ghost use Rattle.listing.specs.Listing.{all_lines, lines_of};
 
 use lines::{count, end_text, message_text, refused_text};
-use message::walk::first;
+use messages::Messages;
 use token::{Answer, read_token};
-use vector::{MessageOffset, TokenPlace, in_token};
+use vector::TokenPlace;
 use windows::{Progress, Shown, finish, put_line, start};
 
 // The line of the message m with an index.
@@ -55,15 +55,12 @@ fn show_lines(p: Progress, d: &mut [u8], place: TokenPlace, m: &[u8], first: usi
     requires going { Going p (length d.old) }
     ensures { within result d.new ≡ steps (drop first (texts (message_lines place.0 m.now))) (within p d.old) }
 {
-    let count = count(m);
     let mut progress = p;
-    let mut index = first;
-    while index < count {
+    for index in first..count(m) {
         if progress.left == 0 {
             return progress;
         }
         progress = show_line(progress, d, place, m, index);
-        index += 1;
     }
     progress
 }
@@ -81,17 +78,10 @@ pub fn show_message(p: Progress, d: &mut [u8], place: TokenPlace, m: &[u8]) -> P
     if count <= p.skip {
         return Progress {
             skip: p.skip - count,
-            left: p.left,
-            lines: p.lines,
-            octets: p.octets,
+            ..p
         };
     }
-    let here = Progress {
-        skip: 0,
-        left: p.left,
-        lines: p.lines,
-        octets: p.octets,
-    };
+    let here = Progress { skip: 0, ..p };
     show_lines(here, d, place, m, p.skip)
 }
 
@@ -102,15 +92,8 @@ fn show_messages(p: Progress, d: &mut [u8], token: &[u8]) -> Progress
     ensures { within result d.new ≡ steps (texts (all_lines (messages_of (token_of token.now)))) (within p d.old) }
 {
     let mut progress = p;
-    let mut rest = token;
-    let mut place = TokenPlace(0);
-    while 0 < rest.len() {
-        let m = first(rest);
-        let length = m.len();
-        let end = length as u32;
+    for (place, m) in Messages::of(token) {
         progress = show_message(progress, d, place, m);
-        place = in_token(place, MessageOffset(end));
-        rest = &rest[length..];
     }
     progress
 }
