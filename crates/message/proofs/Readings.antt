@@ -8,10 +8,12 @@ use native.Mathlib.Omega.{arith}
 use lib.ListN.{length, take}
 use lib.Seq.{length-take-le}
 use lib.Dec.{eqb}
-use borrow.Author.Tests.{eq-eqb, ne_eqb}
+use borrow.Author.Tests.{ne_eqb}
+use Rattle.std.proofs.Common.{Result, Ok, Err}
+use Rattle.refusal.specs.declared.Refusal.{Refusal}
+use Rattle.refusal.specs.Refusals.{number_of}
+use Rattle.refusal.proofs.Numbers.{number_some}
 use Rattle.message.specs.declared.Header.{Header}
-use Rattle.message.specs.declared.Read.{Read}
-use Rattle.message.specs.declared.Read.TheVariants as answer
 use Rattle.message.specs.Layout.{Shape, head_of, shape_of, header_of, size, front}
 use Rattle.message.specs.Check.{Row, first_failing, common_rows, body_rows, content_rows, front_rows, message_rows, refusal_of, Verdict, read, refused, verdict, said, fields_of, header_verdict, body_verdict, message_verdict, Passed}
 use Rattle.message.proofs.Tables.{verdict-is, verdict-append, verdict-read, verdict-refused}
@@ -53,23 +55,25 @@ module _ (s : List ℕ) (h : Header) (p : Passed s h) where
         rw number_is
         (decided (body_rows (shape_of (head_of s).kind) (size s) (front s)) (read h) (body-numbered (shape_of (head_of s).kind) (size s) (front s)))
 
-    pub body_refused : (n ≡ 0 → ⊥) → refused n ≡ body_verdict s h
-    body_refused e = sym (body_is ∙ rw (ne_eqb _ _ e))
+  pub body_refused : (e : Refusal) → number_of e ≡ refusal_of (shape_of h.kind.0) (take h.length s) → refused (number_of e) ≡ body_verdict s h
+  body_refused e n-is =
+      let some : number_of e ≡ 0 → ⊥ = λ z. omega (arith, number_some e) in
+      sym (body_is (number_of e) n-is ∙ rw (ne_eqb _ _ some))
 
-    pub body-read : n ≡ 0 → read h ≡ body_verdict s h
-    body-read e = sym (body_is ∙ rw (eq-eqb _ _ e))
+  pub body-read : 0 ≡ refusal_of (shape_of h.kind.0) (take h.length s) → read h ≡ body_verdict s h
+  body-read n-is = sym (body_is 0 n-is)
 
 -- A reading that goes on behind the header: where the header is refused, so is the whole; where it passes as h, the rest decides.
 module _ (s : List ℕ) (rest : Header → Verdict) (all : Verdict)
     (all-is : all ≡ verdict (common_rows (length s) (head_of s)) (rest (fields_of (head_of s))))
-    (r : Read) (r-is : said r ≡ header_verdict s) where
-  pub header_refused : (n : ℕ) → r ≡ answer.Refused n → said r ≡ all
+    (r : Result Header Refusal) (r-is : said r ≡ header_verdict s) where
+  pub header_refused : (e : Refusal) → r ≡ Err e → said r ≡ all
   unfolding header_verdict
-  header_refused n e =
-      let t = verdict-refused (common_rows (length s) (head_of s)) (fields_of (head_of s)) n (sym r-is ∙ ap said e) in
-      ap said e ∙ ap refused (sym t.1) ∙ sym (all-is ∙ verdict-is (common_rows (length s) (head_of s)) _ ∙ rw t.0)
+  header_refused e here =
+      let t = verdict-refused (common_rows (length s) (head_of s)) (fields_of (head_of s)) (number_of e) (sym r-is ∙ ap said here) in
+      ap said here ∙ ap refused (sym t.1) ∙ sym (all-is ∙ verdict-is (common_rows (length s) (head_of s)) _ ∙ rw t.0)
 
-  pub header_read : (h : Header) → r ≡ answer.Message h → (x : Read) → said x ≡ rest h → said x ≡ all
+  pub header_read : (h : Header) → r ≡ Ok h → (x : Result Header Refusal) → said x ≡ rest h → said x ≡ all
   unfolding header_verdict
   header_read h e x x-is =
       let t = verdict-read (common_rows (length s) (head_of s)) (fields_of (head_of s)) h (sym r-is ∙ ap said e) in
@@ -80,14 +84,14 @@ message-is : (s : List ℕ) → message_verdict s ≡ verdict (common_rows (leng
 unfolding message_verdict message_rows body_verdict
 message-is s = verdict-append (common_rows (length s) (head_of s)) (front_rows s) (read (fields_of (head_of s)))
 
-module _ (s : List ℕ) (r : Read) (r-is : said r ≡ header_verdict s) where
-  pub header-whole : (h : Header) → r ≡ answer.Message h → Passed s h
+module _ (s : List ℕ) (r : Result Header Refusal) (r-is : said r ≡ header_verdict s) where
+  pub header-whole : (h : Header) → r ≡ Ok h → Passed s h
   header-whole h e = header-passed s h (sym r-is ∙ ap said e)
 
-  pub message-refused : (n : ℕ) → r ≡ answer.Refused n → said r ≡ message_verdict s
+  pub message-refused : (e : Refusal) → r ≡ Err e → said r ≡ message_verdict s
   message-refused = header_refused s (body_verdict s) (message_verdict s) (message-is s) r r-is
 
-  pub message-read : (h : Header) → r ≡ answer.Message h → (x : Read) → said x ≡ body_verdict s h → said x ≡ message_verdict s
+  pub message-read : (h : Header) → r ≡ Ok h → (x : Result Header Refusal) → said x ≡ body_verdict s h → said x ≡ message_verdict s
   message-read = header_read s (body_verdict s) (message_verdict s) (message-is s) r r-is
 
 pub ruleset readings = (body-room, body_refused, body-read, message-refused, header-whole, message-read)

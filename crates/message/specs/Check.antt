@@ -15,13 +15,13 @@
 --   fields_of h            the header's fields that later checks and the listing go by
 --   header_verdict         the verdict by 2 to 6; body_verdict: by 10 to 13; message_verdict: by both
 --   Passed s h             the header of the message at the front of s passed 2 to 6 as h; HeaderPassed: as each that reading answers did
-use Rattle.std.specs.Prelude.{ℕ, ◌≤◌, ◌≡◌, Bool, true, false, cond, not, ◌&&◌, ◌⊎◌, List, [], ◌∷◌, ◌++◌, length, leb, eqb}
+use Rattle.std.specs.Prelude.{ℕ, ◌≤◌, ◌≡◌, Bool, true, false, cond, not, ◌&&◌, ◌⊎◌, List, [], ◌∷◌, ◌++◌, length, leb, eqb, Result, Ok, Err}
 use Rattle.octets.specs.Octets.{le, signed32, negative}
+use Rattle.refusal.specs.declared.Refusal.{Refusal}
+use Rattle.refusal.specs.Refusals.{number_of}
 use Rattle.vector.specs.declared.Vector.{Vector}
 use Rattle.vector.specs.Vector.{keeps_rule}
 use Rattle.message.specs.declared.Header.{Header}
-use Rattle.message.specs.declared.Read.{Read}
-use Rattle.message.specs.declared.Read.TheVariants as answer
 use Rattle.message.specs.Layout.{Shape, shape_of, header_of, signature, Head, head_of, Element, Content, Nego, Exchange, Verify, Alert, content_of, vectors_of, size, front}
 
 pub record Row : Type 0 where
@@ -122,9 +122,9 @@ verdict [] v = v
 verdict (r ∷ rs) v = cond r.test (verdict rs v) (refused r.number)
 
 -- document 01's number and values, for each case of the answer
-abbrev pub said : Read → Verdict
-said (answer.Message h) = read h
-said (answer.Refused n) = refused n
+abbrev pub said : Result Header Refusal → Verdict
+said (Ok h) = read h
+said (Err e) = refused (number_of e)
 
 -- the header's fields that later checks and the listing go by
 abbrev pub fields_of : Head → Header

@@ -2,10 +2,12 @@
 #![tactic(auto)]
 
 ghost use Rattle.std.specs.Prelude.{◌≡◌, ◌≤◌, length};
+ghost use Rattle.refusal.specs.Refusals.{refusal_number};
 ghost use Rattle.message.specs.Layout.{shape_of, header_of};
 ghost use Rattle.message.specs.Check.{said, refusal_of, header_verdict, message_verdict, body_verdict, Passed};
 
 use octets::{le_u32, le_u64};
+use refusal::Refusal;
 
 pub mod alert;
 pub mod element;
@@ -144,43 +146,36 @@ pub struct Header {
     pub length: u32,
 }
 
-// What reading a message answers: its header, or the number of the check that refuses it.
-#[derive(Clone, Copy)]
-pub enum Read {
-    Message(Header),
-    Refused(u32),
-}
-
 // "NEGOEXTS", the octets 4E 45 47 4F 45 58 54 53, as a little-endian number.
 const SIGNATURE: u64 = 0x5354_5845_4F47_454E;
 
 // Checks 2 to 6 of the message at the front of `rest`.
-pub fn read_header(rest: &[u8]) -> Read
+pub fn read_header(rest: &[u8]) -> Result<Header, Refusal>
     ensures { said result ≡ header_verdict rest.now }
 {
     if rest.len() < field::COMMON_HEADER {
-        return Read::Refused(2);
+        return Err(Refusal::TooShort);
     }
     if le_u64(rest, field::SIGNATURE) != SIGNATURE {
-        return Read::Refused(3);
+        return Err(Refusal::Signature);
     }
     let number = le_u32(rest, field::TYPE);
     if Kind::ALERT < number {
-        return Read::Refused(4);
+        return Err(Refusal::Type);
     }
     let kind = Kind::of(number);
     let header = le_u32(rest, field::HEADER_LENGTH);
     if header != kind.header() {
-        return Read::Refused(5);
+        return Err(Refusal::HeaderLength);
     }
     let length = le_u32(rest, field::MESSAGE_LENGTH);
     if length < header {
-        return Read::Refused(6);
+        return Err(Refusal::MessageLength);
     }
     if rest.len() < length as usize {
-        return Read::Refused(6);
+        return Err(Refusal::MessageLength);
     }
-    Read::Message(Header {
+    Ok(Header {
         kind,
         sequence: le_u32(rest, field::SEQUENCE),
         header,
@@ -188,43 +183,40 @@ pub fn read_header(rest: &[u8]) -> Read
     })
 }
 
-// The number of the first of checks 10 to 13 that refuses the message m, or 0.
-pub fn refusal(kind: Kind, m: &[u8]) -> u32
+// Checks 10 to 13 of the message m: the first that refuses it.
+pub fn check(kind: Kind, m: &[u8]) -> Result<(), Refusal>
     requires { header_of (shape_of kind.0) ≤ length m.now }
-    ensures { result ≡ refusal_of (shape_of kind.0) m.now }
+    ensures { refusal_number result ≡ refusal_of (shape_of kind.0) m.now }
 {
     if kind.0 <= Kind::ACCEPTOR_NEGO {
-        return nego::refusal(m);
+        return nego::check(m);
     }
     if kind.0 <= Kind::AP_REQUEST {
-        return exchange::refusal(m);
+        return exchange::check(m);
     }
     if kind.0 == Kind::VERIFY {
-        return verify::refusal(m);
+        return verify::check(m);
     }
-    alert::refusal(m)
+    alert::check(m)
 }
 
 // Checks 10 to 13 of the message at the front of `rest`, whose header is h.
-pub fn read_body(rest: &[u8], h: Header) -> Read
+pub fn read_body(rest: &[u8], h: Header) -> Result<Header, Refusal>
     requires { Passed rest.now h }
     ensures { said result ≡ body_verdict rest.now h }
 {
     let length = h.length as usize;
-    let number = refusal(h.kind, &rest[..length]);
-    if number != 0 {
-        return Read::Refused(number);
-    }
-    Read::Message(h)
+    check(h.kind, &rest[..length])?;
+    Ok(h)
 }
 
 // Checks 2 to 6 and 10 to 13 of the message at the front of `rest`: all that can be asked of a message by itself.
-pub fn read_message(rest: &[u8]) -> Read
+pub fn read_message(rest: &[u8]) -> Result<Header, Refusal>
     ensures { said result ≡ message_verdict rest.now }
 {
-    let r = read_header(rest);
-    let Read::Message(h) = r else {
-        return r;
+    let reading = read_header(rest);
+    let Ok(h) = reading else {
+        return reading;
     };
     read_body(rest, h)
 }

@@ -10,11 +10,11 @@ use lib.Seq.{take_at, drop_at, drop-append-add}
 use lib.Dec.{ltb}
 use borrow.Author.Tests.{le-leb, le-ltb, ltb-true, ltb-false}
 use Rattle.octets.proofs.Slices.{tail_all}
-use Rattle.vector.specs.declared.TokenPlace.{TokenPlace}
+use Rattle.std.proofs.Common.{Result, Ok, Err, MatchResult}
+use Rattle.refusal.specs.Refusals.{number_of}
 use Rattle.message.specs.Layout.{Head, head_of, size}
 use Rattle.message.specs.Show.{first_of}
-use Rattle.token.specs.declared.Answer.{Answer}
-use Rattle.token.specs.declared.Answer.TheVariants as answer
+use Rattle.token.specs.declared.Refused.{Refused as D·Refused}
 use Rattle.token.specs.Token.{Placed, Reading, Accepted, Refused, token_of, messages, refusal, outcome_of, told}
 use Rattle.token.specs.Split.{Message, Numbered, join, placed_from}
 use Rattle.token.specs.Walk.{messages_of, Accepts, has_message, message_at}
@@ -112,31 +112,31 @@ module _ {X : Type 0} (x : X) (f : List Placed → X) (rest : List ℕ) (place :
 abbrev beyond : Placed
 beyond = record { place = 0; octets = [] }
 
--- on the way to message k of s: `left` messages are still to be passed over
-pub record OnWay (s : List ℕ) (k : ℕ) (rest : List ℕ) (place left : ℕ) : Type 0 where
-  pub walked : Walk (message_at s k) (λ ps. get_or ps left beyond) rest place
+-- on the way to message k of s: n messages are passed over
+pub record OnWay (s : List ℕ) (k : ℕ) (rest : List ℕ) (place n : ℕ) : Type 0 where
+  pub walked : Walk (message_at s k) (λ ps. get_or ps (k - n) beyond) rest place
   pub short : length s ≤ 65535
-  pub more : left < length walked.left.ms
+  pub more : k - n < length walked.left.ms
   pub ends : place + length rest ≡ length s
 
 length-placed : (p : ℕ) (ms : List (List ℕ)) → length (placed_from p ms) ≡ length ms
 length-placed p [] = refl
 length-placed p (m ∷ ms) = ap suc (length-placed (p + length m) ms)
 
-module _ (s : List ℕ) (k : ℕ) (rest : List ℕ) (place left : ℕ) (on : OnWay s k rest place left) where
+module _ (s : List ℕ) (k : ℕ) (rest : List ℕ) (place n : ℕ) (on : OnWay s k rest place n) where
   some : 0 < length rest
   some = go on.walked.left.ms on.walked.left.joins on.walked.left.numbered on.more where
-    go : (ms : List (List ℕ)) → join ms ≡ rest → Numbered on.walked.left.q on.walked.left.v ms → left < length ms → 0 < length rest
+    go : (ms : List (List ℕ)) → join ms ≡ rest → Numbered on.walked.left.q on.walked.left.v ms → k - n < length ms → 0 < length rest
     go [] j e h = absurd (omega arith)
     go (m ∷ ms) j e h = omega (arith, ap length j, length-append m (join ms), message-length _ _ m e.0)
 
-  pub way_end : left ≤ 0 → place ≡ (message_at s k).place
+  pub way_end : k ≤ n → place ≡ (message_at s k).place
   way_end h =
-      let z : left ≡ 0 = omega arith in
+      let z : k - n ≡ 0 = omega arith in
       let here : Turn rest on.walked.left (first_of rest) = turn rest on.walked.left some (first_of rest) refl in
       sym (ap (λ (m : Placed). m.place) (on.walked.come
-      ∙ ap (λ (ms : List (List ℕ)). get_or (placed_from place ms) left beyond) here.messages
-      ∙ ap (λ (n : ℕ). get_or (placed_from place (first_of rest ∷ here.left.ms)) n beyond) z))
+      ∙ ap (λ (ms : List (List ℕ)). get_or (placed_from place ms) (k - n) beyond) here.messages
+      ∙ ap (λ (j : ℕ). get_or (placed_from place (first_of rest ∷ here.left.ms)) j beyond) z))
 
   module _ (m : List ℕ) (m-is : m ≡ first_of rest) where
     here : Turn rest on.walked.left m
@@ -151,22 +151,20 @@ module _ (s : List ℕ) (k : ℕ) (rest : List ℕ) (place left : ℕ) (on : OnW
     pub way-place : place + length m < 2 ^ 64
     way-place = omega (arith, way-fits, on.ends, on.short)
 
-    pub way_on : 0 < left → (next : ℕ) → next ≡ place + length m → OnWay s k (behind rest (length m)) next (left - 1)
-    way_on some_left_lem next next-is =
-        subst (λ (n : ℕ). OnWay s k (behind rest (length m)) n (left - 1)) (sym next-is)
+    pub way_on : n < k → (next : ℕ) → next ≡ place + length m → OnWay s k (behind rest (length m)) next (n + 1)
+    way_on h next next-is =
+        let one-more : k - n ≡ suc (k - (n + 1)) = omega arith in
+        subst (λ (p : ℕ). OnWay s k (behind rest (length m)) p (n + 1)) (sym next-is)
         (record {
           walked = record {
             left = here.left;
-            come = on.walked.come ∙ ap (λ (ms : List (List ℕ)). get_or (placed_from place ms) left beyond) here.messages
-                ∙ passed left some_left_lem (placed_from (place + length m) here.left.ms);
+            come = on.walked.come ∙ ap (λ (ms : List (List ℕ)). get_or (placed_from place ms) (k - n) beyond) here.messages
+                ∙ ap (λ (j : ℕ). get_or (placed_from place (m ∷ here.left.ms)) j beyond) one-more;
           };
           short = on.short;
           more = omega (arith, on.more, ap length here.messages);
           ends = omega (arith, on.ends, here.fits, behind-length rest (length m));
-        }) where
-          passed : (n : ℕ) → 0 < n → (ps : List Placed) → get_or (record { place = place; octets = m } ∷ ps) n beyond ≡ get_or ps (n - 1) beyond
-          passed zero h ps = absurd (omega arith)
-          passed (suc n) h ps = let e : n ≡ suc n - 1 = omega arith in ap (λ (j : ℕ). get_or ps j beyond) e
+        })
 
 -- the two answers of the structural reading
 module _ (s : List ℕ) where
@@ -182,11 +180,11 @@ module _ (s : List ℕ) where
   refuses (Accepted ms) n p e h = let z : ◌≡◌ {A = ℕ} 0 1 = cc in absurd (omega arith)
   refuses (Refused c q) n p e h = cc
 
-  module _ (r : Answer) (r-is : told r ≡ outcome_of (token_of s)) where
-    pub answer-refuses : (n : ℕ) (place : TokenPlace) → r ≡ answer.Refused n place → token_of s ≡ Refused n place.0
-    answer-refuses n place here = refuses (token_of s) n place.0 refl (sym (ap told here) ∙ r-is)
+  module _ (r : Result ℕ D·Refused) (r-is : told r ≡ outcome_of (token_of s)) where
+    pub answer-refuses : (e : D·Refused) → r ≡ Err e → token_of s ≡ Refused (number_of e.refusal) e.place.0
+    answer-refuses e here = refuses (token_of s) (number_of e.refusal) e.place.0 refl (sym (ap told here) ∙ r-is)
 
-    module _ (n : ℕ) (here : r ≡ answer.Messages n) where
+    module _ (n : ℕ) (here : r ≡ Ok n) where
       both : Accepts s × (length (messages_of (token_of s)) ≡ n)
       both = reads (token_of s) n refl (sym (ap told here) ∙ r-is)
 
@@ -225,13 +223,12 @@ stands (m ∷ ms) place q v e (suc k) h =
           ∙ w.found;
     }
 
--- the answers of `has_message`
-module _ (s : List ℕ) (k : ℕ) (r : Answer) (r-is : told r ≡ outcome_of (token_of s)) where
-  pub has-none : (n : ℕ) (place : TokenPlace) → r ≡ answer.Refused n place → false ≡ has_message s k
-  has-none n place here = sym (ap (λ (x : Reading). ltb k (length (messages_of x))) (answer-refuses s r r-is n place here) ∙ le-ltb k 0 (omega arith))
-
-  pub has_some : (n : ℕ) → r ≡ answer.Messages n → ltb k n ≡ has_message s k
-  has_some n here = ap (ltb k) (sym (answer-number s r r-is n here))
+-- the answer of `has_message`: P is what its closure says of the number of messages
+pub has-is : (s : List ℕ) (k : ℕ) (r : Result ℕ D·Refused) → told r ≡ outcome_of (token_of s) → {P : ℕ → Type 0} (b : Bool)
+    → ((n : ℕ) → P n → b ≡ ltb k n) → MatchResult r P (λ _. b ≡ false) → b ≡ has_message s k
+has-is s k (Ok n) r-is b step h = step n h ∙ ap (ltb k) (sym (answer-number s (Ok n) r-is n refl))
+has-is s k (Err e) r-is b step h =
+    h ∙ sym (ap (λ (x : Reading). ltb k (length (messages_of x))) (answer-refuses s (Err e) r-is e refl) ∙ le-ltb k 0 (omega arith))
 
 -- a token that has a message is accepted
 accepts : (s : List ℕ) (k : ℕ) → has_message s k ≡ true → Accepts s
@@ -272,17 +269,21 @@ module _ (s : List ℕ) (k : ℕ) (b : Bool) (b-is : b ≡ has_message s k) wher
         let z : at ≡ (message_at s k).place - 0 = omega (arith, at-is) in
         m-is ∙ ap first_of (tail_all s at) ∙ ap (λ (j : ℕ). first_of (drop j s)) z ∙ there.found
 
-pub way-start : (s : List ℕ) (k : ℕ) → has_message s k ≡ true → OnWay s k s 0 k
+pub way-start : (s : List ℕ) (k : ℕ) → has_message s k ≡ true → OnWay s k s 0 0
 way-start s k h =
     let (w, places) = whole s (accepts s k h) in
     let few : k < length (messages_of (token_of s)) = ltb-true _ _ h in
+    let all : k ≡ k - 0 = omega arith in
     record {
-      walked = record { left = w; come = ap (λ (ps : List Placed). get_or ps k beyond) (sym places) };
+      walked = record {
+        left = w;
+        come = ap (λ (ps : List Placed). get_or ps k beyond) (sym places) ∙ ap (λ (j : ℕ). get_or (placed_from 0 w.ms) j beyond) all;
+      };
       short = accepted-short s (accepts s k h);
       more = omega (arith, ap length places, length-placed 0 w.ms);
       ends = omega arith;
     }
 
-pub ruleset walks = (has-none, has_some, walk-has, place_none, message-none, message-within, message-there)
+pub ruleset walks = (walk-has, place_none, message-none, message-within, message-there)
 
 pub ruleset ways = (way-start, way_end, way-fits, way-small, way-place, way_on)

@@ -3,64 +3,60 @@
 
 ghost use Rattle.std.specs.Prelude.{◌≡◌, ◌≤◌, ◌<◌, true, length};
 ghost use Rattle.message.specs.Check.{said, Passed};
-ghost use Rattle.token.specs.Token.{order_verdict, next_verdict, refused_at, chain_of, reading_of, token_of, told, outcome_of};
+ghost use Rattle.token.specs.Token.{order_verdict, next_verdict, chain_of, reading_of, token_of, told, outcome_of};
 ghost use Rattle.token.specs.Walk.{has_message, message_at};
 
 use message::walk::first;
-use message::{Header, Read, field, read_body, read_header};
+use message::{Header, field, read_body, read_header};
 use octets::{le_u32, same_id};
+use refusal::Refusal;
 use step::read_step;
 use vector::{MessageOffset, TokenPlace, in_token};
 
 mod step;
 
-// What the structural reading answers: the number of messages, or a refusal with the place of the message at fault.
+// A refusal, with the place of the message at fault.
 #[derive(Clone, Copy)]
-pub enum Answer {
-    Messages(u32),
-    Refused(u32, TokenPlace),
+pub struct Refused {
+    pub refusal: Refusal,
+    pub place: TokenPlace,
 }
 
 // Checks 7 to 13 of the message at the front of `rest`, whose header is h.
-fn read_ordered(rest: &[u8], sequence: u64, conversation: &[u8], h: Header) -> Read
+fn read_ordered(
+    rest: &[u8],
+    sequence: u64,
+    conversation: &[u8],
+    h: Header,
+) -> Result<Header, Refusal>
     requires { Passed rest.now h }
     ensures { said result ≡ order_verdict rest.now sequence conversation.now h }
 {
     if h.sequence as u64 != sequence {
-        return Read::Refused(7);
+        return Err(Refusal::Sequence);
     }
-    if same_id(
+    if !same_id(
         &rest[field::CONVERSATION..field::COMMON_HEADER],
         conversation,
-    ) {} else {
-        return Read::Refused(8);
+    ) {
+        return Err(Refusal::Conversation);
     }
     read_body(rest, h)
 }
 
 // Checks 2 to 13 of the message at the front of `rest`.
-pub fn read_next(rest: &[u8], sequence: u64, conversation: &[u8]) -> Read
+pub fn read_next(rest: &[u8], sequence: u64, conversation: &[u8]) -> Result<Header, Refusal>
     ensures { said result ≡ next_verdict rest.now sequence conversation.now }
 {
     let reading = read_header(rest);
-    let Read::Message(h) = reading else {
+    let Ok(h) = reading else {
         return reading;
     };
     read_ordered(rest, sequence, conversation, h)
 }
 
-// A message's refusal, at its place.
-fn refused_at(reading: Read, place: TokenPlace) -> Answer
-    ensures { told result ≡ refused_at (said reading) place.0 }
-{
-    match reading {
-        Read::Refused(n) => Answer::Refused(n, place),
-        Read::Message(_) => Answer::Refused(0, place),
-    }
-}
-
 // The messages of a token, the first of which has the number `first`.
-fn read_messages(token: &[u8], first: u64, conversation: &[u8]) -> Answer
+fn read_messages(token: &[u8], first: u64, conversation: &[u8]) -> Result<u32, Refused>
     requires { (length token.now ≤ 65535) × (first < 4294967296) × (length conversation.now ≡ 16) }
     ensures { told result ≡ outcome_of (reading_of (chain_of token.now 0 0 first conversation.now)) }
 {
@@ -68,10 +64,13 @@ fn read_messages(token: &[u8], first: u64, conversation: &[u8]) -> Answer
     let mut place = TokenPlace(0);
     let mut sequence = first;
     let mut count: u32 = 0;
-    while 0 < rest.len() {
+    // no index is counted here: where the next message begins, each header says
+    while !rest.is_empty() {
         let reading = read_step(rest, sequence, conversation);
-        let Read::Message(h) = reading else {
-            return refused_at(reading, place);
+        let Ok(h) = reading else {
+            return reading
+                .map(|_| count)
+                .map_err(|refusal| Refused { refusal, place });
         };
         let length = h.length as usize;
         rest = &rest[length..];
@@ -79,18 +78,24 @@ fn read_messages(token: &[u8], first: u64, conversation: &[u8]) -> Answer
         sequence += 1;
         count += 1;
     }
-    Answer::Messages(count)
+    Ok(count)
 }
 
 // The structural reading: checks 1 to 13, with the first message's sequence number and conversation as start.
-pub fn read_token(token: &[u8]) -> Answer
+pub fn read_token(token: &[u8]) -> Result<u32, Refused>
     ensures { told result ≡ outcome_of (token_of token.now) }
 {
     if 65535 < token.len() {
-        return Answer::Refused(1, TokenPlace(0));
+        return Err(Refused {
+            refusal: Refusal::TooLong,
+            place: TokenPlace(0),
+        });
     }
     if token.len() < field::COMMON_HEADER {
-        return Answer::Refused(2, TokenPlace(0));
+        return Err(Refused {
+            refusal: Refusal::TooShort,
+            place: TokenPlace(0),
+        });
     }
     let first = le_u32(token, field::SEQUENCE) as u64;
     read_messages(
@@ -104,11 +109,7 @@ pub fn read_token(token: &[u8]) -> Answer
 pub fn has_message(token: &[u8], k: usize) -> bool
     ensures { result ≡ has_message token.now k }
 {
-    let reading = read_token(token);
-    let Answer::Messages(n) = reading else {
-        return false;
-    };
-    k < n as usize
+    read_token(token).is_ok_and(|n| k < n as usize)
 }
 
 // The place of message k of a token that has it.
@@ -118,13 +119,11 @@ fn walk_to(token: &[u8], k: usize) -> TokenPlace
 {
     let mut rest = token;
     let mut place = TokenPlace(0);
-    let mut left = k;
-    while 0 < left {
+    for _ in 0..k {
         let m = first(rest);
         let end = m.len() as u32;
         rest = &rest[m.len()..];
         place = in_token(place, MessageOffset(end));
-        left -= 1;
     }
     place
 }
@@ -133,7 +132,7 @@ fn walk_to(token: &[u8], k: usize) -> TokenPlace
 pub fn place_at(token: &[u8], k: usize) -> TokenPlace
     ensures { result.0 ≡ (message_at token.now k).place }
 {
-    if has_message(token, k) {} else {
+    if !has_message(token, k) {
         return TokenPlace(0);
     }
     walk_to(token, k)
@@ -143,7 +142,7 @@ pub fn place_at(token: &[u8], k: usize) -> TokenPlace
 pub fn message_at(token: &[u8], k: usize) -> &[u8]
     ensures { result.now ≡ (message_at token.now k).octets }
 {
-    if has_message(token, k) {} else {
+    if !has_message(token, k) {
         return &token[..0];
     }
     let at = walk_to(token, k).0;

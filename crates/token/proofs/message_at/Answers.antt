@@ -1,12 +1,6 @@
 use Rattle.token.proofs.Walks.{walks}
 use Rattle.token.proofs.message_at.Goals as goal
 
-pub returns-else-has_message : goal.returns-else-has_message
-returns-else-has_message c = search walks
-
-pub walk_to-at-requires : goal.walk_to-at-requires
-walk_to-at-requires c = search walks
-
 pub slice_bounds-first-count : goal.slice_bounds-first-count
 slice_bounds-first-count c = search walks
 

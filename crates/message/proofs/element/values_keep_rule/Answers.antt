@@ -1,16 +1,11 @@
-use mathlib.Core.Path.{refl}
-use native.Mathlib.Omega.{arith}
 use Rattle.message.proofs.Elements.{elements}
 use Rattle.message.proofs.element.values_keep_rule.Goals as goal
 
-pub loop-left-init : goal.loop-left-init
-loop-left-init c = (omega arith, refl)
+pub returns-then-not-keeps_rule : goal.returns-then-not-keeps_rule
+returns-then-not-keeps_rule c = search elements
 
-pub returns-else-keeps_rule : goal.returns-else-keeps_rule
-returns-else-keeps_rule c = search elements
-
-pub loop-left-preserved : goal.loop-left-preserved
-loop-left-preserved c = (omega arith, search elements)
+pub loop-i-preserved : goal.loop-i-preserved
+loop-i-preserved c = search elements
 
 pub returns : goal.returns
 returns c = search elements

@@ -7,8 +7,5 @@ returns-then-rest-lt-COMMON_HEADER c = search firsts
 pub returns-then-rest-length : goal.returns-then-rest-length
 returns-then-rest-length c = search firsts
 
-pub slice_bounds-result-end-2 : goal.slice_bounds-result-end-2
-slice_bounds-result-end-2 c = search firsts
-
 pub returns : goal.returns
 returns c = search firsts

@@ -1,16 +1,11 @@
-use native.Mathlib.Omega.{arith}
-use lib.ListN.{length-take}
-use Rattle.message.proofs.Readings.{readings}
+use Rattle.std.proofs.lemmas.Result.{err_from_is_err_and}
+use Rattle.message.proofs.Readings.{body_refused, body-read}
 use Rattle.token.proofs.step.step_body.Goals as goal
 
-pub slice_bounds-step_refusal-end : goal.slice_bounds-step_refusal-end
-slice_bounds-step_refusal-end c = simp length-take (omega arith)
-
-pub step_refusal-number-requires : goal.step_refusal-number-requires
-step_refusal-number-requires c = search readings
-
-pub returns-then-number-ne0 : goal.returns-then-number-ne0
-returns-then-number-ne0 c = search readings
+pub returns-in_err-step_check : goal.returns-in_err-step_check
+returns-in_err-step_check c =
+    let p = err_from_is_err_and c.from_residual.result c.from_residual.ensures.1 in
+    rw (p.1, p.2) (body_refused _ _ c.requires _ c.in_err-step_check.ensures)
 
 pub returns : goal.returns
-returns c = search readings
+returns c = body-read _ _ c.requires c.in_ok-step_check.ensures

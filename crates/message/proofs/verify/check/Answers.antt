@@ -1,8 +1,8 @@
 use Rattle.message.proofs.Bodies.{verifies}
-use Rattle.message.proofs.verify.refusal.Goals as goal
+use Rattle.message.proofs.verify.check.Goals as goal
 
-pub returns-else-keeps_rule : goal.returns-else-keeps_rule
-returns-else-keeps_rule c = search verifies
+pub returns-then-not-keeps_rule : goal.returns-then-not-keeps_rule
+returns-then-not-keeps_rule c = search verifies
 
 pub returns-then-le_u32-ne-CHECKSUM_HEADER : goal.returns-then-le_u32-ne-CHECKSUM_HEADER
 returns-then-le_u32-ne-CHECKSUM_HEADER c = search verifies
