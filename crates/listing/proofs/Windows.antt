@@ -4,9 +4,9 @@ use Prim.Native.Nat.{ℕ}
 use mathlib.Core.Path.{◌≡◌, sym, ap, ◌∙◌}
 use mathlib.Core.List.{List, [], ◌∷◌, ◌++◌}
 use lib.ListN.{length}
-use Rattle.vector.specs.declared.TokenPlace.{TokenPlace}
-use Rattle.token.specs.declared.Answer.{Answer}
-use Rattle.token.specs.declared.Answer.TheVariants as answer
+use Rattle.std.proofs.Common.{Result, Ok, Err}
+use Rattle.refusal.specs.Refusals.{number_of}
+use Rattle.token.specs.declared.Refused.{Refused}
 use Rattle.token.specs.Token.{Reading, token_of, outcome_of, told}
 use Rattle.token.specs.Walk.{messages_of}
 use Rattle.token.proofs.Walks.{answer-accepts, answer-number, answer-refuses}
@@ -20,8 +20,8 @@ use Rattle.windows.proofs.Stepping.{steps-append, texts-append}
 use Rattle.windows.proofs.Windows.{window-is, start-going}
 use Rattle.listing.specs.Listing.{all_lines, reading_lines, lines_of}
 
-module _ (s : List ℕ) (r : Answer) (r-is : told r ≡ outcome_of (token_of s)) where
-  module _ (n : ℕ) (here : r ≡ answer.Messages n) where
+module _ (s : List ℕ) (r : Result ℕ Refused) (r-is : told r ≡ outcome_of (token_of s)) where
+  module _ (n : ℕ) (here : r ≡ Ok n) where
     lines_are : lines_of s ≡ texts (all_lines (messages_of (token_of s))) ++ (joined (end_line n (length s)) ∷ [])
     unfolding lines_of reading_lines texts
     lines_are =
@@ -41,13 +41,16 @@ module _ (s : List ℕ) (r : Answer) (r-is : told r ≡ outcome_of (token_of s))
           ∙ steps-append (texts (all_lines (messages_of (token_of s)))) (joined (end_line n (length s)) ∷ []) (within p d)))
           x c
 
-  pub window-refused : (n : ℕ) (place : TokenPlace) → r ≡ answer.Refused n place → (from end : ℕ) (d : List ℕ) (p : Progress) → p ≡ start_of from end
-      → (t : Progress) (d' : List ℕ) → within t d' ≡ step (within p d) (joined (refused_line n place.0)) → (x : Shown) → x ≡ shown_so_far t
+  pub window-refused : (f : Refused) → r ≡ Err f → (n : ℕ) → n ≡ number_of f.refusal
+      → (from end : ℕ) (d : List ℕ) (p : Progress) → p ≡ start_of from end
+      → (t : Progress) (d' : List ℕ) → within t d' ≡ step (within p d) (joined (refused_line n f.place.0)) → (x : Shown) → x ≡ shown_so_far t
       → as_window x d' ≡ window_of (lines_of s) from end d
   unfolding steps
-  window-refused n place here from end d p p-is t d' b x c =
+  window-refused f here n n-is from end d p p-is t d' b x c =
       window-is (lines_of s) from end d p t d' p-is (b ∙ sym (ap (λ (ts : List (List ℕ)). steps ts (within p d)) line-is)) x c where
-        line-is : lines_of s ≡ joined (refused_line n place.0) ∷ []
-        line-is = unfold lines_of reading_lines texts in ap (λ (y : Reading). texts (reading_lines y (length s))) (answer-refuses s r r-is n place here)
+        line-is : lines_of s ≡ joined (refused_line n f.place.0) ∷ []
+        line-is = unfold lines_of reading_lines texts in
+            ap (λ (y : Reading). texts (reading_lines y (length s))) (answer-refuses s r r-is f here)
+            ∙ ap (λ (k : ℕ). joined (refused_line k f.place.0) ∷ []) (sym n-is)
 
 pub ruleset windows = (answer-accepts, window-messages, window-refused, start-going)

@@ -13,7 +13,7 @@ ghost use Rattle.listing.specs.Listing.{all_lines, lines_of};
 
 use lines::{count, end_text, message_text, refused_text};
 use messages::Messages;
-use token::{Answer, read_token};
+use token::read_token;
 use vector::TokenPlace;
 use windows::{Progress, Shown, finish, put_line, start};
 
@@ -103,12 +103,11 @@ pub fn window(token: &[u8], from: usize, end: usize, d: &mut [u8]) -> Shown
     ensures { as_window result d.new ≡ window_of (lines_of token.now) from end d.old }
 {
     let progress = start(from, end);
-    let reading = read_token(token);
-    match reading {
-        Answer::Messages(n) => {
+    match read_token(token) {
+        Ok(n) => {
             let listed = show_messages(progress, d, token);
             finish(show_end(listed, d, n, token.len()))
         }
-        Answer::Refused(n, place) => finish(show_refusal(progress, d, n, place)),
+        Err(refused) => finish(show_refusal(progress, d, refused.refusal.number(), refused.place)),
     }
 }

@@ -20,8 +20,8 @@ pub show_refusal-requires : goal.show_refusal-requires
 show_refusal-requires c = start-going _ c.args.end _ _
     c.start-progress.ensures (search rules)
 
-pub returns-in-Messages : goal.returns-in-Messages
-returns-in-Messages c = search windows
+pub returns-in-Ok : goal.returns-in-Ok
+returns-in-Ok c = search windows
 
-pub returns-in-Refused : goal.returns-in-Refused
-returns-in-Refused c = search windows
+pub returns-in-Err : goal.returns-in-Err
+returns-in-Err c = search windows
