@@ -4,51 +4,40 @@ use Prim.Native.Nat.{ℕ, ◌+◌, ◌-◌, ◌≤◌, ◌<◌, ◌^◌}
 use mathlib.Core.Path.{◌≡◌, refl, sym, ap, subst, ◌∙◌}
 use mathlib.Core.Bool.{Bool, true, false, ◌&&◌}
 use mathlib.Core.List.{List, [], ◌∷◌}
-use native.Mathlib.Numerals.{add-one}
 use native.Mathlib.Omega.{arith}
-use lib.ListN.{length, get_or, drop, drop_of_length-le}
-use lib.Seq.{set_out, drop-cons}
+use lib.ListN.{length, get_or}
+use lib.Seq.{set_out}
 use lib.Dec.{leb}
 use borrow.Author.Tests.{le-leb, lt-leb}
 use Rattle.octets.specs.Octets.{le}
 use Rattle.vector.specs.Vector.{shown}
-use Rattle.vector.specs.declared.TokenPlace.{TokenPlace}
 use Rattle.message.specs.Layout.{head_of, scheme_vector}
 use Rattle.message.specs.Show.{ids_of, schemes_in, first_of}
-use Rattle.token.specs.declared.Answer.{Answer}
-use Rattle.token.specs.declared.Answer.TheVariants as answer
+use Rattle.std.proofs.Common.{Result, Ok, Err}
+use Rattle.refusal.specs.Refusals.{number_of}
+use Rattle.token.specs.declared.Refused.{Refused}
+use Rattle.std.specs.List.{list_all}
 use Rattle.token.specs.Token.{Reading, token_of, outcome_of, told}
 use Rattle.token.specs.Split.{placed_from}
 use Rattle.token.specs.Walk.{messages_of, Accepts}
 use Rattle.token.proofs.Cuts.{behind, behind-length}
-use Rattle.token.proofs.Walks.{Left, Turn, turn, turn-fits, turn-less, accepted-short, Walk, walk-begun, walk-ended, walk-passed, answer-accepts, answer-refuses}
+use Rattle.token.proofs.Walks.{Left, Turn, turn, accepted-short, Walk, walk-begun, walk-ended, walk-passed, answer-accepts, answer-refuses}
 use Rattle.coverage.specs.declared.Octets.{Octets}
 use Rattle.coverage.specs.Coverage.{octets_in}
 use Rattle.offers.specs.declared.Table.{Table}
 use Rattle.offers.specs.Table.{pick_table, offered_in, Counting}
 use Rattle.tallying.specs.declared.Tally.{Tally}
 use Rattle.tallying.specs.declared.Counted.{Counted}
-use Rattle.tallying.specs.Files.{Opened, Missing, File, all_octets, number_of, answer_of}
+use Rattle.tallying.specs.Files.{Opened, Missing, File, all_octets, number_of as F·number_of, answer_of}
 use Rattle.tallying.specs.Tally.{one_more, with_message, with_messages, with_answer, tallied, LIMIT, all_within, in_limits, counted_of}
 use Rattle.tallying.specs.Counting.{Small, Bounded, Ready, Start}
 use Rattle.tallying.proofs.Bounds.{bounded-message, bounded-more, limits-bounded}
 
--- ---- `all_within`: x is what the loop began with
-module _ (a : List ℕ) (i : ℕ) (x : Bool) (inv : x ≡ all_within (drop i a)) where
-  pub within_end : length a ≤ i → true ≡ x
-  unfolding all_within
-  within_end h = sym (inv ∙ rw (drop_of_length-le a h))
-
-  module _ (more : i < length a) where
-    pub within-no : 4294967295 < get_or a i 0 → false ≡ x
-    unfolding all_within
-    within-no h = sym (inv ∙ rw (drop-cons a i 0 more, lt-leb (get_or a i 0) LIMIT h))
-
-    pub within_more : get_or a i 0 ≤ 4294967295 → x ≡ all_within (drop (i + 1) a)
-    unfolding all_within
-    within_more h = inv ∙ rw (drop-cons a i 0 more, le-leb (get_or a i 0) LIMIT h, add-one)
-
-pub ruleset withins = (within_end, within-no, within_more)
+-- ---- `all_within`
+pub within_all : (l : List ℕ) → list_all (λ n. leb n LIMIT) l ≡ all_within l
+unfolding all_within
+within_all [] = refl
+within_all (n ∷ ns) = ap (λ (b : Bool). leb n LIMIT && b) (within_all ns)
 
 -- ---- `in_limits`
 pub and_no : (a b : Bool) → a ≡ false → false ≡ (a && b)
@@ -188,7 +177,7 @@ module _ (t : Tally) (s : List ℕ) (k : Start t s (length s)) where
   pub start-long : (room : ℕ) → 65535 ≤ room → Start t s room
   start-long room h = start-in room (omega (arith, accepted-short s k.accepted))
 
-pub ruleset walks = (begin, at-end, left, turn-fits, turn-less, walk-ready, walk-on)
+pub ruleset walks = (begin, at-end, left, walk-ready, walk-on)
 
 -- ---- `with_answer`
 pub answer-is : (t : Tally) (n : ℕ) (answers : List ℕ) → answers ≡ one_more t.answers n
@@ -204,9 +193,9 @@ answers_stay t [] = refl
 answers_stay t (m ∷ ms) = answers_stay (with_message t m) ms
 
 module _ (t : Tally) (b : Bool) (b-is : b ≡ in_limits t) where
-  pub outside : (f : File) → b ≡ false → ◌≡◌ {A = Counted} (record { refusal = 18; tally = t }) (counted_of t f)
+  pub outside : (f : File) → b ≡ false → (n : ℕ) → n ≡ 18 → ◌≡◌ {A = Counted} (record { refusal = n; tally = t }) (counted_of t f)
   unfolding counted_of
-  outside f e = rw (sym b-is ∙ e)
+  outside f e n n-is = rw (n-is, sym b-is ∙ e)
 
   module _ (e : b ≡ true) where
     inside : Bounded LIMIT t
@@ -219,11 +208,12 @@ module _ (t : Tally) (b : Bool) (b-is : b ≡ in_limits t) where
     unfolding counted_of
     counted-as f x x-is = rw (sym b-is ∙ e, x-is)
 
-    pub missing-counted : (x : Tally) → x ≡ with_answer t 27 → ◌≡◌ {A = Counted} (record { refusal = 27; tally = x }) (counted_of t Missing)
-    missing-counted x x-is = counted-as Missing x (x-is ∙ ap (λ (y : Tally). with_answer y 27) (unfold with_messages in refl))
+    pub missing-counted : (n : ℕ) → n ≡ 27 → (x : Tally) → x ≡ with_answer t n → ◌≡◌ {A = Counted} (record { refusal = n; tally = x }) (counted_of t Missing)
+    missing-counted n n-is x x-is =
+        rw n-is (counted-as Missing x (x-is ∙ ap (with_answer t) n-is ∙ ap (λ (y : Tally). with_answer y 27) (unfold with_messages in refl)))
 
-    module _ (s : List ℕ) (r : Answer) (r-is : told r ≡ outcome_of (token_of s)) where
-      module _ (n : ℕ) (here : r ≡ answer.Messages n) where
+    module _ (s : List ℕ) (r : Result ℕ Refused) (r-is : told r ≡ outcome_of (token_of s)) where
+      module _ (n : ℕ) (here : r ≡ Ok n) where
         accepted : Accepts s
         accepted = answer-accepts s r r-is n here
 
@@ -242,16 +232,16 @@ module _ (t : Tally) (b : Bool) (b-is : b ≡ in_limits t) where
 
           pub file-counted : (x : Tally) → x ≡ with_answer c 0 → ◌≡◌ {A = Counted} (record { refusal = 0; tally = x }) (counted_of t (Opened s))
           file-counted x x-is =
-              let z : 0 ≡ answer_of (Opened s) = sym (ap number_of accepted) in
+              let z : 0 ≡ answer_of (Opened s) = sym (ap F·number_of accepted) in
               ap (λ (k : ℕ). record { refusal = k; tally = x }) z
               ∙ counted-as (Opened s) x
               (x-is ∙ ap (λ (y : Tally). with_answer y 0) c-is ∙ ap (with_answer (with_messages t (all_octets (messages_of (token_of s))))) z)
 
-      pub file-refused : (n : ℕ) (place : TokenPlace) → r ≡ answer.Refused n place → (x : Tally) → x ≡ with_answer t n
+      pub file-refused : (f : Refused) → r ≡ Err f → (n : ℕ) → n ≡ number_of f.refusal → (x : Tally) → x ≡ with_answer t n
           → ◌≡◌ {A = Counted} (record { refusal = n; tally = x }) (counted_of t (Opened s))
-      file-refused n place here x x-is =
-          let no = answer-refuses s r r-is n place here in
-          let z : n ≡ answer_of (Opened s) = sym (ap number_of no) in
+      file-refused f here n n-is x x-is =
+          let no = answer-refuses s r r-is f here in
+          let z : n ≡ answer_of (Opened s) = n-is ∙ sym (ap F·number_of no) in
           let m : with_messages t (all_octets (messages_of (token_of s))) ≡ t =
           ap (λ (q : Reading). with_messages t (all_octets (messages_of q))) no ∙ (unfold with_messages in refl) in
           ap (λ (k : ℕ). record { refusal = k; tally = x }) z

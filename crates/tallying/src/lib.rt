@@ -12,12 +12,13 @@ ghost use Rattle.tallying.specs.Counting.{Small, Ready, Start};
 ghost use Rattle.tallying.specs.declared.Counted.{Counted};
 
 use coverage::count_octets;
-use message::walk::first;
 use message::{Kind, field};
+use messages::Messages;
 use octets::le_u32;
 use offers::{Table, add_offer};
 use parts::schemes;
-use token::{Answer, read_token};
+use refusal::Refusal;
+use token::read_token;
 
 // Counts by message type, answers by number (0 for accepted files), the table of schemes, and the octets in headers, in vectors and in neither.
 #[derive(Clone, Copy)]
@@ -30,7 +31,7 @@ pub struct Tally {
     pub bare: u64,
 }
 
-// A file's number, 0 where it is accepted, and the tally afterwards.
+// A file's number, 0 where it is accepted, and the tally afterwards. No Result: the number is what is counted, and 0 is counted too.
 #[derive(Clone, Copy)]
 pub struct Counted {
     pub refusal: u32,
@@ -43,19 +44,15 @@ const LIMIT: u64 = 4294967295;
 pub fn empty() -> Tally
     ensures { result ≡ empty_tally }
 {
-    let types = [0u64; 8];
-    let answers = [0u64; 32];
-    let ids = [0u8; 1024];
-    let counts = [0u64; 64];
     let table = Table {
-        ids,
-        counts,
+        ids: [0; 1024],
+        counts: [0; 64],
         count: 0,
         others: 0,
     };
     Tally {
-        types,
-        answers,
+        types: [0; 8],
+        answers: [0; 32],
         table,
         headers: 0,
         vectors: 0,
@@ -67,54 +64,27 @@ pub fn empty() -> Tally
 fn all_within(a: &[u64]) -> bool
     ensures { result ≡ all_within a.now }
 {
-    let mut i: usize = 0;
-    while i < a.len() {
-        if LIMIT < a[i] {
-            return false;
-        }
-        i += 1;
-    }
-    true
+    a.iter().all(|n| *n <= LIMIT)
 }
 
 // Whether none of the single numbers is above the limit.
+#[tactic(auto, unfolding(crate::specs::Tally::totals_within))]
 fn totals_within(t: Tally) -> bool
     ensures { result ≡ totals_within t }
 {
-    let table = t.table;
-    if LIMIT < table.others {
-        return false;
-    }
-    if LIMIT < t.headers {
-        return false;
-    }
-    if LIMIT < t.vectors {
-        return false;
-    }
-    t.bare <= LIMIT
+    t.table.others <= LIMIT && t.headers <= LIMIT && t.vectors <= LIMIT && t.bare <= LIMIT
 }
 
 // Whether 18 finds nothing at fault.
+#[tactic(auto, unfolding(crate::specs::Tally::in_limits))]
 fn in_limits(t: Tally) -> bool
     ensures { result ≡ in_limits t }
 {
-    let types = t.types;
-    let answers = t.answers;
-    let table = t.table;
-    let counts = table.counts;
-    if 64 < table.count {
-        return false;
-    }
-    if all_within(&types) {} else {
-        return false;
-    }
-    if all_within(&answers) {} else {
-        return false;
-    }
-    if all_within(&counts) {} else {
-        return false;
-    }
-    totals_within(t)
+    t.table.count <= 64
+        && all_within(&t.types)
+        && all_within(&t.answers)
+        && all_within(&t.table.counts)
+        && totals_within(t)
 }
 
 // One more at a place.
@@ -148,9 +118,8 @@ fn with_message(t: Tally, map: &mut [u32], m: &[u8]) -> Tally
     let octets = count_octets(map, m);
     let mut types = t.types;
     one_more(&mut types, kind as usize);
-    let before = t.table;
-    let table = with_offer(before, kind, m);
     let answers = t.answers;
+    let table = with_offer(t.table, kind, m);
     Tally {
         types,
         answers,
@@ -167,12 +136,8 @@ fn with_messages(t: Tally, map: &mut [u32], file: &[u8]) -> Tally
     ensures { result ≡ with_messages t (all_octets (messages_of (token_of file.now))) }
 {
     let mut counted = t;
-    let mut rest = file;
-    while 0 < rest.len() {
-        let m = first(rest);
-        let length = m.len();
+    for (_, m) in Messages::of(file) {
         counted = with_message(counted, map, m);
-        rest = &rest[length..];
     }
     counted
 }
@@ -195,33 +160,25 @@ fn with_answer(t: Tally, n: u32) -> Tally
     requires { Small t.answers }
     ensures { result ≡ with_answer t n }
 {
-    let types = t.types;
     let mut answers = t.answers;
     one_more(&mut answers, n as usize);
-    let table = t.table;
-    Tally {
-        types,
-        answers,
-        table,
-        headers: t.headers,
-        vectors: t.vectors,
-        bare: t.bare,
-    }
+    Tally { answers, ..t }
 }
 
 // The tally with a file that can't be opened.
 pub fn count_missing(t: Tally) -> Counted
     ensures { result ≡ counted_of t Missing }
 {
-    if in_limits(t) {} else {
+    if !in_limits(t) {
         return Counted {
-            refusal: 18,
+            refusal: Refusal::Stage.number(),
             tally: t,
         };
     }
+    let missing = Refusal::Unopened.number();
     Counted {
-        refusal: 27,
-        tally: with_answer(t, 27),
+        refusal: missing,
+        tally: with_answer(t, missing),
     }
 }
 
@@ -229,25 +186,27 @@ pub fn count_missing(t: Tally) -> Counted
 pub fn tallied(t: Tally, file: &[u8]) -> Counted
     ensures { result ≡ counted_of t (Opened file.now) }
 {
-    if in_limits(t) {} else {
+    if !in_limits(t) {
         return Counted {
-            refusal: 18,
+            refusal: Refusal::Stage.number(),
             tally: t,
         };
     }
-    let reading = read_token(file);
-    match reading {
-        Answer::Messages(_) => {
+    match read_token(file) {
+        Ok(_) => {
             let counted = with_file(t, file);
             Counted {
                 refusal: 0,
                 tally: with_answer(counted, 0),
             }
         }
-        Answer::Refused(n, _) => Counted {
-            refusal: n,
-            tally: with_answer(t, n),
-        },
+        Err(refused) => {
+            let number = refused.refusal.number();
+            Counted {
+                refusal: number,
+                tally: with_answer(t, number),
+            }
+        }
     }
 }
 

@@ -1,16 +1,11 @@
-use mathlib.Core.Path.{refl}
-use native.Mathlib.Omega.{arith}
-use Rattle.tallying.proofs.Steps.{withins}
+use Rattle.std.proofs.Common.{rules, tests, ◌∙◌, leb}
+use Rattle.std.proofs.lemmas.Iterator.{YieldsList-from_slice}
+use Rattle.std.proofs.lemmas.Iterator.Search.{all_from_yields_List}
+use Rattle.tallying.specs.Tally.{LIMIT}
+use Rattle.tallying.proofs.Steps.{within_all}
 use Rattle.tallying.proofs.all_within.Goals as goal
 
-pub loop-i-init : goal.loop-i-init
-loop-i-init c = (omega arith, refl)
-
-pub returns-then-a-i-gt-LIMIT : goal.returns-then-a-i-gt-LIMIT
-returns-then-a-i-gt-LIMIT c = search withins
-
-pub loop-i-preserved : goal.loop-i-preserved
-loop-i-preserved c = (omega arith, search withins)
-
 pub returns : goal.returns
-returns c = search withins
+returns c =
+    all_from_yields_List (λ n. leb n LIMIT) _ _ _ c.all.ensures.ran (YieldsList-from_slice _ c.iter.ensures.rest) (λ x b q k. search (rules, tests))
+    ∙ within_all _

@@ -1,8 +1,8 @@
 use Rattle.tallying.proofs.Steps.{counteds}
 use Rattle.tallying.proofs.count_missing.Goals as goal
 
-pub returns-else-in_limits : goal.returns-else-in_limits
-returns-else-in_limits c = search counteds
+pub returns-then-not-in_limits : goal.returns-then-not-in_limits
+returns-then-not-in_limits c = search counteds
 
 pub with_answer-requires : goal.with_answer-requires
 with_answer-requires c = search counteds

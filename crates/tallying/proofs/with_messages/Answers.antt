@@ -1,25 +1,18 @@
-use borrow.Author.Rules.{rules}
-use mathlib.Core.Path.{refl}
+use Rattle.std.proofs.Common.{rules, refl, ◌≡◌}
+use Rattle.messages.proofs.Steps.{some_left, left_behind, none_left}
 use Rattle.tallying.proofs.Steps.{walks}
 use Rattle.tallying.proofs.with_messages.Goals as goal
 
-pub loop-rest-init : goal.loop-rest-init
-loop-rest-init c = (refl, search walks)
+pub loop-m-init : goal.loop-m-init
+loop-m-init c =
+    let e : c.into_iter-m-iterator.result.rest.now ≡ c.args.file.now = search rules in (tt, tt, refl, rw e (search walks))
 
 pub with_message-counted-requires : goal.with_message-counted-requires
-with_message-counted-requires c = search walks
+with_message-counted-requires c = search (walks, some_left, c.in-Some.ensures.steps)
 
-pub slice_bounds-rest-count : goal.slice_bounds-rest-count
-slice_bounds-rest-count c = search walks
-
-pub slice_bounds-rest-start : goal.slice_bounds-rest-start
-slice_bounds-rest-start c = search walks
-
-pub loop-rest-smaller : goal.loop-rest-smaller
-loop-rest-smaller c = search walks
-
-pub loop-rest-preserved : goal.loop-rest-preserved
-loop-rest-preserved c = (search rules, search walks)
+pub loop-m-preserved : goal.loop-m-preserved
+loop-m-preserved c =
+    (tt, tt, search rules, rw (left_behind c.in-Some.ensures.steps) (search (walks, some_left, c.in-Some.ensures.steps)))
 
 pub returns : goal.returns
-returns c = search walks
+returns c = search (walks, none_left, c.in-None.ensures.steps.0)

@@ -1,5 +1,4 @@
-use mathlib.Core.Path.{◌≡◌}
-use lib.ListN.{length}
+use Rattle.std.proofs.Common.{◌≡◌, length}
 use Rattle.token.specs.Token.{token_of}
 use Rattle.token.specs.Walk.{messages_of}
 use Rattle.tallying.specs.Files.{all_octets}
@@ -7,10 +6,8 @@ use Rattle.tallying.specs.Tally.{with_messages}
 use Rattle.tallying.proofs.Steps.{Going-on}
 use Rattle.tallying.proofs.with_messages.Given as goal
 
-abbrev pub invariant-loop-rest : goal.invariant-loop-rest
-invariant-loop-rest l =
-    (length l.map ≡ length l.initial.map)
-    × Going-on (with_messages l.initial.counted (all_octets (messages_of (token_of l.file)))) l.file l.rest l.counted
-
-abbrev pub decreases-loop-rest : goal.decreases-loop-rest
-decreases-loop-rest l = length l.rest
+abbrev pub invariant-loop-m : goal.invariant-loop-m
+invariant-loop-m l =
+    (goal.iterator-loop-m).can_next l.m-iterator × (goal.iterator-loop-m).is_finite l.m-iterator
+    × (length l.map ≡ length l.initial.map)
+    × Going-on (with_messages l.initial.counted (all_octets (messages_of (token_of l.file)))) l.file l.m-iterator.rest.now l.counted
