@@ -8,10 +8,9 @@ use lib.ListN.{length, take, drop, length-append, length-take, length-drop, drop
 use lib.Seq.{length-take-le, take_all, take_at, drop_at, drop-drop, take-add}
 use borrow.Author.Tests.{eq-eqb, ne_eqb}
 use Rattle.octets.proofs.Slices.{tail_all}
-use Rattle.vector.specs.declared.TokenPlace.{TokenPlace}
 use Rattle.message.specs.Show.{first_of}
-use Rattle.token.specs.declared.Answer.{Answer}
-use Rattle.token.specs.declared.Answer.TheVariants as answer
+use Rattle.std.proofs.Common.{Result, Ok, Err}
+use Rattle.token.specs.declared.Refused.{Refused}
 use Rattle.token.specs.Token.{Placed, Reading, Outcome, token_of, outcome_of, told}
 use Rattle.token.specs.Split.{join, placed_from}
 use Rattle.token.specs.Walk.{Accepts}
@@ -211,28 +210,26 @@ pub ruleset masks =
     (mask_start, blank-start, unread-token, unread-mask, mask-length, mask_end, mask_fits, mask-within, mask-small, mask-less, mask-room, mask-beside, mask-on)
 
 -- ---- `cover`
-module _ (s : List ℕ) (r : Answer) (r-is : told r ≡ outcome_of (token_of s)) (d : List ℕ) where
-  pub cover-other : (n : ℕ) → r ≡ answer.Messages n → (length d ≡ length s → ⊥)
-      → ◌≡◌ {A = Blanking} (record { outcome = told (answer.Messages n); octets = d }) (masking_of s d)
-  cover-other n here h =
-      let e : d ≡ masked_by (token_of s) s d =
-      sym (ap (λ (q : Reading). masked_by q s d) (answer-accepts s r r-is n here) ∙ simp (ne_eqb (length d) (length s) h)) in
-      ap (λ (o : Outcome). record { outcome = o; octets = d }) (sym (ap told here) ∙ r-is)
-      ∙ ap (λ (l : List ℕ). record { outcome = outcome_of (token_of s); octets = l }) e
+module _ (s d : List ℕ) where
+  pub cover-other : (n : ℕ) → told (Ok n) ≡ outcome_of (token_of s) → (length d ≡ length s → ⊥)
+      → ◌≡◌ {A = Blanking} (record { outcome = told (Ok n); octets = d }) (masking_of s d)
+  cover-other n e h =
+      let same : d ≡ masked_by (token_of s) s d =
+      sym (ap (λ (q : Reading). masked_by q s d) (answer-accepts s (Ok n) e n refl) ∙ simp (ne_eqb (length d) (length s) h)) in
+      ap (λ (o : Outcome). record { outcome = o; octets = d }) e
+      ∙ ap (λ (l : List ℕ). record { outcome = outcome_of (token_of s); octets = l }) same
 
-  pub cover-done : (n : ℕ) → r ≡ answer.Messages n → length d ≡ length s → (x : List ℕ) → x ≡ kept (covered s) d 0
-      → ◌≡◌ {A = Blanking} (record { outcome = told (answer.Messages n); octets = x }) (masking_of s d)
-  cover-done n here h x x-is =
-      let e : x ≡ masked_by (token_of s) s d =
-      x-is ∙ sym (ap (λ (q : Reading). masked_by q s d) (answer-accepts s r r-is n here) ∙ simp (eq-eqb (length d) (length s) h)) in
-      ap (λ (o : Outcome). record { outcome = o; octets = x }) (sym (ap told here) ∙ r-is)
-      ∙ ap (λ (l : List ℕ). record { outcome = outcome_of (token_of s); octets = l }) e
+  pub cover-done : (n : ℕ) → told (Ok n) ≡ outcome_of (token_of s) → length d ≡ length s → (x : List ℕ) → x ≡ kept (covered s) d 0
+      → ◌≡◌ {A = Blanking} (record { outcome = told (Ok n); octets = x }) (masking_of s d)
+  cover-done n e h x x-is =
+      let same : x ≡ masked_by (token_of s) s d =
+      x-is ∙ sym (ap (λ (q : Reading). masked_by q s d) (answer-accepts s (Ok n) e n refl) ∙ simp (eq-eqb (length d) (length s) h)) in
+      ap (λ (o : Outcome). record { outcome = o; octets = x }) e
+      ∙ ap (λ (l : List ℕ). record { outcome = outcome_of (token_of s); octets = l }) same
 
-  pub cover-refused : (n : ℕ) (place : TokenPlace) → r ≡ answer.Refused n place
-      → ◌≡◌ {A = Blanking} (record { outcome = told (answer.Refused n place); octets = d }) (masking_of s d)
-  cover-refused n place here =
-      let e : d ≡ masked_by (token_of s) s d = sym (ap (λ (q : Reading). masked_by q s d) (answer-refuses s r r-is n place here)) in
-      ap (λ (o : Outcome). record { outcome = o; octets = d }) (sym (ap told here) ∙ r-is)
-      ∙ ap (λ (l : List ℕ). record { outcome = outcome_of (token_of s); octets = l }) e
-
-pub ruleset covering = (answer-accepts, cover-other, cover-done, cover-refused)
+  pub cover-refused : (f : Refused) → told (Err f) ≡ outcome_of (token_of s)
+      → ◌≡◌ {A = Blanking} (record { outcome = told (Err f); octets = d }) (masking_of s d)
+  cover-refused f e =
+      let same : d ≡ masked_by (token_of s) s d = sym (ap (λ (q : Reading). masked_by q s d) (answer-refuses s (Err f) e f refl)) in
+      ap (λ (o : Outcome). record { outcome = o; octets = d }) e
+      ∙ ap (λ (l : List ℕ). record { outcome = outcome_of (token_of s); octets = l }) same

@@ -11,13 +11,13 @@ use lib.Seq.{length-take-le, take_all, drop-cons, take-suc-set, drop-set-lt, app
 use lib.Dec.{leb, ltb}
 use borrow.Author.Tests.{le-leb, lt-leb, lt-ltb, le-ltb}
 use Rattle.octets.specs.Octets.{le}
-use Rattle.vector.specs.declared.TokenPlace.{TokenPlace}
 use Rattle.vector.specs.declared.Vector.{Vector}
 use Rattle.message.specs.Layout.{head_of, shape_of, header_of, pads_of, content_of, content_in, vectors_of}
 use Rattle.message.proofs.Shapes.{shape-nego, shape-exchange, shape-verify, shape-alert, header-least}
-use Rattle.token.specs.declared.Answer.{Answer}
-use Rattle.token.specs.declared.Answer.TheVariants as answer
+use Rattle.std.proofs.Common.{Result, Ok, Err}
+use Rattle.token.specs.declared.Refused.{Refused}
 use Rattle.token.specs.Token.{Reading, Outcome, token_of, outcome_of, told}
+use Rattle.token.specs.Walk.{Accepts}
 use Rattle.token.proofs.Walks.{answer-accepts, answer-refuses}
 use Rattle.coverage.specs.Coverage.{header_in, vectors_in, lies_in_pad, lies_in_one, is_covered}
 use Rattle.coverage.specs.Sweep.{Clear, marked_all}
@@ -25,16 +25,6 @@ use Rattle.coverage.proofs.Sweeps.{end_before, end_none, vectors-end, far-next}
 use Rattle.blanking.specs.Blanked.{kept, blanked_by, blanked, Blanking, blanking_of}
 use Rattle.blanking.specs.Wiped.{headed, wiped, Room}
 use Rattle.blanking.proofs.Sames.{or_r}
-
--- ---- `lies`
-module _ (at from end : ℕ) where
-  pub lies-no : at < from → false ≡ (leb from at && ltb at end)
-  lies-no h = rw (lt-leb from at h)
-
-  pub lies-yes : from ≤ at → ltb at end ≡ (leb from at && ltb at end)
-  lies-yes h = rw (le-leb from at h)
-
-pub ruleset stretches = (lies-no, lies-yes)
 
 -- ---- `in_pad`
 first-pad : (b c : Bool) → b ≡ true → true ≡ (b || c)
@@ -52,9 +42,9 @@ module _ (kind at : ℕ) where
   InPad b = b ≡ lies_in_pad (pads_of (shape_of kind)) at
 
   module _ (a : Bool) (first : a ≡ (leb 86 at && ltb at 88)) where
-    pub nego-first : kind ≤ 1 → a ≡ true → InPad true
+    pub nego-first : kind ≤ 1 → a ≡ true → InPad a
     unfolding lies_in_pad
-    nego-first h e = rw (shape-nego kind h) (first-pad _ _ (sym first ∙ e))
+    nego-first h e = rw (shape-nego kind h) (e ∙ first-pad _ (leb 94 at && ltb at 96 || false) (sym first ∙ e))
 
     pub nego-second : kind ≤ 1 → a ≡ false → (b : Bool) → b ≡ (leb 94 at && ltb at 96) → InPad b
     unfolding lies_in_pad
@@ -71,9 +61,10 @@ module _ (kind at : ℕ) where
       verify-only h b g = rw (shape-verify kind not-nego not-exchange h) (last-pad b _ g)
 
       module _ (not-verify : kind ≡ 6 → ⊥) (a : Bool) (first : a ≡ (leb 66 at && ltb at 68)) where
-        pub alert-first : a ≡ true → InPad true
+        pub alert-first : a ≡ true → InPad a
         unfolding lies_in_pad
-        alert-first e = rw (shape-alert kind not-nego not-exchange not-verify) (first-pad _ _ (sym first ∙ e))
+        alert-first e =
+            rw (shape-alert kind not-nego not-exchange not-verify) (e ∙ first-pad _ (leb 68 at && ltb at 72 || false) (sym first ∙ e))
 
         pub alert-second : a ≡ false → (b : Bool) → b ≡ (leb 68 at && ltb at 72) → InPad b
         unfolding lies_in_pad
@@ -178,16 +169,13 @@ module _ (map m : List ℕ) (room : Room (length map) m) where
 pub ruleset rooms = (room-kind, room-cells, room-few, room_within, room-own, room-header)
 
 -- ---- `blank`
-module _ (s : List ℕ) (r : Answer) (r-is : told r ≡ outcome_of (token_of s)) where
-  pub blank-done : (n : ℕ) → r ≡ answer.Messages n → (x : List ℕ) → x ≡ blanked s
-      → ◌≡◌ {A = Blanking} (record { outcome = told (answer.Messages n); octets = x }) (blanking_of s)
-  blank-done n here x x-is = rw (x-is, sym (ap told here) ∙ r-is)
+module _ (s : List ℕ) where
+  pub read-accepts : (n : ℕ) → told (Ok n) ≡ outcome_of (token_of s) → Accepts s
+  read-accepts n e = answer-accepts s (Ok n) e n refl
 
-  pub blank-refused : (n : ℕ) (place : TokenPlace) → r ≡ answer.Refused n place
-      → ◌≡◌ {A = Blanking} (record { outcome = told (answer.Refused n place); octets = s }) (blanking_of s)
-  blank-refused n place here =
-      let e : s ≡ blanked s = sym (ap (λ (q : Reading). blanked_by q s) (answer-refuses s r r-is n place here)) in
-      ap (λ (o : Outcome). record { outcome = o; octets = s }) (sym (ap told here) ∙ r-is)
-      ∙ ap (λ (l : List ℕ). record { outcome = outcome_of (token_of s); octets = l }) e
-
-pub ruleset answers = (answer-accepts, blank-done, blank-refused)
+  pub blank-refused : (f : Refused) → told (Err f) ≡ outcome_of (token_of s)
+      → ◌≡◌ {A = Blanking} (record { outcome = told (Err f); octets = s }) (blanking_of s)
+  blank-refused f e =
+      let same : s ≡ blanked s = sym (ap (λ (q : Reading). blanked_by q s) (answer-refuses s (Err f) e f refl)) in
+      ap (λ (o : Outcome). record { outcome = o; octets = s }) e
+      ∙ ap (λ (l : List ℕ). record { outcome = outcome_of (token_of s); octets = l }) same

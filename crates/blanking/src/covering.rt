@@ -14,7 +14,7 @@ use coverage::{clear, mark_kind};
 use message::walk::first;
 use message::{Kind, field};
 use octets::le_u32;
-use token::{Answer, read_token};
+use token::{Refused, read_token};
 
 // Zeroes the mask where nothing covers a message of a kind.
 fn cover_kind(map: &mut [u32], kind: Kind, m: &[u8], mask: &mut [u8])
@@ -52,20 +52,15 @@ fn cover_messages(map: &mut [u32], token: &[u8], mask: &mut [u8])
 
 // Zeroes a mask as long as the token at each place where nothing covers the token; a mask of another length, and that of a refused token, is left as it is. The
 // answer is the structural reading's.
-pub fn cover(token: &[u8], mask: &mut [u8]) -> Answer
+pub fn cover(token: &[u8], mask: &mut [u8]) -> Result<u32, Refused>
     ensures { ◌≡◌ {A = Blanking} (record { outcome = told result; octets = mask.new })
         (masking_of token.now mask.old) }
 {
-    let reading = read_token(token);
-    match reading {
-        Answer::Messages(n) => {
-            if mask.len() != token.len() {
-                return Answer::Messages(n);
-            }
-            let mut map = [0u32; 65536];
-            cover_messages(&mut map, token, mask);
-            Answer::Messages(n)
-        }
-        Answer::Refused(n, place) => Answer::Refused(n, place),
+    let n = read_token(token)?;
+    if mask.len() != token.len() {
+        return Ok(n);
     }
+    let mut map = [0u32; 65536];
+    cover_messages(&mut map, token, mask);
+    Ok(n)
 }

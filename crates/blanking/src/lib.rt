@@ -9,11 +9,11 @@ ghost use Rattle.coverage.specs.Coverage.{lies_in_pad};
 ghost use Rattle.blanking.specs.Blanked.{blanked, Blanking, blanking_of};
 ghost use Rattle.blanking.specs.Wiped.{headed, wiped, kept_message, Room};
 
-use coverage::{clear, greatest, mark_kind};
+use coverage::{clear, mark_kind};
 use message::walk::first;
 use message::{Kind, field};
 use octets::le_u32;
-use token::{Answer, read_token};
+use token::{Refused, read_token};
 
 pub mod covering;
 
@@ -21,10 +21,7 @@ pub mod covering;
 fn lies(at: usize, from: usize, end: usize) -> bool
     ensures { result ≡ (leb from at && ltb at end) }
 {
-    if at < from {
-        return false;
-    }
-    at < end
+    from <= at && at < end
 }
 
 // Whether a place of a header lies in a pad.
@@ -32,10 +29,8 @@ fn in_pad(kind: Kind, at: usize) -> bool
     ensures { result ≡ lies_in_pad (pads_of (shape_of kind.0)) at }
 {
     if kind.0 <= Kind::ACCEPTOR_NEGO {
-        if lies(at, field::SCHEMES_PAD, field::EXTENSIONS) {
-            return true;
-        }
-        return lies(at, field::EXTENSIONS_PAD, Kind::NEGO_HEADER_LEN);
+        return lies(at, field::SCHEMES_PAD, field::EXTENSIONS)
+            || lies(at, field::EXTENSIONS_PAD, Kind::NEGO_HEADER_LEN);
     }
     if kind.0 <= Kind::AP_REQUEST {
         return false;
@@ -43,10 +38,8 @@ fn in_pad(kind: Kind, at: usize) -> bool
     if kind.0 == Kind::VERIFY {
         return lies(at, field::VERIFY_PAD, Kind::VERIFY_HEADER_LEN);
     }
-    if lies(at, field::ALERTS_PAD, field::ALERT_PAD) {
-        return true;
-    }
-    lies(at, field::ALERT_PAD, Kind::ALERT_HEADER_LEN)
+    lies(at, field::ALERTS_PAD, field::ALERT_PAD)
+        || lies(at, field::ALERT_PAD, Kind::ALERT_HEADER_LEN)
 }
 
 // Whether a place is covered: it lies in the header and in no pad, or before the farthest end of the vectors that start at it or before it.
@@ -54,16 +47,7 @@ fn is_covered(kind: Kind, header: u32, far: u32, at: usize) -> bool
     requires { header ≡ header_of (shape_of kind.0) }
     ensures { result ≡ (headed kind.0 at || ltb at far) }
 {
-    if at < far as usize {
-        return true;
-    }
-    if header as usize <= at {
-        return false;
-    }
-    if in_pad(kind, at) {
-        return false;
-    }
-    true
+    at < far as usize || at < header as usize && !in_pad(kind, at)
 }
 
 // An octet where it is covered, else zero.
@@ -79,12 +63,10 @@ fn wipe(m: &mut [u8], map: &[u32], kind: Kind)
     ensures { m.new ≡ wiped (headed kind.0) map.now 0 m.old 0 }
 {
     let header = kind.header();
-    let mut at: usize = 0;
     let mut far: u32 = 0;
-    while at < m.len() {
-        far = greatest(far, map[at]);
+    for at in 0..m.len() {
+        far = far.max(map[at]);
         m[at] = octet_kept(m[at], is_covered(kind, header, far, at));
-        at += 1;
     }
 }
 
@@ -123,16 +105,11 @@ fn blank_messages(map: &mut [u32], token: &mut [u8])
 }
 
 // Zeroes each octet of a token that nothing points at; a refused token is left as it is. The answer is the structural reading's.
-pub fn blank(token: &mut [u8]) -> Answer
+pub fn blank(token: &mut [u8]) -> Result<u32, Refused>
     ensures { ◌≡◌ {A = Blanking} (record { outcome = told result; octets = token.new }) (blanking_of token.old) }
 {
-    let reading = read_token(&token[..]);
-    match reading {
-        Answer::Messages(n) => {
-            let mut map = [0u32; 65536];
-            blank_messages(&mut map, token);
-            Answer::Messages(n)
-        }
-        Answer::Refused(n, place) => Answer::Refused(n, place),
-    }
+    let n = read_token(&token[..])?;
+    let mut map = [0u32; 65536];
+    blank_messages(&mut map, token);
+    Ok(n)
 }

@@ -1,4 +1,3 @@
-use Prim.Native.Nat.{◌-◌}
 use mathlib.Core.Path.{◌≡◌}
 use mathlib.Core.List.{◌++◌}
 use lib.ListN.{length, take, drop}
@@ -9,6 +8,3 @@ abbrev pub invariant-loop-at : goal.invariant-loop-at
 invariant-loop-at l =
     (length l.m ≡ length l.initial.m)
     × (wiped (headed l.kind.0) l.map 0 l.initial.m 0 ≡ take l.at l.m ++ wiped (headed l.kind.0) l.map l.far (drop l.at l.m) l.at)
-
-abbrev pub decreases-loop-at : goal.decreases-loop-at
-decreases-loop-at l = length l.initial.m - l.at
