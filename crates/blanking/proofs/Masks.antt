@@ -9,7 +9,7 @@ use lib.Seq.{length-take-le, take_all, take_at, drop_at, drop-drop, take-add}
 use borrow.Author.Tests.{eq-eqb, ne_eqb}
 use Rattle.octets.proofs.Slices.{tail_all}
 use Rattle.message.specs.Show.{first_of}
-use Rattle.std.proofs.Common.{Result, Ok, Err}
+use Rattle.std.proofs.Common.{Ok, Err}
 use Rattle.token.specs.declared.Refused.{Refused}
 use Rattle.token.specs.Token.{Placed, Reading, Outcome, token_of, outcome_of, told}
 use Rattle.token.specs.Split.{join, placed_from}
@@ -19,7 +19,7 @@ use Rattle.coverage.specs.Coverage.{is_covered}
 use Rattle.blanking.specs.Covered.{covered_in, covered}
 use Rattle.blanking.specs.Blanked.{kept, blanked_by, blanked, Blanking}
 use Rattle.blanking.specs.Masked.{masked_by, masking_of}
-use Rattle.blanking.specs.Wiped.{Room}
+use Rattle.blanking.specs.Wiped.{headed, wiped, Marks, Room}
 use Rattle.blanking.proofs.Sames.{message-room}
 use Rattle.blanking.proofs.Keeps.{length-kept, kept_same, kept_append, in-first, behind-first}
 
@@ -125,7 +125,7 @@ module _ (x token d₀ d : List ℕ) (at : ℕ) (on : Masking x token d₀ d at)
         subst (Room n) (sym lent)
         (record { header = message-room _ _ m here.first; few = omega (arith, fits, on.short); within = omega (arith, fits, on.short) })
 
-    pub mask-beside : length (take (at + length m - at) (drop at d)) ≡ length (take (at + length m - at) (drop at t))
+    mask-beside : length (take (at + length m - at) (drop at d)) ≡ length (take (at + length m - at) (drop at t))
     mask-beside =
         omega (
           arith,
@@ -172,7 +172,7 @@ module _ (x token d₀ d : List ℕ) (at : ℕ) (on : Masking x token d₀ d at)
           ∙ kept-first at m here.left.ms a b a-length
           ∙ ap (λ (l : List ℕ). l ++ kept (covered_in (placed_from (at + length m) here.left.ms)) b (at + length m)) (sym y_kept)
 
-      pub mask-on : Masking x token d₀ next (at + length m)
+      mask-on : Masking x token d₀ next (at + length m)
       unfolding a b
       mask-on = record {
         left = record {
@@ -202,12 +202,30 @@ module _ (x token d₀ d : List ℕ) (at : ℕ) (on : Masking x token d₀ d at)
         within = fits;
       }
 
+    part_length : length (take (at + length m - at) (drop at t)) ≡ at + length m - at
+    part_length = ap length lent ∙ sym gone
+
+    pub mask-cells : at + length m - at ≤ length t
+    mask-cells = omega (arith, fits, u.size)
+
+    module _ (kind : ℕ) (map : List ℕ) (marks : Marks kind (take (at + length m - at) (drop at t)) (take (length (take (at + length m - at) (drop at t))) map)) where
+      pub mask-front-cells : length (take (at + length m - at) map) ≡ length (take (at + length m - at) (drop at d))
+      mask-front-cells = ap (λ (n : ℕ). length (take n map)) (sym part_length) ∙ marks.0 ∙ sym mask-beside
+
+      pub mask-turn : (y : List ℕ) → y ≡ wiped (headed kind) (take (at + length m - at) map) 0 (take (at + length m - at) (drop at d)) 0
+          → Masking x token d₀ (take at d ++ (y ++ drop (at + length m - at) (drop at d))) (at + length m)
+      mask-turn y y-is =
+          mask-on y
+          (y-is
+          ∙ ap (λ (n : ℕ). wiped (headed kind) (take n map) 0 (take (at + length m - at) (drop at d)) 0) (sym part_length)
+          ∙ marks.1 (take (at + length m - at) (drop at d)) mask-beside)
+
 -- where the mask is the token, its rest is not written yet
 pub unread-mask : (x s d : List ℕ) (at : ℕ) → Masking x s s d at → Unread s d at
 unread-mask x s d at on = record { size = mask-length x s s d at on; rest = mask-rest x s s d at on }
 
 pub ruleset masks =
-    (mask_start, blank-start, unread-token, unread-mask, mask-length, mask_end, mask_fits, mask-within, mask-small, mask-less, mask-room, mask-beside, mask-on)
+    (mask_start, blank-start, unread-token, unread-mask, mask-length, mask_end, mask_fits, mask-within, mask-small, mask-less, mask-room, mask-cells, mask-front-cells, mask-turn)
 
 -- ---- `cover`
 module _ (s d : List ℕ) where

@@ -7,14 +7,14 @@ use mathlib.Core.List.{List, [], ◌∷◌, ◌++◌, append-nil}
 use native.Mathlib.Numerals.{add-one}
 use native.Mathlib.Omega.{arith}
 use lib.ListN.{length, take, drop, get_or, set, drop_of_length-le}
-use lib.Seq.{length-take-le, take_all, drop-cons, take-suc-set, drop-set-lt, append_snoc}
+use lib.Seq.{length-take-le, take_all, take_at, drop-cons, take-suc-set, drop-set-lt, append_snoc}
 use lib.Dec.{leb, ltb}
-use borrow.Author.Tests.{le-leb, lt-leb, lt-ltb, le-ltb}
+use borrow.Author.Tests.{le-leb, lt-ltb, le-ltb}
 use Rattle.octets.specs.Octets.{le}
 use Rattle.vector.specs.declared.Vector.{Vector}
 use Rattle.message.specs.Layout.{head_of, shape_of, header_of, pads_of, content_of, content_in, vectors_of}
 use Rattle.message.proofs.Shapes.{shape-nego, shape-exchange, shape-verify, shape-alert, header-least}
-use Rattle.std.proofs.Common.{Result, Ok, Err}
+use Rattle.std.proofs.Common.{Ok, Err}
 use Rattle.token.specs.declared.Refused.{Refused}
 use Rattle.token.specs.Token.{Reading, Outcome, token_of, outcome_of, told}
 use Rattle.token.specs.Walk.{Accepts}
@@ -23,7 +23,7 @@ use Rattle.coverage.specs.Coverage.{header_in, vectors_in, lies_in_pad, lies_in_
 use Rattle.coverage.specs.Sweep.{Clear, marked_all}
 use Rattle.coverage.proofs.Sweeps.{end_before, end_none, vectors-end, far-next}
 use Rattle.blanking.specs.Blanked.{kept, blanked_by, blanked, Blanking, blanking_of}
-use Rattle.blanking.specs.Wiped.{headed, wiped, Room}
+use Rattle.blanking.specs.Wiped.{headed, wiped, Marks, Room}
 use Rattle.blanking.proofs.Sames.{or_r}
 
 -- ---- `in_pad`
@@ -118,7 +118,7 @@ module _ (f : ℕ → Bool) (map x m : List ℕ) (far at : ℕ) (inv : x ≡ tak
 
 pub ruleset wipes = (wipe-done, wipe-more)
 
--- ---- `blank_kind` and `cover_kind`: what a sweep with the farthest end keeps is what is covered
+-- ---- `mark_message`: what a sweep with the farthest end keeps is what is covered
 module _ (f : ℕ → Bool) (map : List ℕ) (clear : Clear map) (vs : List Vector) where
   wiped-kept : (s : List ℕ) (at : ℕ) → at + length s ≤ length map
       → wiped f (marked_all map vs) (end_before (length map) vs at) s at ≡ kept (λ p. f p || lies_in_one vs p) s at
@@ -135,16 +135,23 @@ module _ (m : List ℕ) (kind : ℕ) (kind-is : kind ≡ (head_of m).kind) (h : 
   unfolding vectors_in
   all = let fits : header_in m ≤ length m = rw kind-is at h in sym (rw (le-leb _ _ fits) refl)
 
-  pub cover-kept : (d : List ℕ) → length d ≡ length m → (x : List ℕ) → x ≡ wiped (headed kind) map1 0 d 0 → x ≡ kept (is_covered m) d 0
-  cover-kept d d-is x x-is =
+  cover-kept : (d : List ℕ) → length d ≡ length m → wiped (headed kind) map1 0 d 0 ≡ kept (is_covered m) d 0
+  cover-kept d d-is =
       let vs = vectors_of (content_of (shape_of kind) m) in
-      x-is ∙ ap (λ (l : List ℕ). wiped (headed kind) l 0 d 0) e
+      ap (λ (l : List ℕ). wiped (headed kind) l 0 d 0) e
       ∙ ap (λ (n : ℕ). wiped (headed kind) (marked_all map0 vs) n d 0) (sym (end_none (length map0) vs))
       ∙ wiped-kept (headed kind) map0 clear vs d 0 (omega arith)
       ∙ ap (λ (k : ℕ). kept (λ p. headed k p || lies_in_one (vectors_of (content_of (shape_of k) m)) p) d 0) kind-is
       ∙ ap (λ (ws : List Vector). kept (λ p. headed (head_of m).kind p || lies_in_one ws p) d 0) all
 
--- ---- `blank_message`
+  module _ (sized1 : length map1 ≡ length m) (rest : List ℕ) where
+    front : take (length m) (map1 ++ rest) ≡ map1
+    front = take_at map1 rest (length m) sized1
+
+    pub marks-all : Marks kind m (take (length m) (map1 ++ rest))
+    marks-all = rw front (sized1, cover-kept)
+
+-- ---- what a message has room for
 module _ (map m : List ℕ) (room : Room (length map) m) where
   pub room-kind : 8 + 4 ≤ length m
   room-kind = omega (arith, room.header, header-least (shape_of (head_of m).kind))

@@ -1,13 +1,13 @@
 // A token with each octet that nothing points at zero.
 #![tactic(auto)]
 
-ghost use Rattle.std.specs.Prelude.{◌≡◌, cond, ◌&&◌, ◌||◌, ◌≤◌, ◌<◌, ◌^◌, leb, ltb, length};
-ghost use Rattle.message.specs.Layout.{head_of, shape_of, header_of, pads_of};
+ghost use Rattle.std.specs.Prelude.{◌≡◌, cond, ◌&&◌, ◌||◌, ◌≤◌, ◌<◌, ◌^◌, leb, ltb, length, take};
+ghost use Rattle.message.specs.Layout.{shape_of, header_of, pads_of};
 ghost use Rattle.token.specs.Token.{told};
 ghost use Rattle.token.specs.Walk.{Accepts};
 ghost use Rattle.coverage.specs.Coverage.{lies_in_pad};
 ghost use Rattle.blanking.specs.Blanked.{blanked, Blanking, blanking_of};
-ghost use Rattle.blanking.specs.Wiped.{headed, wiped, kept_message, Room};
+ghost use Rattle.blanking.specs.Wiped.{headed, wiped, Marks, Room};
 
 use coverage::{clear, mark_kind};
 use message::walk::first;
@@ -70,28 +70,20 @@ fn wipe(m: &mut [u8], map: &[u32], kind: Kind)
     }
 }
 
-// Blanks a message of a kind, in a map with a cell for each of its octets.
-fn blank_kind(map: &mut [u32], kind: Kind, m: &mut [u8])
-    requires { (length map.old < 2 ^ 32) × (length map.old ≡ length m.old) × (header_of (shape_of kind.0) ≤ length m.old)
-        × (kind.0 ≡ (head_of m.old).kind) }
-    ensures { m.new ≡ kept_message m.old }
+// Marks a message's vectors at the front of a map, a cell for each of its octets. The answer is its kind.
+fn mark_message(map: &mut [u32], m: &[u8]) -> Kind
+    requires { Room (length map.old) m.now }
+    ensures { Marks result.0 m.now (take (length m.now) map.new) }
 {
-    clear(map);
-    mark_kind(map, kind, &m[..]);
-    wipe(m, &map[..], kind);
+    let kind = Kind(le_u32(m, field::TYPE));
+    let cells = &mut map[..m.len()];
+    clear(cells);
+    mark_kind(cells, kind, m);
+    kind
 }
 
-// Blanks a message. The map is room to work in.
-fn blank_message(map: &mut [u32], m: &mut [u8])
-    requires { Room (length map.old) m.old }
-    ensures { m.new ≡ kept_message m.old }
-{
-    let len = m.len();
-    let kind = Kind(le_u32(&m[..], field::TYPE));
-    blank_kind(&mut map[..len], kind, m);
-}
-
-// Blanks the messages of an accepted token, one behind the other.
+// Blanks the messages of an accepted token, one behind the other. The map is room to work in. No mask beside the token, since the token is its own: it can't be
+// lent as both.
 fn blank_messages(map: &mut [u32], token: &mut [u8])
     requires { Accepts token.old × (65535 ≤ length map.old) }
     ensures { token.new ≡ blanked token.old }
@@ -99,7 +91,8 @@ fn blank_messages(map: &mut [u32], token: &mut [u8])
     let mut at: usize = 0;
     while at < token.len() {
         let end = at + first(&token[at..]).len();
-        blank_message(map, &mut token[at..end]);
+        let kind = mark_message(map, &token[at..end]);
+        wipe(&mut token[at..end], &map[..end - at], kind);
         at = end;
     }
 }

@@ -1,19 +1,15 @@
+use Rattle.std.proofs.Common.{rules, refl}
 use Rattle.blanking.proofs.Masks.{masks}
-use borrow.Author.Rules.{rules}
-use mathlib.Core.Path.{refl}
 use Rattle.blanking.proofs.blank_messages.Goals as goal
 
 pub loop-at-init : goal.loop-at-init
 loop-at-init c = (refl, refl, search masks)
 
-pub overflow_add-end : goal.overflow_add-end
-overflow_add-end c = search masks
+pub slice_bounds-mark_message-end : goal.slice_bounds-mark_message-end
+slice_bounds-mark_message-end c = search masks
 
-pub slice_bounds-blank_message-end : goal.slice_bounds-blank_message-end
-slice_bounds-blank_message-end c = search masks
-
-pub blank_message-requires : goal.blank_message-requires
-blank_message-requires c = search masks
+pub mark_message-kind-requires : goal.mark_message-kind-requires
+mark_message-kind-requires c = search masks
 
 pub loop-at-smaller : goal.loop-at-smaller
 loop-at-smaller c = search masks
