@@ -3,7 +3,7 @@
 
 ghost use Rattle.std.specs.Prelude.{◌≡◌, ◌≤◌, length};
 ghost use Rattle.refusal.specs.Refusals.{refusal_number};
-ghost use Rattle.message.specs.Layout.{shape_of, header_of};
+ghost use Rattle.message.specs.Layout.{shape_of, shape_as, header_of};
 ghost use Rattle.message.specs.Check.{said, refusal_of, header_verdict, message_verdict, body_verdict, Passed};
 
 use octets::{le_u32, le_u64};
@@ -16,6 +16,15 @@ pub mod field;
 pub mod nego;
 pub mod verify;
 pub mod walk;
+
+// The four layouts of a header: what functions that differ by kind are taken apart by.
+#[derive(Clone, Copy, PartialEq, Eq)]
+pub enum Shape {
+    Nego,
+    Exchange,
+    Verify,
+    Alert,
+}
 
 // A message's kind, by its type number.
 #[derive(Clone, Copy)]
@@ -120,20 +129,29 @@ impl Kind {
         }
     }
 
+    // The layout of the kind's header.
+    #[tactic(auto, unfolding(crate::specs::Layout::shape_of))]
+    pub fn shape(self) -> Shape
+        ensures { shape_as result ≡ shape_of self.0 }
+    {
+        match self.0 {
+            ..=Kind::ACCEPTOR_NEGO => Shape::Nego,
+            ..=Kind::AP_REQUEST => Shape::Exchange,
+            Kind::VERIFY => Shape::Verify,
+            _ => Shape::Alert,
+        }
+    }
+
     // The kind's header length.
     pub fn header(self) -> u32
         ensures { result ≡ header_of (shape_of self.0) }
     {
-        if self.0 <= Kind::ACCEPTOR_NEGO {
-            return Kind::NEGO_HEADER;
+        match self.shape() {
+            Shape::Nego => Kind::NEGO_HEADER,
+            Shape::Exchange => Kind::EXCHANGE_HEADER,
+            Shape::Verify => Kind::VERIFY_HEADER,
+            Shape::Alert => Kind::ALERT_HEADER,
         }
-        if self.0 <= Kind::AP_REQUEST {
-            return Kind::EXCHANGE_HEADER;
-        }
-        if self.0 == Kind::VERIFY {
-            return Kind::VERIFY_HEADER;
-        }
-        Kind::ALERT_HEADER
     }
 }
 
@@ -188,16 +206,12 @@ pub fn check(kind: Kind, m: &[u8]) -> Result<(), Refusal>
     requires { header_of (shape_of kind.0) ≤ length m.now }
     ensures { refusal_number result ≡ refusal_of (shape_of kind.0) m.now }
 {
-    if kind.0 <= Kind::ACCEPTOR_NEGO {
-        return nego::check(m);
+    match kind.shape() {
+        Shape::Nego => nego::check(m),
+        Shape::Exchange => exchange::check(m),
+        Shape::Verify => verify::check(m),
+        Shape::Alert => alert::check(m),
     }
-    if kind.0 <= Kind::AP_REQUEST {
-        return exchange::check(m);
-    }
-    if kind.0 == Kind::VERIFY {
-        return verify::check(m);
-    }
-    alert::check(m)
 }
 
 // Checks 10 to 13 of the message at the front of `rest`, whose header is h.
