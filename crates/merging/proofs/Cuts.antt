@@ -8,24 +8,27 @@ use native.Mathlib.Omega.{arith}
 use lib.ListN.{length, take, drop, length-drop}
 use borrow.Author.Tests.{le-leb, lt-leb}
 use Rattle.octets.proofs.Slices.{tail_all}
+use Rattle.std.specs.Prelude.{Option, Some, None, IsSomeAnd}
+use Rattle.std.proofs.Common.{Result, Ok, Err}
 use Rattle.vector.specs.declared.TokenPlace.{TokenPlace}
+use Rattle.refusal.specs.declared.Refusal.{Refusal}
+use Rattle.refusal.specs.Refusals.{number_of}
 use Rattle.message.specs.declared.Header.{Header}
-use Rattle.message.specs.declared.Read.{Read}
-use Rattle.message.specs.declared.Read.TheVariants as answer
 use Rattle.message.specs.Layout.{head_of, size, front}
 use Rattle.message.specs.Check.{first_failing, common_rows, said, fields_of, header_verdict}
 use Rattle.message.proofs.Tables.{verdict-read, verdict-refused}
+use Rattle.token.specs.declared.Refused.{Refused}
 use Rattle.token.specs.Token.{Chain, refused as cut_at, message}
 use Rattle.conversation.specs.Logs.{messages_in}
 use Rattle.sides.specs.Merging.{fits, cut_from, cut_of}
 use Rattle.sides.proofs.Cutting.{fits-sized, turn-fits, turn-stops}
 use Rattle.merging.specs.declared.Cut.{Cut}
-use Rattle.merging.specs.Merged.{number_of, number_in, place_in, cut_by, file_cut}
+use Rattle.merging.specs.Merged.{stop_in, Cutting, cutting, cut_by, file_cut}
 
 -- 1. what a header's reading says
 
-module _ (rest : List ℕ) (m : Read) (m-is : said m ≡ header_verdict rest) where
-  module _ (h : Header) (m-reads : m ≡ answer.Message h) where
+module _ (rest : List ℕ) (m : Result Header Refusal) (m-is : said m ≡ header_verdict rest) where
+  module _ (h : Header) (m-reads : m ≡ Ok h) where
     reads : (fits rest ≡ true) × (fields_of (head_of rest) ≡ h)
     unfolding header_verdict
     reads = verdict-read (common_rows (length rest) (head_of rest)) (fields_of (head_of rest)) h (sym m-is ∙ ap said m-reads)
@@ -51,14 +54,14 @@ module _ (rest : List ℕ) (m : Read) (m-is : said m ≡ header_verdict rest) wh
     pub header-less : length (take (length rest - h.length) (drop h.length rest)) < length rest
     header-less = omega (arith, header-left, header-long)
 
-  pub header_refused : (n : ℕ) → m ≡ answer.Refused n → (fits rest ≡ false) × (first_failing (common_rows (length rest) (head_of rest)) ≡ n)
+  pub header_refused : (f : Refusal) → m ≡ Err f → (fits rest ≡ false) × (first_failing (common_rows (length rest) (head_of rest)) ≡ number_of f)
   unfolding header_verdict
-  header_refused n e = verdict-refused (common_rows (length rest) (head_of rest)) (fields_of (head_of rest)) n (sym m-is ∙ ap said e)
+  header_refused f e = verdict-refused (common_rows (length rest) (head_of rest)) (fields_of (head_of rest)) (number_of f) (sym m-is ∙ ap said e)
 
 -- 2. the loop: what is left of the file, its place, and how many messages stand before
 
-abbrev more : ℕ → Cut → Cut
-more n c = record { number = c.number; place = c.place; messages = n + c.messages }
+abbrev more : ℕ → Cutting → Cutting
+more n c = record { messages = n + c.messages; stop = c.stop }
 
 pub record CutOn (file rest : List ℕ) (place messages : ℕ) : Type 0 where
   pub short : length file ≤ 65535
@@ -73,24 +76,23 @@ cut-begins file h =
       few = omega arith;
       at = omega arith;
       come = (let z : length (messages_in (cut_of file)) ≡ 0 + length (messages_in (cut_of file)) = omega arith in
-          ap (λ (k : ℕ). record { number = number_in (cut_of file); place = record { 0 = place_in (cut_of file) }; messages = k }) z);
+          ap (λ (k : ℕ). record { messages = k; stop = stop_in (cut_of file) }) z);
     }
 
 module _ (file rest : List ℕ) (place messages : ℕ) (on : CutOn file rest place messages) where
   pub cut-counts : messages + 1 < 4294967296
   cut-counts = omega (arith, on.short, on.few)
 
-  pub cut-ends : length rest ≤ 0 → record { number = 0; place = record { 0 = 0 }; messages = messages } ≡ cut_by (cut_of file)
+  pub cut-ends : length rest ≤ 0 → record { messages = messages; stop = None } ≡ cut_by (cut_of file)
   cut-ends e = go rest e ∙ sym on.come where
-    go : (l : List ℕ) → length l ≤ 0
-        → record { number = 0; place = record { 0 = 0 }; messages = messages } ≡ more messages (cut_by (cut_from l 0 place))
+    go : (l : List ℕ) → length l ≤ 0 → record { messages = messages; stop = None } ≡ more messages (cut_by (cut_from l 0 place))
     go [] w =
         unfold cut_from messages_in in
-        (let z : messages ≡ messages + 0 = omega arith in ap (λ (k : ℕ). record { number = 0; place = record { 0 = 0 }; messages = k }) z)
+        (let z : messages ≡ messages + 0 = omega arith in ap (λ (k : ℕ). record { messages = k; stop = None }) z)
     go (x ∷ l) w = absurd (omega arith)
 
-  module _ (some : 0 < length rest) (m : Read) (m-is : said m ≡ header_verdict rest) where
-    module _ (h : Header) (m-reads : m ≡ answer.Message h) where
+  module _ (m : Result Header Refusal) (m-is : said m ≡ header_verdict rest) where
+    module _ (h : Header) (m-reads : m ≡ Ok h) where
       pub cut-place : place + h.length < 18446744073709551616
       cut-place = omega (arith, on.at, on.short, header-long rest m m-is h m-reads)
 
@@ -115,33 +117,39 @@ module _ (file rest : List ℕ) (place messages : ℕ) (on : CutOn file rest pla
             counted o ch =
                 unfold messages_in in
                 (let z : messages + suc (length (messages_in ch)) ≡ messages + 1 + length (messages_in ch) = omega arith in
-                ap (λ (i : ℕ). record { number = number_in ch; place = record { 0 = place_in ch }; messages = i }) z)
+                ap (λ (i : ℕ). record { messages = i; stop = stop_in ch }) z)
 
 -- a refusal, at its place
-module _ (file rest : List ℕ) (place : TokenPlace) (messages : ℕ) (on : CutOn file rest place.0 messages) (some : 0 < length rest) (m : Read)
+module _ (file rest : List ℕ) (place : TokenPlace) (messages : ℕ) (on : CutOn file rest place.0 messages) (some : 0 < length rest) (m : Result Header Refusal)
     (m-is : said m ≡ header_verdict rest) where
-  pub cut-stops : (n : ℕ) → m ≡ answer.Refused n → (k : ℕ) → k ≡ number_of (said m)
-      → record { number = k; place = place; messages = messages } ≡ cut_by (cut_of file)
-  cut-stops n e k k-is =
-      let f = header_refused rest m m-is n e in
-      let is : k ≡ first_failing (common_rows (length rest) (head_of rest)) = k-is ∙ ap (λ (z : Read). number_of (said z)) e ∙ sym f.1 in
-      sym (on.come ∙ ap (λ (ch : Chain). more messages (cut_by ch)) (turn-stops place.0 rest some f.0)
+  cut-stops : (f : Refusal) → m ≡ Err f
+      → record { messages = messages; stop = Some (record { number = number_of f; place = place.0 }) } ≡ cut_by (cut_of file)
+  cut-stops f e =
+      let z = header_refused rest m m-is f e in
+      sym (on.come ∙ ap (λ (ch : Chain). more messages (cut_by ch)) (turn-stops place.0 rest some z.0)
       ∙ stopped (first_failing (common_rows (length rest) (head_of rest)))
-      ∙ ap (λ (j : ℕ). record { number = j; place = place; messages = messages }) (sym is)) where
-        stopped : (j : ℕ) → more messages (cut_by (cut_at j place.0)) ≡ record { number = j; place = place; messages = messages }
+      ∙ ap (λ (j : ℕ). record { messages = messages; stop = Some (record { number = j; place = place.0 }) }) z.1) where
+        stopped : (j : ℕ) → more messages (cut_by (cut_at j place.0)) ≡ record { messages = messages; stop = Some (record { number = j; place = place.0 }) }
         stopped j =
             unfold messages_in in
-            (let z : messages + 0 ≡ messages = omega arith in ap (λ (i : ℕ). record { number = j; place = place; messages = i }) z)
+            (let z : messages + 0 ≡ messages = omega arith in
+            ap (λ (i : ℕ). record { messages = i; stop = Some (record { number = j; place = place.0 }) }) z)
 
-pub ruleset cuts = (header-within, header-less, cut-begins, cut-counts, cut-ends, cut-stops, cut-place, cut_on)
+  -- as the code hands it on, by a closure that adds the place
+  pub cut-stopped : (f : Refusal) → m ≡ Err f → (x : Option Refused) → {P : Refused → Type 0} → IsSomeAnd x P
+      → ((r : Refused) → P r → r ≡ record { refusal = f; place = place }) → cutting (record { messages = messages; refused = x }) ≡ cut_by (cut_of file)
+  cut-stopped f e None h g = absurd h
+  cut-stopped f e (Some r) h g = ap (λ (y : Refused). cutting (record { messages = messages; refused = Some y })) (g r h) ∙ cut-stops f e
+
+pub ruleset cuts = (header-within, header-less, cut-begins, cut-counts, cut-ends, cut-place, cut_on)
 
 -- 3. the file
 
-pub file-long : (file : List ℕ) → 65535 < length file → record { number = 1; place = record { 0 = 0 }; messages = 0 } ≡ file_cut file
+pub file-long : (file : List ℕ) → 65535 < length file → record { messages = 0; stop = Some (record { number = 1; place = 0 }) } ≡ file_cut file
 unfolding file_cut
 file-long file h = rw (lt-leb _ _ h)
 
-pub file-short : (file : List ℕ) → length file ≤ 65535 → (r : Cut) → r ≡ cut_by (cut_of file) → r ≡ file_cut file
+pub file-short : (file : List ℕ) → length file ≤ 65535 → (r : Cut) → cutting r ≡ cut_by (cut_of file) → cutting r ≡ file_cut file
 unfolding file_cut
 file-short file h r e = rw (le-leb _ _ h) e
 

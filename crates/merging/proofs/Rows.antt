@@ -6,6 +6,8 @@ use mathlib.Core.Bool.{Bool, true, false, cond}
 use mathlib.Core.Logic.{◌⊎◌, inl, inr}
 use mathlib.Core.List.{List, [], ◌∷◌, ◌++◌}
 use native.Mathlib.Omega.{arith}
+use Rattle.std.specs.Prelude.{Some, None}
+use Rattle.std.proofs.lemmas.Option.{none-some, same_Some}
 use lib.ListN.{length, take, drop, length-append, length-drop, length-take}
 use lib.Seq.{drop-drop, take-add, length-take-le}
 use lib.Dec.{eqb, ltb}
@@ -175,19 +177,46 @@ module _ (q : ℕ) (i a : List (List ℕ)) where
 pub data Says (q : ℕ) (i a : List ℕ) (n : Next) : Type 0 where
   initiators : 0 < length (run_from q (messages_of i)) → n.acceptors ≡ false → n.initiator ≡ length (join (run_from q (messages_of i)))
       → n.acceptor ≡ 0 → n.messages ≡ length (run_from q (messages_of i)) → Says q i a n
-  acceptors : length (run_from q (messages_of i)) ≤ 0 → n.acceptors ≡ true → n.initiator ≡ 0 → n.acceptor ≡ length (join (run_from q (messages_of a)))
-      → n.messages ≡ length (run_from q (messages_of a)) → Says q i a n
+  acceptors : length (run_from q (messages_of i)) ≤ 0 → 0 < length (run_from q (messages_of a)) → n.acceptors ≡ true → n.initiator ≡ 0
+      → n.acceptor ≡ length (join (run_from q (messages_of a))) → n.messages ≡ length (run_from q (messages_of a)) → Says q i a n
 
-pub says : (q : ℕ) (i a : List ℕ) (n : Next) → n ≡ next_in q i a → Says q i a n
-unfolding next_in ran_in
-says q i a n n-is = elim (which (ltb 0 (length (run_from q (messages_of i))))) [
-  | inl e ↦ let z : n ≡ next_by false (ran_in q i) = rw e at n-is in
-      initiators (ltb-true _ _ e) (ap (λ (x : Next). x.acceptors) z) (ap (λ (x : Next). x.initiator) z) (ap (λ (x : Next). x.acceptor) z)
-      (ap (λ (x : Next). x.messages) z)
-  | inr e ↦ let z : n ≡ next_by true (ran_in q a) = rw e at n-is in
-      acceptors (ltb-false _ _ e) (ap (λ (x : Next). x.acceptors) z) (ap (λ (x : Next). x.initiator) z) (ap (λ (x : Next). x.acceptor) z)
-      (ap (λ (x : Next). x.messages) z)
-]
+module _ (q : ℕ) (i a : List ℕ) where
+  by-initiator : ltb 0 (length (run_from q (messages_of i))) ≡ true → next_in q i a ≡ Some (next_by false (ran_in q i))
+  unfolding next_in ran_in
+  by-initiator e = rw e
+
+  by-acceptor : ltb 0 (length (run_from q (messages_of i))) ≡ false → ltb 0 (length (run_from q (messages_of a))) ≡ true
+      → next_in q i a ≡ Some (next_by true (ran_in q a))
+  unfolding next_in ran_in
+  by-acceptor e f = rw (e, f)
+
+  by-none : ltb 0 (length (run_from q (messages_of i))) ≡ false → ltb 0 (length (run_from q (messages_of a))) ≡ false → next_in q i a ≡ None
+  unfolding next_in ran_in
+  by-none e f = rw (e, f)
+
+  pub says : (n : Next) → Some n ≡ next_in q i a → Says q i a n
+  unfolding ran_in
+  says n n-is = go (which (ltb 0 (length (run_from q (messages_of i))))) (which (ltb 0 (length (run_from q (messages_of a))))) where
+    go : (ltb 0 (length (run_from q (messages_of i))) ≡ true) ⊎ (ltb 0 (length (run_from q (messages_of i))) ≡ false)
+        → (ltb 0 (length (run_from q (messages_of a))) ≡ true) ⊎ (ltb 0 (length (run_from q (messages_of a))) ≡ false) → Says q i a n
+    go (inl e) f =
+        let z : n ≡ next_by false (ran_in q i) = same_Some n (next_by false (ran_in q i)) (n-is ∙ by-initiator e) in
+        initiators (ltb-true _ _ e) (ap (λ (x : Next). x.acceptors) z) (ap (λ (x : Next). x.initiator) z) (ap (λ (x : Next). x.acceptor) z)
+        (ap (λ (x : Next). x.messages) z)
+    go (inr e) (inl f) =
+        let z : n ≡ next_by true (ran_in q a) = same_Some n (next_by true (ran_in q a)) (n-is ∙ by-acceptor e f) in
+        acceptors (ltb-false _ _ e) (ltb-true _ _ f) (ap (λ (x : Next). x.acceptors) z) (ap (λ (x : Next). x.initiator) z) (ap (λ (x : Next). x.acceptor) z)
+        (ap (λ (x : Next). x.messages) z)
+    go (inr e) (inr f) = absurd (none-some n (sym (n-is ∙ by-none e f)))
+
+  pub says-none : None ≡ next_in q i a → (length (run_from q (messages_of i)) ≤ 0) × (length (run_from q (messages_of a)) ≤ 0)
+  says-none n-is = go (which (ltb 0 (length (run_from q (messages_of i))))) (which (ltb 0 (length (run_from q (messages_of a))))) where
+    go : (ltb 0 (length (run_from q (messages_of i))) ≡ true) ⊎ (ltb 0 (length (run_from q (messages_of i))) ≡ false)
+        → (ltb 0 (length (run_from q (messages_of a))) ≡ true) ⊎ (ltb 0 (length (run_from q (messages_of a))) ≡ false)
+        → (length (run_from q (messages_of i)) ≤ 0) × (length (run_from q (messages_of a)) ≤ 0)
+    go (inl e) f = absurd (none-some (next_by false (ran_in q i)) (n-is ∙ by-initiator e))
+    go (inr e) (inl f) = absurd (none-some (next_by true (ran_in q a)) (n-is ∙ by-acceptor e f))
+    go (inr e) (inr f) = (ltb-false _ _ e, ltb-false _ _ f)
 
 -- 5. the loop: what is left of both files, and the number of the next message
 
@@ -204,7 +233,18 @@ module _ (i a i-left a-left : List ℕ) (number : ℕ) (on : RowOn i a i-left a-
   pub row-short : (length i-left ≤ 65535) × (length a-left ≤ 65535)
   row-short = (on.short_i, on.short_a)
 
-  module _ (n : Next) (n-is : n ≡ next_in number i-left a-left) where
+  pub row_ends : None ≡ next_in number i-left a-left → (all : ℕ)
+      → eqb number all ≡ eqb (together (turns_of (messages_of i) (messages_of a))) all
+  row_ends e all = ap (λ (k : ℕ). eqb k all) (over (turns-none number (messages_of i-left) (messages_of a-left) none.0 none.1)) where
+    none : (length (run_from number (messages_of i-left)) ≤ 0) × (length (run_from number (messages_of a-left)) ≤ 0)
+    none = says-none number i-left a-left e
+
+    over : turns_left number (messages_of i-left) (messages_of a-left) ≡ [] → number ≡ together (turns_of (messages_of i) (messages_of a))
+    over z =
+        unfold together in
+        (let y : together (turns_left number (messages_of i-left) (messages_of a-left)) ≡ 0 = ap together z in omega (arith, on.come))
+
+  module _ (n : Next) (n-is : Some n ≡ next_in number i-left a-left) where
     abbrev ri : List (List ℕ)
     ri = run_from number (messages_of i-left)
 
@@ -217,28 +257,17 @@ module _ (i a i-left a-left : List ℕ) (number : ℕ) (on : RowOn i a i-left a-
     said : Said
     said = says number i-left a-left n n-is
 
-    pub row_ends : n.messages ≡ 0 → (all : ℕ) → eqb number all ≡ eqb (together (turns_of (messages_of i) (messages_of a))) all
-    row_ends z all = ap (λ (k : ℕ). eqb k all) (go said) where
-      none : turns_left number (messages_of i-left) (messages_of a-left) ≡ [] → number ≡ together (turns_of (messages_of i) (messages_of a))
-      none e =
-          unfold together in
-          (let y : together (turns_left number (messages_of i-left) (messages_of a-left)) ≡ 0 = ap together e in omega (arith, on.come))
-
-      go : Said → number ≡ together (turns_of (messages_of i) (messages_of a))
-      go (initiators s r o p m) = absurd (omega arith)
-      go (acceptors s r o p m) = none (turns-none number (messages_of i-left) (messages_of a-left) s (omega arith))
-
     pub row-within-i : n.initiator ≤ length i-left
     row-within-i = go said where
       go : Said → n.initiator ≤ length i-left
       go (initiators s r o p m) = omega (arith, run-within number i-left)
-      go (acceptors s r o p m) = omega arith
+      go (acceptors s f r o p m) = omega arith
 
     pub row-within-a : n.acceptor ≤ length a-left
     row-within-a = go said where
       go : Said → n.acceptor ≤ length a-left
       go (initiators s r o p m) = omega arith
-      go (acceptors s r o p m) = omega (arith, run-within number a-left)
+      go (acceptors s f r o p m) = omega (arith, run-within number a-left)
 
     abbrev i-next : List ℕ
     i-next = take (length i-left - n.initiator) (drop n.initiator i-left)
@@ -257,56 +286,61 @@ module _ (i a i-left a-left : List ℕ) (number : ℕ) (on : RowOn i a i-left a-
     unfolding together
     counted x ms ts = omega arith
 
-    module _ (some : n.messages ≡ 0 → ⊥) where
-      -- each message has octets
-      octets-there : n.messages ≤ n.initiator + n.acceptor
-      octets-there = go said where
-        go : Said → n.messages ≤ n.initiator + n.acceptor
-        go (initiators s r o p m) = omega (arith, run-octets number i-left)
-        go (acceptors s r o p m) = omega (arith, run-octets number a-left)
+    some : 0 < n.messages
+    some = go said where
+      go : Said → 0 < n.messages
+      go (initiators s r o p m) = omega arith
+      go (acceptors s f r o p m) = omega arith
 
-      pub row_number : number + n.messages < 4294967296
-      row_number = omega (arith, on.few, octets-there, row-within-i, row-within-a)
+    -- each message has octets
+    octets-there : n.messages ≤ n.initiator + n.acceptor
+    octets-there = go said where
+      go : Said → n.messages ≤ n.initiator + n.acceptor
+      go (initiators s r o p m) = omega (arith, run-octets number i-left)
+      go (acceptors s f r o p m) = omega (arith, run-octets number a-left)
 
-      pub row-less : length i-next + length a-next < length i-left + length a-left
-      row-less = omega (arith, i-length, a-length, octets-there, row-within-i, row-within-a)
+    pub row_number : number + n.messages < 4294967296
+    row_number = omega (arith, on.few, octets-there, row-within-i, row-within-a)
 
-      pub row_on : RowOn i a i-next a-next (number + n.messages)
-      row_on = record {
-        short_i = omega (arith, i-length, on.short_i);
-        short_a = omega (arith, a-length, on.short_a);
-        few = omega (arith, i-length, a-length, on.few, octets-there, row-within-i, row-within-a);
-        come = on.come ∙ go said;
-      } where
-        all-i : n.initiator ≡ 0 → messages_of i-next ≡ messages_of i-left
-        all-i z = ap messages_of (tail_all i-left n.initiator) ∙ ap (λ (k : ℕ). messages_of (drop k i-left)) z
+    pub row-less : length i-next + length a-next < length i-left + length a-left
+    row-less = omega (arith, some, i-length, a-length, octets-there, row-within-i, row-within-a)
 
-        all-a : n.acceptor ≡ 0 → messages_of a-next ≡ messages_of a-left
-        all-a z = ap messages_of (tail_all a-left n.acceptor) ∙ ap (λ (k : ℕ). messages_of (drop k a-left)) z
+    pub row_on : RowOn i a i-next a-next (number + n.messages)
+    row_on = record {
+      short_i = omega (arith, i-length, on.short_i);
+      short_a = omega (arith, a-length, on.short_a);
+      few = omega (arith, i-length, a-length, on.few, octets-there, row-within-i, row-within-a);
+      come = on.come ∙ go said;
+    } where
+      all-i : n.initiator ≡ 0 → messages_of i-next ≡ messages_of i-left
+      all-i z = ap messages_of (tail_all i-left n.initiator) ∙ ap (λ (k : ℕ). messages_of (drop k i-left)) z
 
-        off-i : n.initiator ≡ length (join ri) → messages_of i-next ≡ drop (length ri) (messages_of i-left)
-        off-i z = ap messages_of (tail_all i-left n.initiator) ∙ ap (λ (k : ℕ). messages_of (drop k i-left)) z ∙ run-left number i-left
+      all-a : n.acceptor ≡ 0 → messages_of a-next ≡ messages_of a-left
+      all-a z = ap messages_of (tail_all a-left n.acceptor) ∙ ap (λ (k : ℕ). messages_of (drop k a-left)) z
 
-        off-a : n.acceptor ≡ length (join ra) → messages_of a-next ≡ drop (length ra) (messages_of a-left)
-        off-a z = ap messages_of (tail_all a-left n.acceptor) ∙ ap (λ (k : ℕ). messages_of (drop k a-left)) z ∙ run-left number a-left
+      off-i : n.initiator ≡ length (join ri) → messages_of i-next ≡ drop (length ri) (messages_of i-left)
+      off-i z = ap messages_of (tail_all i-left n.initiator) ∙ ap (λ (k : ℕ). messages_of (drop k i-left)) z ∙ run-left number i-left
 
-        there : (k : ℕ) (x y : List (List ℕ)) → n.messages ≡ k → messages_of i-next ≡ x → messages_of a-next ≡ y
-            → number + k + together (turns_left (number + k) x y)
-            ≡ number + n.messages + together (turns_left (number + n.messages) (messages_of i-next) (messages_of a-next))
-        there k x y e f g =
-            ap (λ (j : ℕ). number + j + together (turns_left (number + j) x y)) (sym e)
-            ∙ ap (λ (l : List (List ℕ)). number + n.messages + together (turns_left (number + n.messages) l y)) (sym f)
-            ∙ ap (λ (l : List (List ℕ)). number + n.messages + together (turns_left (number + n.messages) (messages_of i-next) l)) (sym g)
+      off-a : n.acceptor ≡ length (join ra) → messages_of a-next ≡ drop (length ra) (messages_of a-left)
+      off-a z = ap messages_of (tail_all a-left n.acceptor) ∙ ap (λ (k : ℕ). messages_of (drop k a-left)) z ∙ run-left number a-left
 
-        go : Said → number + together (turns_left number (messages_of i-left) (messages_of a-left))
-            ≡ number + n.messages + together (turns_left (number + n.messages) (messages_of i-next) (messages_of a-next))
-        go (initiators s r o p m) =
-            ap (λ (ts : List Turn). number + together ts) (turns-initiator number (messages_of i-left) (messages_of a-left) s)
-            ∙ counted false ri (turns_left (number + length ri) (drop (length ri) (messages_of i-left)) (messages_of a-left))
-            ∙ there (length ri) (drop (length ri) (messages_of i-left)) (messages_of a-left) m (off-i o) (all-a p)
-        go (acceptors s r o p m) =
-            ap (λ (ts : List Turn). number + together ts) (turns-acceptor number (messages_of i-left) (messages_of a-left) s (omega arith))
-            ∙ counted true ra (turns_left (number + length ra) (messages_of i-left) (drop (length ra) (messages_of a-left)))
-            ∙ there (length ra) (messages_of i-left) (drop (length ra) (messages_of a-left)) m (all-i o) (off-a p)
+      there : (k : ℕ) (x y : List (List ℕ)) → n.messages ≡ k → messages_of i-next ≡ x → messages_of a-next ≡ y
+          → number + k + together (turns_left (number + k) x y)
+          ≡ number + n.messages + together (turns_left (number + n.messages) (messages_of i-next) (messages_of a-next))
+      there k x y e f g =
+          ap (λ (j : ℕ). number + j + together (turns_left (number + j) x y)) (sym e)
+          ∙ ap (λ (l : List (List ℕ)). number + n.messages + together (turns_left (number + n.messages) l y)) (sym f)
+          ∙ ap (λ (l : List (List ℕ)). number + n.messages + together (turns_left (number + n.messages) (messages_of i-next) l)) (sym g)
+
+      go : Said → number + together (turns_left number (messages_of i-left) (messages_of a-left))
+          ≡ number + n.messages + together (turns_left (number + n.messages) (messages_of i-next) (messages_of a-next))
+      go (initiators s r o p m) =
+          ap (λ (ts : List Turn). number + together ts) (turns-initiator number (messages_of i-left) (messages_of a-left) s)
+          ∙ counted false ri (turns_left (number + length ri) (drop (length ri) (messages_of i-left)) (messages_of a-left))
+          ∙ there (length ri) (drop (length ri) (messages_of i-left)) (messages_of a-left) m (off-i o) (all-a p)
+      go (acceptors s f r o p m) =
+          ap (λ (ts : List Turn). number + together ts) (turns-acceptor number (messages_of i-left) (messages_of a-left) s f)
+          ∙ counted true ra (turns_left (number + length ra) (messages_of i-left) (drop (length ra) (messages_of a-left)))
+          ∙ there (length ra) (messages_of i-left) (drop (length ra) (messages_of a-left)) m (all-i o) (off-a p)
 
 pub ruleset rows = (row-begins, row-short, row_ends, row_number, row-within-i, row-within-a, row-less, row_on)

@@ -12,9 +12,10 @@ use lib.Dec.{eqb, ltb}
 use borrow.Author.Tests.{eq-eqb, ne_eqb, lt-ltb, le-ltb}
 use Rattle.octets.proofs.Bools.{which}
 use Rattle.octets.proofs.Slices.{tail_all}
+use Rattle.std.specs.Prelude.{Some, None}
+use Rattle.std.proofs.Common.{Result, Ok, Err}
+use Rattle.refusal.specs.declared.Refusal.{Refusal}
 use Rattle.message.specs.declared.Header.{Header}
-use Rattle.message.specs.declared.Read.{Read}
-use Rattle.message.specs.declared.Read.TheVariants as answer
 use Rattle.message.specs.Layout.{Head, head_of, size, front}
 use Rattle.message.specs.Check.{said, header_verdict}
 use Rattle.token.specs.Split.{join}
@@ -126,11 +127,11 @@ module _ (rest : List ℕ) (first : ℕ) (left : List ℕ) (octets messages : �
     go [] w = unfold run_from cut_from messages_in in refl
     go (x ∷ l) w = absurd (omega arith)
 
-  module _ (m : Read) (m-is : said m ≡ header_verdict left) where
-    pub run-stops : (n : ℕ) → m ≡ answer.Refused n → record { octets = octets; messages = messages } ≡ ran_in first rest
-    run-stops n e = run-empty (run_none (first + messages) left (header_refused left m m-is n e).0)
+  module _ (m : Result Header Refusal) (m-is : said m ≡ header_verdict left) where
+    pub run-stops : (f : Refusal) → m ≡ Err f → record { octets = octets; messages = messages } ≡ ran_in first rest
+    run-stops f e = run-empty (run_none (first + messages) left (header_refused left m m-is f e).0)
 
-    module _ (h : Header) (m-reads : m ≡ answer.Message h) where
+    module _ (h : Header) (m-reads : m ≡ Ok h) where
       pub run-differs : (h.sequence ≡ first + messages → ⊥) → record { octets = octets; messages = messages } ≡ ran_in first rest
       run-differs n =
           run-empty (run-other (first + messages) left (header-fits left m m-is h m-reads) (λ e. n (sym (header-number left m m-is h m-reads) ∙ e)))
@@ -171,17 +172,28 @@ pub ruleset runs = (run-begins, run-sum, run_ends, run-stops, run-differs, run-o
 -- 4. the next turn
 
 module _ (q : ℕ) (i a : List ℕ) (r : Run) (r-is : r ≡ ran_in q i) where
-  pub next-initiator : 0 < r.messages → record { acceptors = false; initiator = r.octets; acceptor = 0; messages = r.messages } ≡ next_in q i a
+  pub next-initiator : 0 < r.messages → Some (record { acceptors = false; initiator = r.octets; acceptor = 0; messages = r.messages }) ≡ next_in q i a
   unfolding next_in
   next-initiator h =
       let z : ltb 0 (ran_in q i).messages ≡ true = lt-ltb 0 (ran_in q i).messages (subst (λ (x : Run). 0 < x.messages) r-is h) in
-      rw z (ap (next_by false) r-is)
+      rw z (ap (λ (x : Run). Some (next_by false x)) r-is)
 
-  pub next-acceptor : r.messages ≤ 0 → (s : Run) → s ≡ ran_in q a
-      → record { acceptors = true; initiator = 0; acceptor = s.octets; messages = s.messages } ≡ next_in q i a
-  unfolding next_in
-  next-acceptor h s s-is =
-      let z : ltb 0 (ran_in q i).messages ≡ false = le-ltb 0 (ran_in q i).messages (subst (λ (x : Run). x.messages ≤ 0) r-is h) in
-      rw z (ap (next_by true) s-is)
+  module _ (h : r.messages ≤ 0) (s : Run) (s-is : s ≡ ran_in q a) where
+    no-initiator : ltb 0 (ran_in q i).messages ≡ false
+    no-initiator = le-ltb 0 (ran_in q i).messages (subst (λ (x : Run). x.messages ≤ 0) r-is h)
 
-pub ruleset nexts = (next-initiator, next-acceptor)
+    pub next-none : s.messages ≡ 0 → None ≡ next_in q i a
+    unfolding next_in
+    next-none e =
+        let n : s.messages ≤ 0 = omega arith in
+        let z : ltb 0 (ran_in q a).messages ≡ false = le-ltb 0 (ran_in q a).messages (subst (λ (x : Run). x.messages ≤ 0) s-is n) in
+        rw (no-initiator, z)
+
+    pub next-acceptor : (s.messages ≡ 0 → ⊥) → Some (record { acceptors = true; initiator = 0; acceptor = s.octets; messages = s.messages }) ≡ next_in q i a
+    unfolding next_in
+    next-acceptor e =
+        let n : 0 < s.messages = omega arith in
+        let z : ltb 0 (ran_in q a).messages ≡ true = lt-ltb 0 (ran_in q a).messages (subst (λ (x : Run). 0 < x.messages) s-is n) in
+        rw (no-initiator, z) (ap (λ (x : Run). Some (next_by true x)) s-is)
+
+pub ruleset nexts = (next-initiator, next-none, next-acceptor)

@@ -1,15 +1,17 @@
 -- What the functions of src/ answer, by the definitions of files cut up and merged.
 --
 -- Glossary
---   number_in, place_in  the number and the place of the refusal that a cut ends with, 0 where it ends with none
---   number_of            the number of a message's refusal, 0 where it is read
---   cut_by ch            a cut, as src/ answers it; file_cut s: that of a file, 1 before 2 to 6
+--   Stop                 the number and the place of the refusal that a file's cutting ends with
+--   stop_in ch           the one that a cut ends with; stop_of: that of an answer of src/
+--   Cutting              a file cut up: how many messages stand at its front, and what refuses the rest; cutting: that of an answer of src/
+--   cut_by ch            that of a cut; file_cut s: of a file, 1 before 2 to 6
 --   ran_in q s           the longest run at the front of the octets s, numbered from q on: how many octets and messages it has
---   next_by              a run of a side, as a turn
---   next_in q i a        the next turn of what is left of two files, numbered from q on: no messages where there is none
+--   next_by              a run of a side, as a turn; next_if: where it has messages
+--   next_in q i a        the next turn of what is left of two files, numbered from q on, or none
 --   turns_left q i a     the turns of what is left of two files, numbered from q on
-use Rattle.std.specs.Prelude.{ℕ, ◌+◌, Bool, true, false, cond, List, length, leb, ltb}
-use Rattle.message.specs.Check.{Verdict, read, refused}
+use Rattle.std.specs.Prelude.{ℕ, ◌+◌, Bool, true, false, cond, List, length, leb, ltb, Option, Some, None}
+use Rattle.refusal.specs.Refusals.{number_of}
+use Rattle.token.specs.declared.Refused.{Refused}
 use Rattle.token.specs.Token.{Chain, end, refused as cut_at, message}
 use Rattle.token.specs.Split.{join}
 use Rattle.conversation.specs.Logs.{messages_in}
@@ -18,25 +20,31 @@ use Rattle.merging.specs.declared.Cut.{Cut}
 use Rattle.merging.specs.declared.Run.{Run}
 use Rattle.merging.specs.declared.Next.{Next}
 
-abbrev pub number_of : Verdict → ℕ
-number_of (read h) = 0
-number_of (refused n) = n
+pub record Stop : Type 0 where
+  pub number : ℕ
+  pub place : ℕ
 
-abbrev pub number_in : Chain → ℕ
-number_in end = 0
-number_in (cut_at n p) = n
-number_in (message m ms) = number_in ms
+abbrev pub stop_in : Chain → Option Stop
+stop_in end = None
+stop_in (cut_at n p) = Some (record { number = n; place = p })
+stop_in (message m ms) = stop_in ms
 
-abbrev pub place_in : Chain → ℕ
-place_in end = 0
-place_in (cut_at n p) = p
-place_in (message m ms) = place_in ms
+abbrev pub stop_of : Option Refused → Option Stop
+stop_of None = None
+stop_of (Some r) = Some (record { number = number_of r.refusal; place = r.place.0 })
 
-abbrev pub cut_by : Chain → Cut
-cut_by ch = record { number = number_in ch; place = record { 0 = place_in ch }; messages = length (messages_in ch) }
+pub record Cutting : Type 0 where
+  pub messages : ℕ
+  pub stop : Option Stop
 
-unfoldable pub file_cut : List ℕ → Cut
-file_cut s = cond (leb (length s) 65535) (cut_by (cut_of s)) (record { number = 1; place = record { 0 = 0 }; messages = 0 })
+abbrev pub cutting : Cut → Cutting
+cutting c = record { messages = c.messages; stop = stop_of c.refused }
+
+abbrev pub cut_by : Chain → Cutting
+cut_by ch = record { messages = length (messages_in ch); stop = stop_in ch }
+
+unfoldable pub file_cut : List ℕ → Cutting
+file_cut s = cond (leb (length s) 65535) (cut_by (cut_of s)) (record { messages = 0; stop = Some (record { number = 1; place = 0 }) })
 
 unfoldable pub ran_in : ℕ → List ℕ → Run
 ran_in q s = record { octets = length (join (run_from q (messages_of s))); messages = length (run_from q (messages_of s)) }
@@ -45,8 +53,11 @@ abbrev pub next_by : Bool → Run → Next
 next_by false r = record { acceptors = false; initiator = r.octets; acceptor = 0; messages = r.messages }
 next_by true r = record { acceptors = true; initiator = 0; acceptor = r.octets; messages = r.messages }
 
-unfoldable pub next_in : ℕ → List ℕ → List ℕ → Next
-next_in q i a = cond (ltb 0 (ran_in q i).messages) (next_by false (ran_in q i)) (next_by true (ran_in q a))
+abbrev pub next_if : Bool → Run → Option Next
+next_if x r = cond (ltb 0 r.messages) (Some (next_by x r)) None
+
+unfoldable pub next_in : ℕ → List ℕ → List ℕ → Option Next
+next_in q i a = cond (ltb 0 (ran_in q i).messages) (Some (next_by false (ran_in q i))) (next_if true (ran_in q a))
 
 abbrev pub turns_left : ℕ → List (List ℕ) → List (List ℕ) → List Turn
 turns_left q i a = turns_from (length i + length a) q i a
