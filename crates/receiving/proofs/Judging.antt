@@ -14,8 +14,9 @@ use Rattle.octets.proofs.Bools.{which}
 use Rattle.octets.proofs.Slices.{tail_all}
 use Rattle.octets.specs.Octets.{octets}
 use Rattle.message.specs.declared.Header.{Header}
-use Rattle.message.specs.declared.Read.{Read}
-use Rattle.message.specs.declared.Read.TheVariants as answer
+use Rattle.std.proofs.Common.{Result, Ok, Err}
+use Rattle.refusal.specs.declared.Refusal.{Refusal}
+use Rattle.refusal.specs.Refusals.{number_of}
 use Rattle.message.specs.Layout.{head_of}
 use Rattle.message.specs.Check.{first_failing, said, fields_of}
 use Rattle.message.proofs.Tables.{verdict-refused}
@@ -36,11 +37,11 @@ use Rattle.receiving.specs.Receiving.{judged_as, cut_by, halted_by}
 
 -- a refusal, at its place
 module _ (place : ℕ) where
-  pub cut-here : (m : Read) (n : ℕ) → m ≡ answer.Refused n → halted n place ≡ cut_by (said m) place
-  cut-here m n e = sym (ap (λ (z : Read). cut_by (said z) place) e)
+  pub cut-here : (m : Result Header Refusal) (f : Refusal) → m ≡ Err f → (n : ℕ) → n ≡ number_of f → halted n place ≡ cut_by (said m) place
+  cut-here m f e n n-is = ap (λ (k : ℕ). halted k place) n-is ∙ sym (ap (λ (z : Result Header Refusal). cut_by (said z) place) e)
 
-  pub cut-not : (m : Read) (h : Header) → m ≡ answer.Message h → halted 0 place ≡ cut_by (said m) place
-  cut-not m h e = sym (ap (λ (z : Read). cut_by (said z) place) e)
+  pub cut-not : (m : Result Header Refusal) (h : Header) → m ≡ Ok h → halted 0 place ≡ cut_by (said m) place
+  cut-not m h e = sym (ap (λ (z : Result Header Refusal). cut_by (said z) place) e)
 
   pub halted-here : (a : Admission) (n : ℕ) → a ≡ admission.Stop n → halted n place ≡ halted_by (admitted a) place
   halted-here a n e = sym (ap (λ (z : Admission). halted_by (admitted z) place) e)
@@ -57,7 +58,7 @@ module _ (r : Record) (c : Scan) (c-is : c ≡ start_of r) where
   start-judged t ms = ap (λ (z : Scan). judge r t 0 z ms) (sym c-is)
 
 -- a message that is read, and what is left after it
-module _ (rest : List ℕ) (q : ℕ) (v : List ℕ) (m : Read) (m-is : said m ≡ next_verdict rest q v) (h : Header) (m-reads : m ≡ answer.Message h) where
+module _ (rest : List ℕ) (q : ℕ) (v : List ℕ) (m : Result Header Refusal) (m-is : said m ≡ next_verdict rest q v) (h : Header) (m-reads : m ≡ Ok h) where
   here : (64 ≤ h.length) × (h.length ≤ length rest)
   here = sized rest q v m m-is h m-reads
 
@@ -115,13 +116,13 @@ module _ (r : Record) (t rest : List ℕ) (at q : ℕ) (v : List ℕ) (n : ℕ) 
     go [] w = unfold chain_of judge in refl
     go (y ∷ l) w = absurd (omega arith)
 
-  pub judge-cut : 0 < length rest → (m : Read) → said m ≡ next_verdict rest q v → (k : ℕ) → m ≡ answer.Refused k → (y : Judgement)
+  pub judge-cut : 0 < length rest → (m : Result Header Refusal) → said m ≡ next_verdict rest q v → (f : Refusal) → m ≡ Err f → (y : Judgement)
       → judged_as y ≡ cut_by (said m) at → judged_as y ≡ x
-  judge-cut some m m-is k e y y-is =
-      y-is ∙ ap (λ (z : Read). cut_by (said z) at) e ∙ ap (λ (j : ℕ). halted j at) (sym failed.1)
+  judge-cut some m m-is f e y y-is =
+      y-is ∙ ap (λ (z : Result Header Refusal). cut_by (said z) at) e ∙ ap (λ (j : ℕ). halted j at) (sym failed.1)
       ∙ sym (inv ∙ cut-chain r t rest at q v n c some failed.0) where
-        failed : (passes rest q v ≡ false) × (first_failing (next_rows rest q v) ≡ k)
-        failed = unfold next_verdict in verdict-refused (next_rows rest q v) (fields_of (head_of rest)) k (sym m-is ∙ ap said e)
+        failed : (passes rest q v ≡ false) × (first_failing (next_rows rest q v) ≡ number_of f)
+        failed = unfold next_verdict in verdict-refused (next_rows rest q v) (fields_of (head_of rest)) (number_of f) (sym m-is ∙ ap said e)
 
 pub ruleset refusals = (cut-here, cut-not, halted-here, halted-not)
 

@@ -13,18 +13,19 @@ use admitting::Admission;
 use admitting::admit::admit_message;
 use conversation::turns::reading_token;
 use conversation::{Record, Scan, Turn};
-use message::{Read, field};
+use message::{Header, field};
+use refusal::Refusal;
 use schemes::list::id_at;
 use token::read_next;
 use vector::{MessageOffset, TokenPlace, in_token};
 
 // A message that 2 to 13 refuse, at its place.
-fn cut_at(reading: Read, place: TokenPlace) -> Judgement
+fn cut_at(reading: Result<Header, Refusal>, place: TokenPlace) -> Judgement
     ensures { judged_as result ≡ cut_by (said reading) place.0 }
 {
     match reading {
-        Read::Refused(n) => Judgement::Halted(n, place),
-        Read::Message(_) => Judgement::Halted(0, place),
+        Err(refusal) => Judgement::Halted(refusal.number(), place),
+        Ok(_) => Judgement::Halted(0, place),
     }
 }
 
@@ -63,7 +64,7 @@ fn judge_messages(r: Record, t: &[u8], conversation: &[u8]) -> Judgement
     let mut count: u32 = 0;
     while 0 < rest.len() {
         let reading = read_next(rest, sequence, conversation);
-        let Read::Message(h) = reading else {
+        let Ok(h) = reading else {
             return cut_at(reading, place);
         };
         let length = h.length as usize;

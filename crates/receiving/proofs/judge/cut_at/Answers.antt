@@ -1,8 +1,8 @@
 use Rattle.receiving.proofs.Judging.{refusals}
 use Rattle.receiving.proofs.judge.cut_at.Goals as goal
 
-pub returns-in-Refused : goal.returns-in-Refused
-returns-in-Refused c = search refusals
+pub returns-in-Err : goal.returns-in-Err
+returns-in-Err c = search refusals
 
-pub returns-in-Message : goal.returns-in-Message
-returns-in-Message c = search refusals
+pub returns-in-Ok : goal.returns-in-Ok
+returns-in-Ok c = search refusals

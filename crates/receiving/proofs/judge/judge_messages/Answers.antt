@@ -12,7 +12,7 @@ pub returns-in_default : goal.returns-in_default
 returns-in_default c = let some : 0 < length c.loop-rest.rest.now = omega arith in search judgings
 
 pub slice_bounds-admit_message-end : goal.slice_bounds-admit_message-end
-slice_bounds-admit_message-end c = whole_length _ _ _ _ c.read_next-reading.ensures _ c.in-Message.is
+slice_bounds-admit_message-end c = whole_length _ _ _ _ c.read_next-reading.ensures _ c.in-Ok.is
 
 pub admit_message-admission-requires : goal.admit_message-admission-requires
 admit_message-admission-requires c = (search rules, search rules, search judgings)
@@ -28,7 +28,7 @@ slice_bounds-rest-start c = search judgings
 
 pub in_token-place-requires : goal.in_token-place-requires
 in_token-place-requires c =
-    place-fits _ _ _ _ c.read_next-reading.ensures _ c.in-Message.is _ _ c.loop-rest.invariant.1 c.requires.1
+    place-fits _ _ _ _ c.read_next-reading.ensures _ c.in-Ok.is _ _ c.loop-rest.invariant.1 c.requires.1
 
 pub overflow_add-sequence : goal.overflow_add-sequence
 overflow_add-sequence c =
