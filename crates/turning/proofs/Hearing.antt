@@ -53,20 +53,14 @@ judged-16 r t = judged-numbers Not16 (λ w. omega arith) (λ w. omega arith) r t
 -- 2. the answer, by the number and the place
 
 module _ (r : Record) (a : Answer) where
-  pub owed-room : a.refusal ≡ 16 → (b : Answer) → b ≡ answered 28 0 r → b ≡ owed_before r a
+  pub owed-28 : (n : ℕ) → n ≡ 16 → (a.refusal ≡ n) ⊎ ((a.refusal ≡ n → ⊥) × (0 < a.place.0)) → (b : Answer) → b ≡ answered 28 0 r → b ≡ owed_before r a
   unfolding owed_before
-  owed-room e b b-is = rw (eq-eqb _ _ e) b-is
+  owed-28 n n-is (inl e) b b-is = rw (eq-eqb _ _ (e ∙ n-is)) b-is
+  owed-28 n n-is (inr (o, h)) b b-is = rw (ne_eqb a.refusal 16 (λ e. o (e ∙ sym n-is)), lt-ltb 0 a.place.0 h) b-is
 
-  module _ (n : a.refusal ≡ 16 → ⊥) where
-    pub owed-later : 0 < a.place.0 → (b : Answer) → b ≡ answered 28 0 r → b ≡ owed_before r a
-    unfolding owed_before
-    owed-later h b b-is = rw (ne_eqb _ _ n, lt-ltb 0 a.place.0 h) b-is
-
-    pub owed-here : a.place.0 ≤ 0 → a ≡ owed_before r a
-    unfolding owed_before
-    owed-here h = rw (ne_eqb _ _ n, le-ltb 0 a.place.0 h)
-
-pub ruleset answers = (owed-room, owed-later, owed-here)
+  pub owed-here : (a.refusal ≡ 16 → ⊥) → a.place.0 ≤ 0 → a ≡ owed_before r a
+  unfolding owed_before
+  owed-here n h = rw (ne_eqb _ _ n, le-ltb 0 a.place.0 h)
 
 -- 3. the whole turn
 

@@ -2,23 +2,23 @@
 -- Assumes nothing.
 use Prim.Native.Nat.{ℕ, zero, suc, ◌+◌, ◌*◌, ◌-◌, ◌/◌, ◌%◌, ◌<◌, ◌≤◌}
 use mathlib.Core.Path.{◌≡◌, refl, sym, ap, ◌∙◌}
-use mathlib.Core.Bool.{Bool, true, false, ◌&&◌}
-use mathlib.Core.Logic.{inl, inr}
+use mathlib.Core.Bool.{Bool, true, false, not, ◌&&◌}
+use mathlib.Core.Logic.{◌⊎◌, inl, inr}
 use mathlib.Core.List.{List, [], ◌∷◌, ◌++◌}
-use native.Mathlib.Numerals.{add-one}
 use native.Mathlib.Omega.{arith}
-use lib.ListN.{length, take, drop, get_or, length-take, length-drop, drop_of_length-le}
+use lib.ListN.{length, take, drop, get_or, length-take, length-drop}
 use lib.Seq.{take-add, length-take-le, take_all}
 use lib.Bits.{bit_and}
 use lib.Dec.{eqb}
-use borrow.Author.Tests.{eq-eqb, ne_eqb, eqb-true, eqb-false}
+use lib.Pointwise.{pointwise}
+use borrow.Author.Tests.{eq-eqb, ne_eqb, eqb-true, eqb-false, le-leb}
 use Rattle.octets.specs.Octets.{octets, same_octets, same_id}
 use Rattle.octets.proofs.Bools.{which}
-use Rattle.octets.proofs.Same.{same-sizes, same_step}
+use Rattle.octets.proofs.Same.{same-sizes}
 use Rattle.vector.specs.Vector.{extent, keeps_rule, part, shown}
 use Rattle.vector.proofs.Rule.{rule-inside}
 use Rattle.message.specs.Layout.{front, scheme_vector}
-use Rattle.message.specs.Show.{ids_at, schemes_in}
+use Rattle.message.specs.Show.{id_at, ids_at, schemes_in}
 use Rattle.message.proofs.Ids.{length_ids, id-at}
 use Rattle.schemes.specs.Lists.{Id, join_ids}
 use Rattle.schemes.specs.Sets.{left, named, open_places}
@@ -42,22 +42,18 @@ id_same : (a b : List ℕ) → length a ≡ 16 → same_id a b ≡ same_octets a
 unfolding same_id
 id_same a b e = rw (eq-eqb _ _ e)
 
-module _ (a b : List ℕ) (i : ℕ) (even : length a ≡ length b) (inv : same_octets a b ≡ same_octets (drop i a) (drop i b)) where
-  pub all_end : length a ≤ i → true ≡ same_octets a b
-  unfolding same_octets
-  all_end h =
-      let w : length b ≤ i = omega arith in
-      sym (inv ∙ rw (drop_of_length-le a h, drop_of_length-le b w))
+-- as the comparison of two slices says it
+pub compared : (a b : List ℕ) → pointwise eqb a b ≡ same_octets a b
+unfolding same_octets
+compared [] [] = refl
+compared [] (y ∷ b) = refl
+compared (x ∷ a) [] = refl
+compared (x ∷ a) (y ∷ b) = rw (compared a b) refl
 
-  pub all-differ : i < length a → (get_or a i 0 ≡ get_or b i 0 → ⊥) → false ≡ same_octets a b
-  unfolding same_octets
-  all-differ h n = sym (inv ∙ same_step a b i h (omega arith) ∙ rw (ne_eqb _ _ n))
-
-  pub all-on : i < length a → get_or a i 0 ≡ get_or b i 0 → same_octets a b ≡ same_octets (drop (i + 1) a) (drop (i + 1) b)
-  unfolding same_octets
-  all-on h n = inv ∙ same_step a b i h (omega arith) ∙ simp (eq-eqb _ _ n, add-one)
-
-pub ruleset alls = (same-sizes, all_end, all-differ, all-on)
+-- the scheme of a message that has one
+pub scheme-there : (m : List ℕ) → 56 ≤ length m → id_at m 40 ≡ scheme_in m
+unfolding id_at
+scheme-there m h = rw (le-leb 56 (length m) h)
 
 -- 2. the schemes that a NEGO lists, as octets
 
@@ -92,9 +88,9 @@ listed-joined t =
     ids-joined (length a / 16) a ∙ take_all (16 * (length a / 16)) a (omega arith)
 
 module _ (w : Record) (t l : List ℕ) (l-is : l ≡ listed_in t) where
-  pub lists-own-is : (b : Bool) → b ≡ same_octets l (take (16 * w.count) w.list) → b ≡ same_list (listed_by t) (own_of w)
+  pub lists-own-is : (b : Bool) → b ≡ pointwise eqb l (take (16 * w.count) w.list) → b ≡ same_list (listed_by t) (own_of w)
   lists-own-is b b-is =
-      b-is ∙ ap (λ (x : List ℕ). same_octets x (take (16 * w.count) w.list)) (l-is ∙ sym (listed-joined t))
+      b-is ∙ compared l (take (16 * w.count) w.list) ∙ ap (λ (x : List ℕ). same_octets x (take (16 * w.count) w.list)) (l-is ∙ sym (listed-joined t))
       ∙ ap (same_octets (join_ids (listed_by t))) (sym (ids-joined w.count w.list))
 
 -- 3. the reply
@@ -113,8 +109,9 @@ module _ (w : Record) (few : w.count ≤ 16) (list : length w.list ≡ 256) (mar
   octets-are : take (16 * s.count) s.octets ≡ join_ids own
   octets-are = rw gathered (gathered-octets w.count w.list w.common marks (omega arith))
 
-  pub reply-none : s.count ≡ 0 → (t : List ℕ) → false ≡ some_left (replied (with_marks marks w)) && same_list (listed_by t) (replied (with_marks marks w))
-  reply-none z t = go own (sym gathered-count ∙ z) where
+  pub reply-none : s.count ≡ 0 → (t : List ℕ)
+      → not (eqb s.count 0) ≡ some_left (replied (with_marks marks w)) && same_list (listed_by t) (replied (with_marks marks w))
+  reply-none z t = ap not (eq-eqb s.count 0 z) ∙ go own (sym gathered-count ∙ z) where
     go : (l : List Id) → length l ≡ 0 → false ≡ some_left l && same_list (listed_by t) l
     go [] e = refl
     go (x ∷ l) e = absurd (omega arith)
@@ -125,10 +122,10 @@ module _ (w : Record) (few : w.count ≤ 16) (list : length w.list ≡ 256) (mar
   pub reply-end : 16 * s.count ≤ length s.octets
   reply-end = omega (arith, length-take (16 * s.count) s.octets, ap length octets-are, joined_length)
 
-  pub reply-is : (s.count ≡ 0 → ⊥) → (t l : List ℕ) → l ≡ listed_in t → (b : Bool) → b ≡ same_octets l (take (16 * s.count) s.octets)
+  pub reply-is : (s.count ≡ 0 → ⊥) → (t l : List ℕ) → l ≡ listed_in t → (b : Bool) → b ≡ pointwise eqb l (take (16 * s.count) s.octets)
       → b ≡ some_left (replied (with_marks marks w)) && same_list (listed_by t) (replied (with_marks marks w))
   reply-is n t l l-is b b-is =
-      b-is ∙ ap (λ (x : List ℕ). same_octets x (take (16 * s.count) s.octets)) (l-is ∙ sym (listed-joined t))
+      b-is ∙ compared l (take (16 * s.count) s.octets) ∙ ap (λ (x : List ℕ). same_octets x (take (16 * s.count) s.octets)) (l-is ∙ sym (listed-joined t))
       ∙ ap (same_octets (join_ids (listed_by t))) octets-are ∙ go own (λ e. n (gathered-count ∙ e)) where
         go : (k : List Id) → (length k ≡ 0 → ⊥) → same_list (listed_by t) k ≡ some_left k && same_list (listed_by t) k
         go [] h = absurd (h refl)
@@ -145,7 +142,7 @@ module _ (w : Record) (few : w.count ≤ 16) (t : List ℕ) (long : 64 ≤ lengt
   abbrev answer : Bool
   answer = some_left (named (own_of w) ks) && same_octets (scheme_in t) (first_or (named (own_of w) ks))
 
-  pub choice-none : z.left ≡ 0 → false ≡ answer
+  choice-none : z.left ≡ 0 → false ≡ answer
   choice-none h = rw (sym (open_none w.list w.count z ks is h))
 
   module _ (n : z.left ≡ 0 → ⊥) where
@@ -164,7 +161,7 @@ module _ (w : Record) (few : w.count ≤ 16) (t : List ℕ) (long : 64 ≤ lengt
     answer-is =
         ap (λ (b : Bool). b && same_octets (scheme_in t) (first_or (named (own_of w) ks))) first-is.0 ∙ ap (same_octets (scheme_in t)) first-is.1
 
-    pub choice-foreign : w.count ≤ z.place → false ≡ answer
+    choice-foreign : w.count ≤ z.place → false ≡ answer
     choice-foreign h =
         sym (answer-is ∙ ap (same_octets (scheme_in t)) (beyond (own_of w) z.place (omega (arith, length_ids w.count w.list)))
         ∙ sym (same-sizes (scheme_in t) [] (λ e. omega (arith, sixteen)))) where
@@ -177,12 +174,18 @@ module _ (w : Record) (few : w.count ≤ 16) (t : List ℕ) (long : 64 ≤ lengt
       pub choice-part : length w.list ≡ 256 → 16 * z.place + 16 ≤ length w.list
       choice-part h = omega arith
 
-      pub choice-is : (b : Bool) → b ≡ same_id (take 16 (drop 40 t)) (octets 16 w.list (16 * z.place)) → b ≡ answer
-      choice-is b b-is =
+      pub choice-is : (id : List ℕ) → id ≡ id_at t 40 → (b : Bool) → b ≡ same_id id (octets 16 w.list (16 * z.place)) → b ≡ answer
+      choice-is id id-is b b-is =
+          let i : id ≡ scheme_in t = id-is ∙ scheme-there t (omega arith) in
           let c : octets 16 w.list (16 * z.place) ≡ get_or (own_of w) z.place [] = sym (id-at w.count w.list z.place low) in
-          b-is ∙ ap (same_id (scheme_in t)) c ∙ id_same (scheme_in t) (get_or (own_of w) z.place []) sixteen ∙ sym answer-is
+          b-is ∙ ap (λ (x : List ℕ). same_id x (octets 16 w.list (16 * z.place))) i ∙ ap (same_id (scheme_in t)) c
+          ∙ id_same (scheme_in t) (get_or (own_of w) z.place []) sixteen ∙ sym answer-is
 
-pub ruleset choices = (choice-none, choice-foreign, choice-part, choice-is)
+  pub choice-not : (z.left ≡ 0) ⊎ ((z.left ≡ 0 → ⊥) × (w.count ≤ z.place)) → false ≡ answer
+  choice-not (inl h) = choice-none h
+  choice-not (inr (n, h)) = choice-foreign n h
+
+pub ruleset choices = (choice-part, choice-is)
 
 -- 5. by what there is to write
 module _ (w : Record) (marks : ℕ) (t : List ℕ) (token : ℕ) (token-is : token ≡ writes w) where
@@ -202,8 +205,8 @@ module _ (w : Record) (marks : ℕ) (t : List ℕ) (token : ℕ) (token-is : tok
       unfolding owed
       owes-choice e b b-is = rw (ne_eqb (writes w) 0 (λ q. n (token-is ∙ q)), ne_eqb (writes w) 1 (λ q. k (token-is ∙ q)), sym c-is ∙ e) b-is
 
-      pub owes_nothing : c ≡ false → true ≡ owed marks w t
+      pub owes_nothing : c ≡ false → not c ≡ owed marks w t
       unfolding owed
-      owes_nothing e = rw (ne_eqb (writes w) 0 (λ q. n (token-is ∙ q)), ne_eqb (writes w) 1 (λ q. k (token-is ∙ q)), sym c-is ∙ e)
+      owes_nothing e = rw (ne_eqb (writes w) 0 (λ q. n (token-is ∙ q)), ne_eqb (writes w) 1 (λ q. k (token-is ∙ q)), sym c-is ∙ e, e)
 
 pub ruleset owings = (owes-first, owes-reply, owes-choice, owes_nothing)

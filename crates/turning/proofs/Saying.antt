@@ -11,9 +11,10 @@ use lib.Dec.{eqb, ltb}
 use Rattle.octets.specs.Octets.{le}
 use Rattle.octets.proofs.Slices.{tail_all}
 use Rattle.message.specs.declared.Header.{Header}
-use Rattle.message.specs.declared.Read.{Read}
-use Rattle.message.specs.declared.Read.TheVariants as answer
+use Rattle.std.proofs.Common.{Result, Ok, Err}
+use Rattle.refusal.specs.declared.Refusal.{Refusal}
 use Rattle.message.specs.Layout.{head_of, size, front}
+use Rattle.message.specs.Show.{id_at}
 use Rattle.message.specs.Check.{common_rows, said as answered, header_verdict}
 use Rattle.schemes.specs.Lists.{place}
 use Rattle.schemes.specs.Answers.{with_bit}
@@ -27,6 +28,7 @@ use Rattle.sides.specs.Merging.{messages_of}
 use Rattle.sides.specs.Turning.{with_marks, begun, said_as, said, said_all, spoke}
 use Rattle.merging.proofs.Cuts.{header-fits, header-size, header-long, header-left, header_refused}
 use Rattle.merging.proofs.Runs.{messages-on, messages-none}
+use Rattle.turning.proofs.Owing.{scheme-there}
 
 -- 1. one message
 
@@ -51,17 +53,18 @@ said_by r told requested attested = record {
 }
 
 module _ (w : Record) (m : List ℕ) (type : ℕ) (type-is : type ≡ le 4 m 8) (kind : ℕ) (kind-is : kind ≡ class_of w.acceptor type) (token : ℕ)
-    (token-is : token ≡ writing w.acceptor w.stage) where
-  pub say-is : (told : ℕ) → told ≡ cond (eqb kind 2 && ltb (place (own_of w) (take 16 (drop 40 m))) w.count)
-      (with_bit w.metadata (place (own_of w) (take 16 (drop 40 m)))) w.metadata
+    (token-is : token ≡ writing w.acceptor w.stage) (long : 64 ≤ length m) (id : List ℕ) (id-is : id ≡ id_at m 40) where
+  pub say-is : (told : ℕ) → told ≡ cond (eqb kind 2 && ltb (place (own_of w) id) w.count) (with_bit w.metadata (place (own_of w) id)) w.metadata
       → (requested : ℕ) → requested ≡ cond (eqb kind 3 && eqb token 0) 0 w.requested → (attested : Bool) → attested ≡ (eqb kind 4 || w.attested)
       → (next : Record) → next ≡ wrote w (place_after w kind) (length m) (unchanged w) → said_by next told requested attested ≡ said w m
   unfolding said head_of
   say-is told told_is requested requested-is attested attested-is next next-is =
+      let told_there = told_is ∙ ap (λ (x : List ℕ). cond (eqb kind 2 && ltb (place (own_of w) x) w.count) (with_bit w.metadata (place (own_of w) x)) w.metadata)
+      (id-is ∙ scheme-there m (omega arith)) in
       let a : requested ≡ cond (eqb kind 3 && eqb (writes w) 0) 0 w.requested =
       requested-is ∙ ap (λ (k : ℕ). cond (eqb kind 3 && eqb k 0) 0 w.requested) token-is in
       ap (λ (r : Record). said_by r told requested attested) next-is
-      ∙ ap (λ (k : ℕ). said_by (wrote w (place_after w kind) (length m) (unchanged w)) k requested attested) told_is
+      ∙ ap (λ (k : ℕ). said_by (wrote w (place_after w kind) (length m) (unchanged w)) k requested attested) told_there
       ∙ ap (λ (k : ℕ). said_by (wrote w (place_after w kind) (length m) (unchanged w)) (said_as w kind (scheme_in m)).metadata k attested) a
       ∙ ap (λ (b : Bool). said_by (wrote w (place_after w kind) (length m) (unchanged w)) (said_as w kind (scheme_in m)).metadata
       (said_as w kind (scheme_in m)).requested b) attested-is
@@ -114,10 +117,10 @@ module _ (t : List ℕ) (s₀ s : Record) (rest : List ℕ) (on : SpeakOn t s₀
       go [] z = messages-none [] refl
       go (x ∷ l) z = absurd (omega arith)
 
-    pub speak-stops : (m : Read) → answered m ≡ header_verdict rest → (n : ℕ) → m ≡ answer.Refused n → s ≡ spoke marks w (messages_of t)
-    speak-stops m m-is n e = none_left (messages-none rest (header_refused rest m m-is n e).0)
+    pub speak-stops : (m : Result Header Refusal) → answered m ≡ header_verdict rest → (f : Refusal) → m ≡ Err f → s ≡ spoke marks w (messages_of t)
+    speak-stops m m-is f e = none_left (messages-none rest (header_refused rest m m-is f e).0)
 
-  module _ (m : Read) (m-is : answered m ≡ header_verdict rest) (h : Header) (m-reads : m ≡ answer.Message h) where
+  module _ (m : Result Header Refusal) (m-is : answered m ≡ header_verdict rest) (h : Header) (m-reads : m ≡ Ok h) where
     long : (64 ≤ h.length) × (h.length ≤ length rest)
     long = header-long rest m m-is h m-reads
 

@@ -7,17 +7,15 @@ ghost use Rattle.turning.specs.Hearing.{owed_before};
 use calls::answer;
 use conversation::{Answer, Record};
 use receiving::read;
+use refusal::Refusal;
 use vector::TokenPlace;
 
 // The refusal of the first message, or else 28: a later message's and 16 come after it.
 fn owed_before(r: Record, a: Answer) -> Answer
     ensures { result ≡ owed_before r a }
 {
-    if a.refusal == 16 {
-        return answer(28, TokenPlace(0), r);
-    }
-    if 0 < a.place.0 {
-        return answer(28, TokenPlace(0), r);
+    if a.refusal == Refusal::Room.number() || 0 < a.place.0 {
+        return answer(Refusal::Choice.number(), TokenPlace(0), r);
     }
     a
 }

@@ -11,35 +11,22 @@ use super::owed::may_choose;
 use calls::next::after_message;
 use conversation::turns::{class_of, writing_token};
 use conversation::{Class, Record, Turn};
-use message::{Read, field, read_header};
+use message::{field, read_header};
 use octets::le_u32;
+use parts::scheme;
 use schemes::choosing::choose_kept;
 use schemes::list::find;
 use schemes::set::with_bit;
-
-// Where the scheme of a message that is no NEGO ends.
-const SCHEME_END: usize = field::SCHEME + field::ID;
 
 // The first place that is open to a choice, or none.
 fn first_open(w: Record, marks: u16) -> usize
     ensures { result ≡ first_place (open_to w marks) }
 {
-    let kept = w.kept;
-    let left = choose_kept(kept, w.common, marks);
+    let left = choose_kept(w.kept, w.common, marks);
     if left.left == 0 {
         return Record::NONE;
     }
     left.place as usize
-}
-
-// Whether an early VERIFY counts after a choice.
-fn counts_for(early: bool, place: usize, requested: usize) -> bool
-    ensures { result ≡ (early && eqb place requested) }
-{
-    if early {
-        return place == requested;
-    }
-    false
 }
 
 // The record after the choice.
@@ -47,14 +34,15 @@ fn chosen(w: Record, marks: u16) -> Record
     ensures { result ≡ chose w marks }
 {
     let place = first_open(w, marks);
-    let mut next = w;
-    next.stage = Record::LATER;
-    next.position = 0;
-    next.marks = marks;
-    next.chosen = place;
-    next.attested = counts_for(w.attested, place, w.requested);
-    next.confirmed = counts_for(w.confirmed, place, w.requested);
-    next
+    Record {
+        stage: Record::LATER,
+        position: 0,
+        marks,
+        chosen: place,
+        attested: w.attested && place == w.requested,
+        confirmed: w.confirmed && place == w.requested,
+        ..w
+    }
 }
 
 // The record in which the first message of a turn is written: marks come with the acceptor's NEGO, and with the choice.
@@ -64,12 +52,10 @@ fn begin(w: Record, marks: u16) -> Record
     if may_choose(w) {
         return chosen(w, marks);
     }
-    if writing_token(w.acceptor, w.stage) != 1 {
-        return w;
+    if writing_token(w.acceptor, w.stage) == Turn::ANSWER {
+        return Record { marks, ..w };
     }
-    let mut next = w;
-    next.marks = marks;
-    next
+    w
 }
 
 // The schemes that have metadata, with that of a message, where it is metadata for an own scheme.
@@ -92,23 +78,10 @@ fn metadata_after(w: Record, class: u8, id: &[u8]) -> u16
 fn requested_after(requested: usize, class: u8, token: u8) -> usize
     ensures { result ≡ cond (eqb class 3 && eqb token 0) 0 requested }
 {
-    if class != Class::EXCHANGE {
-        return requested;
+    if class == Class::EXCHANGE && token == Turn::FIRST {
+        return 0;
     }
-    if token != Turn::FIRST {
-        return requested;
-    }
-    0
-}
-
-// Whether the own one VERIFY is spent after a message.
-fn attested_after(attested: bool, class: u8) -> bool
-    ensures { result ≡ (eqb class 4 || attested) }
-{
-    if class == Class::VERIFY {
-        return true;
-    }
-    attested
+    requested
 }
 
 // The writer's record after a message of its own.
@@ -118,14 +91,12 @@ fn say(w: Record, m: &[u8]) -> Record
 {
     let class = class_of(w.acceptor, le_u32(m, field::TYPE));
     let token = writing_token(w.acceptor, w.stage);
-    let metadata = metadata_after(w, class, &m[field::SCHEME..SCHEME_END]);
-    let requested = requested_after(w.requested, class, token);
-    let attested = attested_after(w.attested, class);
-    let mut next = after_message(w, class, m.len());
-    next.metadata = metadata;
-    next.requested = requested;
-    next.attested = attested;
-    next
+    Record {
+        metadata: metadata_after(w, class, scheme(m)),
+        requested: requested_after(w.requested, class, token),
+        attested: class == Class::VERIFY || w.attested,
+        ..after_message(w, class, m.len())
+    }
 }
 
 // The writer's record after its turn t.
@@ -135,9 +106,8 @@ pub fn speak(w: Record, marks: u16, t: &[u8]) -> Record
 {
     let mut spoken = begin(w, marks);
     let mut rest = t;
-    while 0 < rest.len() {
-        let reading = read_header(rest);
-        let Read::Message(h) = reading else {
+    while !rest.is_empty() {
+        let Ok(h) = read_header(rest) else {
             return spoken;
         };
         let length = h.length as usize;

@@ -1,5 +1,5 @@
-use Rattle.turning.proofs.Owing.{lists}
 use borrow.Author.Rules.{rules}
+use Rattle.turning.proofs.Owing.{lists}
 use Rattle.turning.proofs.owed.lists_own.Goals as goal
 
 pub returns : goal.returns

@@ -2,14 +2,14 @@ use borrow.Author.Rules.{rules}
 use Rattle.turning.proofs.Owing.{owings}
 use Rattle.turning.proofs.owed.owes.Goals as goal
 
-pub returns-then-token-eq-FIRST : goal.returns-then-token-eq-FIRST
-returns-then-token-eq-FIRST c = search (rules, owings)
+pub returns-in-0 : goal.returns-in-0
+returns-in-0 c = search (rules, owings)
 
-pub returns-then-token-eq-ANSWER : goal.returns-then-token-eq-ANSWER
-returns-then-token-eq-ANSWER c = search (rules, owings)
+pub returns-in-1 : goal.returns-in-1
+returns-in-1 c = search (rules, owings)
 
-pub returns-then-may_choose : goal.returns-then-may_choose
-returns-then-may_choose c = search (rules, owings)
+pub returns-then-not-may_choose : goal.returns-then-not-may_choose
+returns-then-not-may_choose c = search (rules, owings)
 
-pub returns : goal.returns
-returns c = search (rules, owings)
+pub returns-else-not-may_choose : goal.returns-else-not-may_choose
+returns-else-not-may_choose c = search (rules, owings)

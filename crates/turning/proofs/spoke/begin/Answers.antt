@@ -5,8 +5,8 @@ use Rattle.turning.proofs.spoke.begin.Goals as goal
 pub returns-then-may_choose : goal.returns-then-may_choose
 returns-then-may_choose c = search (rules, begins)
 
-pub returns-then-writing_token-ne1 : goal.returns-then-writing_token-ne1
-returns-then-writing_token-ne1 c = search (rules, begins)
+pub returns-then-writing_token-eq-ANSWER : goal.returns-then-writing_token-eq-ANSWER
+returns-then-writing_token-eq-ANSWER c = search (rules, begins)
 
 pub returns : goal.returns
 returns c = search (rules, begins)
