@@ -9,10 +9,14 @@ use native.Mathlib.Numerals.{add-one}
 use native.Mathlib.Omega.{arith}
 use lib.ListN.{length, drop, length-take, length-drop, drop_of_length-le}
 use lib.Seq.{drop-cons}
-use lib.Dec.{leb}
+use lib.Dec.{leb, eqb}
 use borrow.Author.Tests.{le-leb, lt-leb, lt-ltb, le-ltb, eq-eqb, ne_eqb, leb-true, leb-false}
 use Rattle.octets.proofs.Bools.{which}
 use Rattle.octets.specs.Octets.{le, signed32, negative}
+use Rattle.refusal.specs.declared.Refusal.{Refusal}
+use Rattle.refusal.specs.declared.Refusal.TheVariants as refusal
+use Rattle.refusal.specs.Refusals.{number_of}
+use Rattle.refusal.proofs.Numbers.{number_once}
 use Rattle.vector.specs.declared.Vector.{Vector}
 use Rattle.vector.specs.Vector.{keeps_rule, part, shown}
 use Rattle.message.specs.Layout.{nego, alert, head_of, shape_of, header_of, Element, elements_at, elements_of, extension_vector, alert_vector, content_of, content_in, vectors_of}
@@ -21,7 +25,7 @@ use Rattle.parts.proofs.Shows.{length-elements}
 use Rattle.coverage.specs.Coverage.{header_in, vectors_in, no_vector, vector_in}
 use Rattle.coverage.proofs.Numbered.{count-nego, count-one, count-alert}
 use Rattle.faults.specs.declared.Spot.{Spot}
-use Rattle.faults.specs.Faults.{spot, first_broken, broken_in, vector_spot, broken_spot, first_critical, critical_spot, checksum_spot, spot_of}
+use Rattle.faults.specs.Faults.{spot, no_spot, first_broken, broken_in, vector_spot, broken_spot, first_critical, critical_spot, checksum_spot, spot_of}
 
 -- ---- the words of `broken_vector`
 pub type-room : (m : List ℕ) → header_in m ≤ length m → 8 + 4 ≤ length m
@@ -33,11 +37,11 @@ unfolding head_of
 broken-begin m kind kind-is h e = ap (λ (x : ℕ). first_broken x (length m) (vectors_in m) 0) (sym (e ∙ ap (λ (x : ℕ). header_of (shape_of x)) kind-is))
 
 module _ (m : List ℕ) (h k : ℕ) (on : broken_in m ≡ first_broken h (length m) (drop k (vectors_in m)) k) where
-  pub broken-end : (n : ℕ) → n ≡ length (vectors_in m) → n ≤ k → k ≡ broken_in m
+  pub broken-end : (n : ℕ) → n ≡ length (vectors_in m) → n ≤ k → length (vectors_in m) ≤ broken_in m
   unfolding first_broken
   broken-end n n-is g =
       let all : length (vectors_in m) ≤ k = omega arith in
-      sym (on ∙ ap (λ (l : List Vector). first_broken h (length m) l k) (drop_of_length-le (vectors_in m) all))
+      omega (arith, on ∙ ap (λ (l : List Vector). first_broken h (length m) l k) (drop_of_length-le (vectors_in m) all))
 
   module _ (n : ℕ) (n-is : n ≡ length (vectors_in m)) (more : k < n) (v : Vector) (v-is : v ≡ vector_in m k) (b : Bool)
       (b-is : b ≡ keeps_rule h (length m) v) where
@@ -65,9 +69,9 @@ pub critical-begin : (a : List ℕ) → first_critical (elements_of a) 0 ≡ fir
 critical-begin a = let e : length a / 12 ≡ length a / 12 - 0 = omega arith in ap (λ (j : ℕ). first_critical (elements_at j a 0) 0) e
 
 module _ (a : List ℕ) (n k : ℕ) (on : first_critical (elements_of a) 0 ≡ first_critical (elements_at (n - k) a (12 * k)) k) where
-  pub critical-end : n ≤ k → k ≡ first_critical (elements_of a) 0
+  pub critical-end : k ≡ n → n ≡ first_critical (elements_of a) 0
   unfolding first_critical elements_at
-  critical-end h = let e : n - k ≡ 0 = omega arith in sym (on ∙ ap (λ (j : ℕ). first_critical (elements_at j a (12 * k)) k) e)
+  critical-end h = let e : n - k ≡ 0 = omega arith in sym (on ∙ ap (λ (j : ℕ). first_critical (elements_at j a (12 * k)) k) e ∙ h)
 
   module _ (more : k < n) (b : Bool) (b-is : b ≡ negative (signed32 (le 4 a (12 * k)))) where
     step_is : first_critical (elements_at (n - k) a (12 * k)) k
@@ -152,9 +156,9 @@ few-vectors m = elim (which (leb (header_in m) (length m))) [
 ]
 
 module _ (m : List ℕ) (n : ℕ) (n-is : n ≡ length (vectors_in m)) where
-  pub vectors-none : n ≡ 0 → (x : Spot) → x ≡ spot 0 0 0 0 → x ≡ broken_spot m
+  pub vectors-none : n ≡ 0 → no_spot ≡ broken_spot m
   unfolding broken_spot
-  vectors-none z x x-is = let h : length (vectors_in m) ≤ broken_in m = omega arith in x-is ∙ sym (simp (le-ltb _ _ h))
+  vectors-none z = let h : length (vectors_in m) ≤ broken_in m = omega arith in sym (simp (le-ltb _ _ h))
 
   pub header-there : (n ≡ 0 → ⊥) → header_in m ≤ length m
   unfolding vectors_in
@@ -170,21 +174,20 @@ module _ (m : List ℕ) (n : ℕ) (n-is : n ≡ length (vectors_in m)) where
   unfolding head_of
   kind-there some kind e = subst (λ (x : ℕ). header_of (shape_of x) ≤ length m) (sym e) (header-there some)
 
-  module _ (k : ℕ) (k-is : k ≡ broken_in m) where
-    pub broken-none : n ≤ k → (x : Spot) → x ≡ spot 0 0 0 0 → x ≡ broken_spot m
-    unfolding broken_spot
-    broken-none h x x-is = let g : length (vectors_in m) ≤ broken_in m = omega arith in x-is ∙ sym (simp (le-ltb _ _ g))
+module _ (m : List ℕ) where
+  pub broken-none : length (vectors_in m) ≤ broken_in m → no_spot ≡ broken_spot m
+  unfolding broken_spot
+  broken-none h = sym (simp (le-ltb _ _ h))
 
-    pub broken-few : length m ≤ 65535 → k < n → k < 65536
-    broken-few h g = omega (arith, few-vectors m)
+  module _ (k : ℕ) (k-is : k ≡ broken_in m) (inside : k < length (vectors_in m)) where
+    pub broken-few : length m ≤ 65535 → k < 65536
+    broken-few h = omega (arith, few-vectors m)
 
-    pub broken-some : k < n → (kind : ℕ) → kind ≡ le 4 m 8 → (x : Spot) → x ≡ vector_spot (shape_of kind) m k → x ≡ broken_spot m
+    pub broken-some : (kind : ℕ) → kind ≡ le 4 m 8 → (x : Spot) → x ≡ vector_spot (shape_of kind) m k → x ≡ broken_spot m
     unfolding broken_spot head_of
-    broken-some h kind kind-is x e =
+    broken-some kind kind-is x e =
         let g : broken_in m < length (vectors_in m) = omega arith in
         (rw (kind-is, k-is) at e) ∙ sym (simp (lt-ltb _ _ g))
-
-pub ruleset broken-spots = (vectors-none, type-there, kind-there, broken-none, broken-few, broken-some)
 
 -- ---- the words of `critical_spot` and `checksum_spot`
 critical-most : (es : List Element) (k : ℕ) → first_critical es k ≤ k + length es
@@ -203,9 +206,9 @@ shown-short m v = elim (which (keeps_rule 96 (length m) v)) [
 ]
 
 module _ (m : List ℕ) where
-  pub critical-none : length m < 96 → (x : Spot) → x ≡ spot 0 0 0 0 → x ≡ critical_spot m
+  pub critical-none : length m < 96 → no_spot ≡ critical_spot m
   unfolding critical_spot
-  critical-none h x e = e ∙ sym (simp (lt-leb _ _ h))
+  critical-none h = sym (simp (lt-leb _ _ h))
 
   module _ (a : List ℕ) (a-is : a ≡ shown 96 m (extension_vector m)) (k : ℕ) (k-is : k ≡ first_critical (elements_of a) 0) where
     critical-few : length m ≤ 65535 → k < 65536
@@ -226,9 +229,9 @@ module _ (m : List ℕ) where
     unfolding critical_spot
     critical-some h v v-is = rw (v-is, k-is, a-is) (sym (simp (le-leb _ _ h)))
 
-  pub checksum-none : length m < 80 → (x : Spot) → x ≡ spot 0 0 0 0 → x ≡ checksum_spot m
+  pub checksum-none : length m < 80 → no_spot ≡ checksum_spot m
   unfolding checksum_spot
-  checksum-none h x e = e ∙ sym (simp (lt-leb _ _ h))
+  checksum-none h = sym (simp (lt-leb _ _ h))
 
   module _ (h : 80 ≤ length m) (n : ℕ) (n-is : n ≡ le 4 m 56) (x : Spot) where
     pub checksum-scheme : n ≡ 20 → x ≡ spot 14 0 60 4 → x ≡ checksum_spot m
@@ -244,30 +247,33 @@ pub ruleset critical-spots = (critical-none, critical-cast, critical-product, cr
 pub ruleset checksum-spots = (checksum-none, checksum-scheme, checksum-header)
 
 -- ---- the words of `spot_of`
-module _ (n : ℕ) (m : List ℕ) (x : Spot) where
-  abbrev At : Type 0
-  At = x ≡ spot_of n m
+pub at-number : (n : ℕ) (m : List ℕ) (x : Spot) (k : ℕ) → n ≡ k → x ≡ spot_of k m → x ≡ spot_of n m
+at-number n m x k e f = f ∙ ap (λ (j : ℕ). spot_of j m) (sym e)
 
-  pub at-number : (k : ℕ) → n ≡ k → x ≡ spot_of k m → At
-  at-number k e f = f ∙ ap (λ (j : ℕ). spot_of j m) (sym e)
+module _ (e : Refusal) (m : List ℕ) where
+  pub at_refusal : (r : Refusal) → e ≡ r → (x : Spot) → x ≡ spot_of (number_of r) m → x ≡ spot_of (number_of e) m
+  at_refusal r is x f = f ∙ ap (λ (y : Refusal). spot_of (number_of y) m) (sym is)
 
-  pub at_none : (n ≡ 3 → ⊥) → (n ≡ 4 → ⊥) → (n ≡ 5 → ⊥) → (n ≡ 6 → ⊥) → (n ≡ 7 → ⊥) → (n ≡ 8 → ⊥) → (n ≡ 10 → ⊥) → (n ≡ 11 → ⊥) → (n ≡ 12 → ⊥)
-      → (n ≡ 13 → ⊥) → x ≡ spot 0 0 0 0 → At
+  another : (r : Refusal) → (e ≡ r → ⊥) → eqb (number_of e) (number_of r) ≡ false
+  another r not = ne_eqb (number_of e) (number_of r) (λ same. not (number_once e r same))
+
+  pub at_none : (e ≡ refusal.Signature → ⊥) → (e ≡ refusal.Type → ⊥) → (e ≡ refusal.HeaderLength → ⊥) → (e ≡ refusal.MessageLength → ⊥)
+      → (e ≡ refusal.Sequence → ⊥) → (e ≡ refusal.Conversation → ⊥) → (e ≡ refusal.Version → ⊥) → (e ≡ refusal.Vector → ⊥)
+      → (e ≡ refusal.CriticalExtension → ⊥) → (e ≡ refusal.Checksum → ⊥) → no_spot ≡ spot_of (number_of e) m
   unfolding spot_of
-  at_none a b c d e f g h i j k =
-      k ∙ sym
+  at_none a b c d f g h i j k =
+      sym
       (simp (
-        ne_eqb n 3 a,
-        ne_eqb n 4 b,
-        ne_eqb n 5 c,
-        ne_eqb n 6 d,
-        ne_eqb n 7 e,
-        ne_eqb n 8 f,
-        ne_eqb n 10 g,
-        ne_eqb n 11 h,
-        ne_eqb n 12 i,
-        ne_eqb n
-            13 j,
+        another refusal.Signature a,
+        another refusal.Type b,
+        another refusal.HeaderLength c,
+        another refusal.MessageLength d,
+        another refusal.Sequence f,
+        another refusal.Conversation g,
+        another refusal.Version h,
+        another refusal.Vector i,
+        another refusal.CriticalExtension j,
+        another refusal.Checksum k,
       ))
 
-pub ruleset spots = (at-number, at_none)
+pub ruleset spots = (at_refusal, at_none)

@@ -1,7 +1,7 @@
 -- The fault of a token, in the words of the code.
 -- Assumes nothing.
 use Prim.Native.Nat.{ℕ, ◌+◌, ◌-◌, ◌<◌, ◌≤◌}
-use mathlib.Core.Path.{◌≡◌, sym, ap, ◌∙◌}
+use mathlib.Core.Path.{◌≡◌, refl, sym, ap, ◌∙◌}
 use mathlib.Core.Logic.{inl, inr}
 use mathlib.Core.List.{List}
 use native.Mathlib.Omega.{arith}
@@ -11,11 +11,15 @@ use lib.Dec.{leb}
 use borrow.Author.Tests.{le-leb, lt-leb, eq-eqb, ne_eqb}
 use Rattle.octets.proofs.Bools.{which}
 use Rattle.octets.proofs.Slices.{tail_all}
-use Rattle.vector.specs.declared.TokenPlace.{TokenPlace}
 use Rattle.message.specs.Show.{first_of}
 use Rattle.message.specs.Layout.{size}
-use Rattle.token.specs.declared.Answer.{Answer}
-use Rattle.token.specs.declared.Answer.TheVariants as answer
+use Rattle.std.proofs.Common.{Result, Ok, Err}
+use Rattle.std.specs.Result.{result_unwrap_or}
+use Rattle.refusal.specs.declared.Refusal.{Refusal}
+use Rattle.refusal.specs.declared.Refusal.TheVariants as refusal
+use Rattle.refusal.specs.Refusals.{number_of}
+use Rattle.refusal.proofs.Numbers.{number_once}
+use Rattle.token.specs.declared.Refused.{Refused}
 use Rattle.token.specs.Token.{Reading, token_of, outcome_of, told}
 use Rattle.token.specs.Split.{join}
 use Rattle.token.specs.Walk.{messages_of}
@@ -25,30 +29,35 @@ use Rattle.entries.specs.declared.Entry.{Entry}
 use Rattle.entries.specs.Entries.{field_entry}
 use Rattle.entries.specs.Lookup.{no_entry}
 use Rattle.faults.specs.declared.Spot.{Spot}
-use Rattle.faults.specs.Faults.{spot_of, rest_entry, fault_entry, fault_at, fault_in, fault_of}
+use Rattle.faults.specs.Faults.{no_spot, spot_of, rest_entry, fault_entry, fault_at, fault_in, fault_of}
 
 -- ---- the words of `fault_entry`
-module _ (p i : ℕ) (s : List ℕ) (x : Spot) (e : Entry) where
-  pub outside-size : length s < x.size → e ≡ no_entry → e ≡ fault_entry p i s x
+module _ (p i : ℕ) (s : List ℕ) (x : Spot) where
+  pub outside-size : length s < x.size → no_entry ≡ fault_entry p i s x
   unfolding fault_entry
-  outside-size h f = let g : length s < x.at + x.size = omega arith in f ∙ sym (simp (lt-leb _ _ g))
+  outside-size h = let g : length s < x.at + x.size = omega arith in sym (simp (lt-leb _ _ g))
 
   module _ (h : x.size ≤ length s) where
-    pub outside-at : length s - x.size < x.at → e ≡ no_entry → e ≡ fault_entry p i s x
+    pub outside-at : length s - x.size < x.at → no_entry ≡ fault_entry p i s x
     unfolding fault_entry
-    outside-at k f = let g : length s < x.at + x.size = omega arith in f ∙ sym (simp (lt-leb _ _ g))
+    outside-at k = let g : length s < x.at + x.size = omega arith in sym (simp (lt-leb _ _ g))
 
     module _ (k : x.at ≤ length s - x.size) where
       fits : x.at + x.size ≤ length s
       fits = omega arith
 
-      pub small : x.size < 2 → e ≡ no_entry → e ≡ fault_entry p i s x
+      pub small : x.size < 2 → no_entry ≡ fault_entry p i s x
       unfolding fault_entry
-      small g f = f ∙ sym (simp (le-leb _ _ fits, lt-leb _ _ g))
+      small g = sym (simp (le-leb _ _ fits, lt-leb _ _ g))
 
-      pub within : 2 ≤ x.size → e ≡ field_entry p i s x.what x.number x.at x.size → e ≡ fault_entry p i s x
+      pub within : 2 ≤ x.size → (e : Entry) → e ≡ field_entry p i s x.what x.number x.at x.size → e ≡ fault_entry p i s x
       unfolding fault_entry
-      within g f = f ∙ sym (simp (le-leb _ _ fits, le-leb _ _ g))
+      within g e f = f ∙ sym (simp (le-leb _ _ fits, le-leb _ _ g))
+
+-- no field has no entry
+pub none-at : (p i : ℕ) (s : List ℕ) → no_entry ≡ fault_entry p i s no_spot
+unfolding fault_entry
+none-at p i s = sym (simp (le-leb 0 (length s) (omega arith)))
 
 pub ruleset entries_at = (outside-size, outside-at, small, within)
 
@@ -56,16 +65,15 @@ pub ruleset entries_at = (outside-size, outside-at, small, within)
 pub front_length : (s : List ℕ) (p : ℕ) → p ≤ length s → p ≡ length (take p s)
 front_length s p h = sym (length-take-le p s h)
 
-module _ (s : List ℕ) (r : Answer) (r-is : told r ≡ outcome_of (token_of s)) where
-  pub before-all : (n : ℕ) → r ≡ answer.Messages n → n ≡ length (messages_of (token_of s))
-  before-all n here = sym (answer-number s r r-is n here)
+pub before_count : (s : List ℕ) (r : Result ℕ Refused) → told r ≡ outcome_of (token_of s)
+    → result_unwrap_or r 0 ≡ length (messages_of (token_of s))
+before_count s (Ok n) e = sym (answer-number s (Ok n) e n refl)
+before_count s (Err f) e = sym (ap (λ (x : Reading). length (messages_of x)) (answer-refuses s (Err f) e f refl))
 
-  pub before-none : (n : ℕ) (place : TokenPlace) → r ≡ answer.Refused n place → 0 ≡ length (messages_of (token_of s))
-  before-none n place here = sym (ap (λ (x : Reading). length (messages_of x)) (answer-refuses s r r-is n place here))
-
-  -- ---- the words of `fault`
-  pub fault-place : (n : ℕ) (place : TokenPlace) → r ≡ answer.Refused n place → place.0 ≤ length s
-  fault-place n place here = elim (refused-stops s n place.0 (answer-refuses s r r-is n place here)) [
+-- ---- the words of `fault`
+module _ (s : List ℕ) (r : Result ℕ Refused) (r-is : told r ≡ outcome_of (token_of s)) where
+  pub fault-place : (f : Refused) → r ≡ Err f → f.place.0 ≤ length s
+  fault-place f here = elim (refused-stops s (number_of f.refusal) f.place.0 (answer-refuses s r r-is f here)) [
     | inl h ↦ omega (arith, h)
     | inr h ↦ elim h [
       | inl g ↦ omega (arith, g)
@@ -74,20 +82,20 @@ module _ (s : List ℕ) (r : Answer) (r-is : told r ≡ outcome_of (token_of s))
   ]
 
   module _ (h : length s ≤ 65535) (e : Entry) where
-    pub fault-none : (n : ℕ) → r ≡ answer.Messages n → e ≡ no_entry → e ≡ fault_of s
+    pub fault-none : (n : ℕ) → r ≡ Ok n → e ≡ no_entry → e ≡ fault_of s
     unfolding fault_of
     fault-none n here f = f ∙ sym (ap (λ (x : Reading). fault_in x s) (answer-accepts s r r-is n here)) ∙ sym (simp (le-leb _ _ h))
 
-    pub fault-some : (n : ℕ) (place : TokenPlace) → r ≡ answer.Refused n place
-        → e ≡ fault_at place.0 (length (messages_of (token_of (take place.0 s)))) (drop place.0 s) n → e ≡ fault_of s
+    pub fault-some : (f : Refused) → r ≡ Err f
+        → e ≡ fault_at f.place.0 (length (messages_of (token_of (take f.place.0 s)))) (drop f.place.0 s) (number_of f.refusal) → e ≡ fault_of s
     unfolding fault_of
-    fault-some n place here f = f ∙ sym (ap (λ (x : Reading). fault_in x s) (answer-refuses s r r-is n place here)) ∙ sym (simp (le-leb _ _ h))
+    fault-some f here g = g ∙ sym (ap (λ (x : Reading). fault_in x s) (answer-refuses s r r-is f here)) ∙ sym (simp (le-leb _ _ h))
 
 pub fault-long : (s : List ℕ) → 65535 < length s → (e : Entry) → e ≡ rest_entry 65535 0 1 → e ≡ fault_of s
 unfolding fault_of
 fault-long s h e f = f ∙ sym (simp (lt-leb _ _ h))
 
-pub ruleset before = (front_length, before-all, before-none)
+pub ruleset before = (front_length, before_count)
 
 pub ruleset faults = (fault-place, fault-none, fault-some, fault-long)
 
@@ -109,15 +117,23 @@ module _ (s : List ℕ) (p : ℕ) (h : p ≤ length s) (short : length s ≤ 655
   pub rest-first : (m : List ℕ) → m ≡ first_of (take (length s - p) (drop p s)) → length m ≤ 65535
   rest-first m e = omega (arith, ap length e, first_short (take (length s - p) (drop p s)), rest-length)
 
-  module _ (i n : ℕ) (i-is : i ≡ length (messages_of (token_of (take p s)))) (e : Entry) where
-    pub left-rest : n ≡ 2 → e ≡ rest_entry p i (length (take (length s - p) (drop p s)))
-        → e ≡ fault_at p (length (messages_of (token_of (take p s)))) (drop p s) n
-    unfolding fault_at
-    left-rest z f = (rw (i-is, tail_all s p) at f) ∙ sym (simp (eq-eqb n 2 z))
+  module _ (i : ℕ) (i-is : i ≡ length (messages_of (token_of (take p s)))) (r : Refusal) where
+    abbrev Is : Entry → Type 0
+    Is e = e ≡ fault_at p (length (messages_of (token_of (take p s)))) (drop p s) (number_of r)
 
-    pub left-field : (n ≡ 2 → ⊥) → (m : List ℕ) → m ≡ first_of (take (length s - p) (drop p s)) → (x : Spot) → x ≡ spot_of n m
-        → e ≡ fault_entry p i (take (length s - p) (drop p s)) x → e ≡ fault_at p (length (messages_of (token_of (take p s)))) (drop p s) n
+    pub left-rest : r ≡ refusal.TooShort → (e : Entry) → e ≡ rest_entry p i (length (take (length s - p) (drop p s))) → Is e
     unfolding fault_at
-    left-field z m m-is x x-is f = (rw (i-is, x-is, m-is, tail_all s p) at f) ∙ sym (simp (ne_eqb n 2 z))
+    left-rest z e f = (rw (i-is, tail_all s p) at f) ∙ sym (simp (eq-eqb (number_of r) 2 (ap number_of z)))
 
-pub ruleset lefts = (rest-length, rest-first, left-rest, left-field)
+    module _ (another : r ≡ refusal.TooShort → ⊥) (m : List ℕ) (m-is : m ≡ first_of (take (length s - p) (drop p s))) (x : Spot)
+        (x-is : x ≡ spot_of (number_of r) m) where
+      pub left-field : (e : Entry) → e ≡ fault_entry p i (take (length s - p) (drop p s)) x → Is e
+      unfolding fault_at
+      left-field e f =
+          (rw (i-is, x-is, m-is, tail_all s p) at f)
+          ∙ sym (simp (ne_eqb (number_of r) 2 (λ same. another (number_once r refusal.TooShort same))))
+
+      pub left-none : no_spot ≡ x → Is no_entry
+      left-none z = left-field no_entry (none-at p i (take (length s - p) (drop p s)) ∙ ap (fault_entry p i (take (length s - p) (drop p s))) z)
+
+pub ruleset lefts = (rest-length, rest-first, left-rest)

@@ -1,13 +1,15 @@
 // The octets at fault of a refused token: the field whose test fails first.
 #![tactic(auto)]
 
-ghost use Rattle.std.specs.Prelude.{◌≡◌, ◌+◌, ◌≤◌, ◌<◌, length, take, drop};
+ghost use Rattle.std.specs.Prelude.{◌≡◌, ◌+◌, ◌≤◌, ◌<◌, length, take, drop, MatchOption};
+ghost use Rattle.std.specs.Option.{unwrap_or};
+ghost use Rattle.refusal.specs.Refusals.{number_of};
 ghost use Rattle.message.specs.Layout.{nego, alert, elements_of, shape_of, header_of};
 ghost use Rattle.token.specs.Token.{token_of};
 ghost use Rattle.token.specs.Walk.{messages_of};
-ghost use Rattle.coverage.specs.Coverage.{header_in};
+ghost use Rattle.coverage.specs.Coverage.{header_in, vectors_in};
 ghost use Rattle.entries.specs.Lookup.{no_entry};
-ghost use Rattle.faults.specs.Faults.{spot, broken_in, vector_spot, broken_spot, first_critical, critical_spot, checksum_spot, spot_of, rest_entry, fault_entry, fault_at, fault_of};
+ghost use Rattle.faults.specs.Faults.{spot, no_spot, broken_in, vector_spot, broken_spot, first_critical, critical_spot, checksum_spot, spot_of, rest_entry, fault_entry, fault_at, fault_of};
 
 use coverage::vectors::{vector_count, vector_of};
 use entries::lookup::field_entry;
@@ -18,7 +20,8 @@ use message::walk::first;
 use message::{Kind, field};
 use octets::{is_negative, le_u32};
 use parts::extensions;
-use token::{Answer, read_token};
+use refusal::Refusal;
+use token::{Refused, read_token};
 use vector::{MessageOffset, TokenPlace, keeps_rule};
 
 // A field of a message: what it is, its number in its list, where it stands, and its size.
@@ -45,21 +48,19 @@ fn single(what: u32, at: usize, size: u32) -> Spot
     }
 }
 
-// The number of the first vector that breaks its rule; that of all of them where none does.
-fn broken_vector(m: &[u8]) -> usize
+// The number of the first vector that breaks its rule.
+fn broken_vector(m: &[u8]) -> Option<usize>
     requires { header_in m.now ≤ length m.now }
-    ensures { result ≡ broken_in m.now }
+    ensures { MatchOption result (length (vectors_in m.now) ≤ broken_in m.now)
+        (λ k. (k ≡ broken_in m.now) × (k < length (vectors_in m.now))) }
 {
     let header = Kind(le_u32(m, field::TYPE)).header();
-    let count = vector_count(m);
-    let mut k: usize = 0;
-    while k < count {
-        if keeps_rule(header, m.len(), vector_of(m, k)) {} else {
-            return k;
+    for k in 0..vector_count(m) {
+        if !keeps_rule(header, m.len(), vector_of(m, k)) {
+            return Some(k);
         }
-        k += 1;
     }
-    k
+    None
 }
 
 // Where the offset and size of vector k of a NEGO stand.
@@ -67,18 +68,17 @@ fn nego_spot(m: &[u8], k: usize) -> Spot
     requires { (96 ≤ length m.now) × (k < 65536) }
     ensures { result ≡ vector_spot nego m.now k }
 {
-    if k == 0 {
-        return single(name::SCHEME_VECTOR, field::SCHEMES, 6);
-    }
-    if k == 1 {
-        return single(name::EXTENSION_VECTOR, field::EXTENSIONS, 6);
-    }
-    let array = extension_vector(m);
-    Spot {
-        what: name::EXTENSION_VALUE_VECTOR,
-        number: (k - 2) as u32,
-        at: array.offset.0 as usize + field::ELEMENT * (k - 2) + field::ELEMENT_VALUE,
-        size: 8,
+    match k {
+        0 => single(name::SCHEME_VECTOR, field::SCHEMES, 6),
+        1 => single(name::EXTENSION_VECTOR, field::EXTENSIONS, 6),
+        _ => Spot {
+            what: name::EXTENSION_VALUE_VECTOR,
+            number: (k - 2) as u32,
+            at: extension_vector(m).offset.0 as usize
+                + field::ELEMENT * (k - 2)
+                + field::ELEMENT_VALUE,
+            size: 8,
+        },
     }
 }
 
@@ -117,84 +117,78 @@ fn vector_spot(kind: Kind, m: &[u8], k: usize) -> Spot
 }
 
 // Where the offset and size of the first vector stand that breaks its rule.
-fn broken_spot(m: &[u8]) -> Spot
+fn broken_spot(m: &[u8]) -> Option<Spot>
     requires { length m.now ≤ 65535 }
-    ensures { result ≡ broken_spot m.now }
+    ensures { unwrap_or result no_spot ≡ broken_spot m.now }
 {
-    let count = vector_count(m);
-    if count == 0 {
-        return single(0, 0, 0);
+    if vector_count(m) == 0 {
+        return None;
     }
-    let broken = broken_vector(m);
-    if count <= broken {
-        return single(0, 0, 0);
-    }
-    vector_spot(Kind(le_u32(m, field::TYPE)), m, broken)
+    let broken = broken_vector(m)?;
+    Some(vector_spot(Kind(le_u32(m, field::TYPE)), m, broken))
 }
 
-// The number of the first critical element of an array; that of all of them where none is.
+// The number of the first critical element of an array; that of all of them where none is, since that is what a critical spot's place is counted from.
 fn critical_element(array: &[u8]) -> usize
     ensures { result ≡ first_critical (elements_of array.now) 0 }
 {
     let count = array.len() / field::ELEMENT;
-    let mut k: usize = 0;
-    while k < count {
+    for k in 0..count {
         if is_negative(array, field::ELEMENT * k) {
             return k;
         }
-        k += 1;
     }
-    k
+    count
 }
 
 // Where the type of the first critical extension stands.
-fn critical_spot(m: &[u8]) -> Spot
+fn critical_spot(m: &[u8]) -> Option<Spot>
     requires { length m.now ≤ 65535 }
-    ensures { result ≡ critical_spot m.now }
+    ensures { unwrap_or result no_spot ≡ critical_spot m.now }
 {
     if m.len() < Kind::NEGO_HEADER_LEN {
-        return single(0, 0, 0);
+        return None;
     }
     let critical = critical_element(extensions(m));
     let array = extension_vector(m);
-    Spot {
+    Some(Spot {
         what: name::EXTENSION_TYPE,
         number: critical as u32,
         at: array.offset.0 as usize + field::ELEMENT * critical,
         size: 4,
-    }
+    })
 }
 
 // Of a VERIFY's checksum header length and scheme, the first that is another than it has to be.
-fn checksum_spot(m: &[u8]) -> Spot
-    ensures { result ≡ checksum_spot m.now }
+fn checksum_spot(m: &[u8]) -> Option<Spot>
+    ensures { unwrap_or result no_spot ≡ checksum_spot m.now }
 {
     if m.len() < Kind::VERIFY_HEADER_LEN {
-        return single(0, 0, 0);
+        return None;
     }
     if le_u32(m, field::CHECKSUM_HEADER_LENGTH) == CHECKSUM_HEADER {
-        return single(name::CHECKSUM_SCHEME, field::CHECKSUM_SCHEME, 4);
+        return Some(single(name::CHECKSUM_SCHEME, field::CHECKSUM_SCHEME, 4));
     }
-    single(name::CHECKSUM_HEADER, field::CHECKSUM_HEADER_LENGTH, 4)
+    Some(single(name::CHECKSUM_HEADER, field::CHECKSUM_HEADER_LENGTH, 4))
 }
 
-// The field at fault of the message m, by the number that refuses it.
-fn spot_of(number: u32, m: &[u8]) -> Spot
+// The field at fault of the message m, by what refuses it.
+fn spot_of(refusal: Refusal, m: &[u8]) -> Option<Spot>
     requires { length m.now ≤ 65535 }
-    ensures { result ≡ spot_of number m.now }
+    ensures { unwrap_or result no_spot ≡ spot_of (number_of refusal) m.now }
 {
-    match number {
-        3 => single(name::SIGNATURE, field::SIGNATURE, 8),
-        4 => single(name::TYPE, field::TYPE, 4),
-        5 => single(name::HEADER_LENGTH, field::HEADER_LENGTH, 4),
-        6 => single(name::MESSAGE_LENGTH, field::MESSAGE_LENGTH, 4),
-        7 => single(name::SEQUENCE, field::SEQUENCE, 4),
-        8 => single(name::CONVERSATION, field::CONVERSATION, 16),
-        10 => single(name::VERSION, field::VERSION, 8),
-        11 => broken_spot(m),
-        12 => critical_spot(m),
-        13 => checksum_spot(m),
-        _ => single(0, 0, 0),
+    match refusal {
+        Refusal::Signature => Some(single(name::SIGNATURE, field::SIGNATURE, 8)),
+        Refusal::Type => Some(single(name::TYPE, field::TYPE, 4)),
+        Refusal::HeaderLength => Some(single(name::HEADER_LENGTH, field::HEADER_LENGTH, 4)),
+        Refusal::MessageLength => Some(single(name::MESSAGE_LENGTH, field::MESSAGE_LENGTH, 4)),
+        Refusal::Sequence => Some(single(name::SEQUENCE, field::SEQUENCE, 4)),
+        Refusal::Conversation => Some(single(name::CONVERSATION, field::CONVERSATION, 16)),
+        Refusal::Version => Some(single(name::VERSION, field::VERSION, 8)),
+        Refusal::Vector => broken_spot(m),
+        Refusal::CriticalExtension => critical_spot(m),
+        Refusal::Checksum => checksum_spot(m),
+        _ => None,
     }
 }
 
@@ -226,23 +220,17 @@ fn no_entry() -> Entry
     }
 }
 
-// The entry of a field of what is left of a token; nothing where the field lies outside.
-fn fault_entry(place: TokenPlace, message: u32, rest: &[u8], x: Spot) -> Entry
+// The entry of a field of what is left of a token, where the field lies inside.
+fn fault_entry(place: TokenPlace, message: u32, rest: &[u8], x: Spot) -> Option<Entry>
     requires { place.0 + length rest.now ≤ 65535 }
-    ensures { result ≡ fault_entry place.0 message rest.now x }
+    ensures { unwrap_or result no_entry ≡ fault_entry place.0 message rest.now x }
 {
     let size = x.size as usize;
-    if rest.len() < size {
-        return no_entry();
-    }
-    if rest.len() - size < x.at {
-        return no_entry();
-    }
-    if size < 2 {
-        return no_entry();
+    if rest.len() < size || rest.len() - size < x.at || size < 2 {
+        return None;
     }
     let at = MessageOffset(x.at as u32);
-    field_entry(place, message, rest, x.what, x.number, at, x.size)
+    Some(field_entry(place, message, rest, x.what, x.number, at, x.size))
 }
 
 // How many messages stand before a place.
@@ -250,26 +238,23 @@ fn count_before(token: &[u8], place: usize) -> u32
     requires { place ≤ length token.now }
     ensures { result ≡ length (messages_of (token_of (take place token.now))) }
 {
-    let reading = read_token(&token[..place]);
-    match reading {
-        Answer::Messages(n) => n,
-        Answer::Refused(_, _) => 0,
-    }
+    read_token(&token[..place]).unwrap_or(0)
 }
 
-// The fault of a token that is refused with a number at a place.
-fn fault_at(token: &[u8], number: u32, place: TokenPlace) -> Entry
-    requires { (place.0 ≤ length token.now) × (length token.now ≤ 65535) }
-    ensures { result ≡ fault_at place.0 (length (messages_of (token_of (take place.0 token.now))))
-        (drop place.0 token.now) number }
+// The fault of a token that is refused.
+fn fault_at(token: &[u8], refused: Refused) -> Option<Entry>
+    requires { (refused.place.0 ≤ length token.now) × (length token.now ≤ 65535) }
+    ensures { unwrap_or result no_entry ≡ fault_at refused.place.0
+        (length (messages_of (token_of (take refused.place.0 token.now)))) (drop refused.place.0 token.now)
+        (number_of refused.refusal) }
 {
-    let from = place.0;
+    let from = refused.place.0;
     let message = count_before(token, from);
     let rest = &token[from..];
-    if number == 2 {
-        return rest_entry(from as u32, message, rest.len() as u32);
+    match refused.refusal {
+        Refusal::TooShort => Some(rest_entry(from as u32, message, rest.len() as u32)),
+        refusal => fault_entry(refused.place, message, rest, spot_of(refusal, first(rest))?),
     }
-    fault_entry(place, message, rest, spot_of(number, first(rest)))
 }
 
 // The octets at fault of a refused token; of one that is too long the first octet too many, and of an accepted one nothing.
@@ -279,9 +264,8 @@ pub fn fault(token: &[u8]) -> Entry
     if 65535 < token.len() {
         return rest_entry(65535, 0, 1);
     }
-    let reading = read_token(token);
-    match reading {
-        Answer::Messages(_) => no_entry(),
-        Answer::Refused(n, place) => fault_at(token, n, place),
+    match read_token(token) {
+        Ok(_) => no_entry(),
+        Err(refused) => fault_at(token, refused).unwrap_or(no_entry()),
     }
 }

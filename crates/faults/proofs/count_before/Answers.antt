@@ -1,11 +1,6 @@
-use Rattle.faults.proofs.Tokens.{before}
+use Rattle.std.proofs.Common.{◌∙◌}
+use Rattle.faults.proofs.Tokens.{before_count}
 use Rattle.faults.proofs.count_before.Goals as goal
 
-pub slice_bounds-read_token-end : goal.slice_bounds-read_token-end
-slice_bounds-read_token-end c = search before
-
-pub returns-in-Messages : goal.returns-in-Messages
-returns-in-Messages c = search before
-
-pub returns-in-Refused : goal.returns-in-Refused
-returns-in-Refused c = search before
+pub returns : goal.returns
+returns c = c.unwrap_or.ensures ∙ before_count _ c.read_token.result c.read_token.ensures
