@@ -9,7 +9,7 @@ ghost use Rattle.entries.specs.Lookup.{table_entry, Row, Holds, no_entry, count_
 use super::{Entry, name};
 use coverage::vectors::{vector_count, vector_of};
 use message::field::{alert_vector, extension_vector, scheme_vector};
-use message::{Kind, field};
+use message::{Kind, Shape, field};
 use octets::{le_u16, le_u32};
 use table::{vector_length, vector_place};
 use vector::{MessageOffset, TokenPlace, Vector, in_token};
@@ -65,16 +65,11 @@ fn table_entry(table: &[u8], place: TokenPlace, message: u32, m: &[u8], k: usize
 fn field_count(kind: Kind) -> usize
     ensures { result ≡ length (fields_of (shape_of kind.0)) }
 {
-    if kind.0 <= Kind::ACCEPTOR_NEGO {
-        return 12;
+    match kind.shape() {
+        Shape::Nego | Shape::Verify => 12,
+        Shape::Exchange => 8,
+        Shape::Alert => 11,
     }
-    if kind.0 <= Kind::AP_REQUEST {
-        return 8;
-    }
-    if kind.0 == Kind::VERIFY {
-        return 12;
-    }
-    11
 }
 
 // The entry of field k of a header. The tables have a row of three numbers a field: what it is, where it stands, its size.
@@ -82,62 +77,54 @@ fn header_entry(kind: Kind, place: TokenPlace, message: u32, m: &[u8], k: usize)
     requires { Holds place.0 m.now kind.0 × (k < length (fields_of (shape_of kind.0))) }
     ensures { result ≡ header_entry place.0 message m.now (shape_of kind.0) k }
 {
-    if kind.0 <= Kind::ACCEPTOR_NEGO {
-        let nego =
-            b"\x01\x00\x08\x02\x08\x04\x03\x0C\x04\x04\x10\x04\x05\x14\x04\x06\x18\x10\x07\x28\x20\x08\x48\x08\x09\x50\x06\x13\x56\x02\x0A\x58\x06\x13\x5E\x02";
-        return table_entry(nego, place, message, m, k);
+    match kind.shape() {
+        Shape::Nego => {
+            let nego =
+                b"\x01\x00\x08\x02\x08\x04\x03\x0C\x04\x04\x10\x04\x05\x14\x04\x06\x18\x10\x07\x28\x20\x08\x48\x08\x09\x50\x06\x13\x56\x02\x0A\x58\x06\x13\x5E\x02";
+            table_entry(nego, place, message, m, k)
+        }
+        Shape::Exchange => {
+            let exchange =
+                b"\x01\x00\x08\x02\x08\x04\x03\x0C\x04\x04\x10\x04\x05\x14\x04\x06\x18\x10\x0B\x28\x10\x0C\x38\x08";
+            table_entry(exchange, place, message, m, k)
+        }
+        Shape::Verify => {
+            let verify =
+                b"\x01\x00\x08\x02\x08\x04\x03\x0C\x04\x04\x10\x04\x05\x14\x04\x06\x18\x10\x0B\x28\x10\x0D\x38\x04\x0E\x3C\x04\x0F\x40\x04\x10\x44\x08\x13\x4C\x04";
+            table_entry(verify, place, message, m, k)
+        }
+        Shape::Alert => {
+            let alert =
+                b"\x01\x00\x08\x02\x08\x04\x03\x0C\x04\x04\x10\x04\x05\x14\x04\x06\x18\x10\x0B\x28\x10\x11\x38\x04\x12\x3C\x06\x13\x42\x02\x13\x44\x04";
+            table_entry(alert, place, message, m, k)
+        }
     }
-    if kind.0 <= Kind::AP_REQUEST {
-        let exchange =
-            b"\x01\x00\x08\x02\x08\x04\x03\x0C\x04\x04\x10\x04\x05\x14\x04\x06\x18\x10\x0B\x28\x10\x0C\x38\x08";
-        return table_entry(exchange, place, message, m, k);
-    }
-    if kind.0 == Kind::VERIFY {
-        let verify =
-            b"\x01\x00\x08\x02\x08\x04\x03\x0C\x04\x04\x10\x04\x05\x14\x04\x06\x18\x10\x0B\x28\x10\x0D\x38\x04\x0E\x3C\x04\x0F\x40\x04\x10\x44\x08\x13\x4C\x04";
-        return table_entry(verify, place, message, m, k);
-    }
-    let alert =
-        b"\x01\x00\x08\x02\x08\x04\x03\x0C\x04\x04\x10\x04\x05\x14\x04\x06\x18\x10\x0B\x28\x10\x11\x38\x04\x12\x3C\x06\x13\x42\x02\x13\x44\x04";
-    table_entry(alert, place, message, m, k)
 }
 
 // What vector k of a message of a kind points at.
 fn vector_what(kind: Kind, k: usize) -> u32
     ensures { result ≡ vector_what (shape_of kind.0) k }
 {
-    if kind.0 <= Kind::ACCEPTOR_NEGO {
-        if k == 0 {
-            return name::SCHEMES;
-        }
-        if k == 1 {
-            return name::EXTENSIONS;
-        }
-        return name::EXTENSION_VALUE;
+    match (kind.shape(), k) {
+        (Shape::Nego, 0) => name::SCHEMES,
+        (Shape::Nego, 1) => name::EXTENSIONS,
+        (Shape::Nego, _) => name::EXTENSION_VALUE,
+        (Shape::Exchange, _) => name::EXCHANGE,
+        (Shape::Verify, _) => name::CHECKSUM_VALUE,
+        (Shape::Alert, 0) => name::ALERTS,
+        (Shape::Alert, _) => name::ALERT_VALUE,
     }
-    if kind.0 <= Kind::AP_REQUEST {
-        return name::EXCHANGE;
-    }
-    if kind.0 == Kind::VERIFY {
-        return name::CHECKSUM_VALUE;
-    }
-    if k == 0 {
-        return name::ALERTS;
-    }
-    name::ALERT_VALUE
 }
 
 // The number of vector k in its list.
 fn vector_number(kind: Kind, k: usize) -> usize
     ensures { result ≡ vector_number (shape_of kind.0) k }
 {
-    if kind.0 <= Kind::ACCEPTOR_NEGO {
-        return k.saturating_sub(2);
+    match kind.shape() {
+        Shape::Nego => k.saturating_sub(2),
+        Shape::Exchange | Shape::Verify => 0,
+        Shape::Alert => k.saturating_sub(1),
     }
-    if kind.0 <= Kind::VERIFY {
-        return 0;
-    }
-    k.saturating_sub(1)
 }
 
 // The entry of the octets that vector k points at.
@@ -173,10 +160,10 @@ fn ids_vector(kind: Kind, m: &[u8]) -> Vector
     requires { header_of (shape_of kind.0) ≤ length m.now }
     ensures { result ≡ ids_vector (shape_of kind.0) m.now }
 {
-    if kind.0 <= Kind::ACCEPTOR_NEGO {
-        return scheme_vector(m);
+    match kind.shape() {
+        Shape::Nego => scheme_vector(m),
+        _ => no_vector(),
     }
-    no_vector()
 }
 
 // The vector of extensions or alerts.
@@ -184,39 +171,33 @@ fn array_vector(kind: Kind, m: &[u8]) -> Vector
     requires { header_of (shape_of kind.0) ≤ length m.now }
     ensures { result ≡ array_vector (shape_of kind.0) m.now }
 {
-    if kind.0 <= Kind::ACCEPTOR_NEGO {
-        return extension_vector(m);
+    match kind.shape() {
+        Shape::Nego => extension_vector(m),
+        Shape::Exchange | Shape::Verify => no_vector(),
+        Shape::Alert => alert_vector(m),
     }
-    if kind.0 <= Kind::VERIFY {
-        return no_vector();
-    }
-    alert_vector(m)
 }
 
 // What the type of an element is.
 fn type_what(kind: Kind) -> u32
     ensures { result ≡ type_what (shape_of kind.0) }
 {
-    if kind.0 <= Kind::ACCEPTOR_NEGO {
-        return name::EXTENSION_TYPE;
+    match kind.shape() {
+        Shape::Nego => name::EXTENSION_TYPE,
+        Shape::Exchange | Shape::Verify => 0,
+        Shape::Alert => name::ALERT_TYPE,
     }
-    if kind.0 <= Kind::VERIFY {
-        return 0;
-    }
-    name::ALERT_TYPE
 }
 
 // What the vector of an element's value is.
 fn value_what(kind: Kind) -> u32
     ensures { result ≡ value_what (shape_of kind.0) }
 {
-    if kind.0 <= Kind::ACCEPTOR_NEGO {
-        return name::EXTENSION_VALUE_VECTOR;
+    match kind.shape() {
+        Shape::Nego => name::EXTENSION_VALUE_VECTOR,
+        Shape::Exchange | Shape::Verify => 0,
+        Shape::Alert => name::ALERT_VALUE_VECTOR,
     }
-    if kind.0 <= Kind::VERIFY {
-        return 0;
-    }
-    name::ALERT_VALUE_VECTOR
 }
 
 // Entry k of those of a message's extensions or alerts.
