@@ -2,7 +2,7 @@
 #![tactic(auto)]
 
 use blanking::blank;
-use console::{Loaded, STDERR, STDIN, STDOUT, load};
+use console::{STDERR, STDIN, STDOUT, load};
 use lines::refused_text;
 use scan::find;
 use std::rt::Files;
@@ -33,10 +33,10 @@ fn write_blanked(token: &mut [u8]) {
 fn blank_file<R: Files>(rt: &R, name: &[u8], buf: &mut [u8]) {
     let loaded = load(rt, name, buf);
     match loaded {
-        Loaded::Octets(n) => {
+        Some(n) => {
             write_blanked(&mut buf[..n]);
         }
-        Loaded::Nothing => {
+        None => {
             io::write_all(STDERR, b"no file\n");
         }
     }

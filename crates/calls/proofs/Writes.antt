@@ -12,8 +12,7 @@ use Rattle.message.specs.Check.{Row}
 use Rattle.message.proofs.Tables.{AllTrue, without}
 use Rattle.put.specs.Put.{put}
 use Rattle.encode.specs.declared.Heading.{Heading}
-use Rattle.encode.specs.declared.Stored.{Stored}
-use Rattle.encode.specs.declared.Stored.TheVariants as variant
+use Rattle.std.specs.Prelude.{Option, Some, None}
 use Rattle.encode.specs.Encode.{Whole, Contents, size_of, has_kind, encodable, written, told, storing, storing_handed}
 use Rattle.encode.proofs.Sizes.{length-encoded}
 use Rattle.conversation.specs.declared.Record.{Record}
@@ -100,12 +99,12 @@ module _ (r : Record) (arrays : Arrays r) (d : List ℕ) (kind : ℕ) (rows : Li
         (appended r d (place_after r kind) (message_of r kind c) (w (wrote r (place_after r kind) (length (message_of r kind c)) (unchanged r)))))
 
 -- ---- a message at the transcript's end
-stored : (s : Stored) (d e : List ℕ) (k : ℕ) → told s d ≡ written k e → d ≡ e
-stored (variant.Next j) d e k h = cc
-stored variant.Nothing d e k h = let z : ◌≡◌ {A = ℕ} 0 1 = cc in absurd (omega arith)
+stored : (s : Option ℕ) (d e : List ℕ) (k : ℕ) → told s d ≡ written k e → d ≡ e
+stored (Some j) d e k h = cc
+stored None d e k h = let z : ◌≡◌ {A = ℕ} 0 1 = cc in absurd (omega arith)
 
 pub appends : (r : Record) → Arrays r → (d : List ℕ) (kind : ℕ) (c : Contents) → Whole c → Ready r d kind c → (h : Heading) → h ≡ heading r kind
-    → (s : Stored) (d' : List ℕ) (v : Contents) → told s d' ≡ storing d r.used h v → v ≡ c → (next : Record)
+    → (s : Option ℕ) (d' : List ℕ) (v : Contents) → told s d' ≡ storing d r.used h v → v ≡ c → (next : Record)
     → next ≡ wrote r (place_after r kind) (size_of c) (unchanged r)
     → Appended r d kind c d' next
 unfolding storing
@@ -122,7 +121,7 @@ appends r arrays d kind c whole ready h h-is s d' v t v-is next n-is =
 -- what is handed over apart and keeps its limits is stored as a list; its size is that of the code
 pub handed-appends : (r : Record) → Arrays r → (d : List ℕ) (kind : ℕ) (c : Contents) → Whole c → Ready r d kind c → (b : Bool) → b ≡ true
     → (h : Heading) → h ≡ heading r kind
-    → (s : Stored) (d' : List ℕ) (v : Contents) → told s d' ≡ storing_handed b d r.used h v → v ≡ c → (size : ℕ) → size ≡ size_of c → (next : Record)
+    → (s : Option ℕ) (d' : List ℕ) (v : Contents) → told s d' ≡ storing_handed b d r.used h v → v ≡ c → (size : ℕ) → size ≡ size_of c → (next : Record)
     → next ≡ wrote r (place_after r kind) size (unchanged r)
     → Appended r d kind c d' next
 unfolding storing_handed

@@ -1,7 +1,7 @@
 -- The loop of windows over a listing: it gets on while there are lines, and stops behind the last. Counts of octets that are read.
 -- Assumes nothing.
 use Prim.Native.Nat.{ℕ, ◌+◌, ◌-◌, ◌<◌, ◌≤◌}
-use mathlib.Core.Path.{◌≡◌, ap, subst}
+use mathlib.Core.Path.{◌≡◌, ap}
 use mathlib.Core.Bool.{true, false}
 use mathlib.Core.Logic.{◌⊎◌, inl, inr}
 use mathlib.Core.List.{List, []}
@@ -10,15 +10,11 @@ use lib.ListN.{length, get_or}
 use lib.Dec.{leb}
 use borrow.Author.Tests.{leb-true, leb-false}
 use Rattle.octets.proofs.Bools.{which}
-use Rattle.io.specs.Counts.{IsPrefixLen}
 use Rattle.windows.specs.declared.Shown.{Shown}
 use Rattle.windows.specs.Windows.{Window, as_window, window_of}
 use Rattle.windows.proofs.Covers.{gets-on, window-octets, window-lines}
 use Rattle.listing.specs.Listing.{lines_of}
 use Rattle.listing.proofs.Bounds.{few-lines}
-use Rattle.console.specs.declared.Loaded.{Loaded}
-use Rattle.console.specs.declared.Loaded.TheVariants as answer
-use Rattle.console.specs.Console.{Holds}
 
 -- the end of every range that is asked for
 abbrev pub END : ℕ
@@ -46,7 +42,3 @@ module _ (ls : List (List ℕ)) (few : length ls < END) (short : (k : ℕ) → l
 -- a listing is no longer than that
 pub listed-few : (s : List ℕ) → length s < END - 1 → length (lines_of s) < END
 listed-few s h = omega (arith, few-lines s)
-
--- the octets of a file that was loaded
-pub loaded : (r : Loaded) (d : List ℕ) (k : ℕ) → Holds r d → r ≡ answer.Octets k → IsPrefixLen k d
-loaded r d k h e = subst (λ (x : Loaded). Holds x d) e h

@@ -2,11 +2,8 @@
 --
 -- Glossary
 --   Holds r d  the answer r counts octets at the front of d, or there is no file
-use Rattle.std.specs.Prelude.{List, ℕ}
+use Rattle.std.specs.Prelude.{List, ℕ, Option, IfSome}
 use Rattle.io.specs.Counts.{IsPrefixLen}
-use Rattle.console.specs.declared.Loaded.{Loaded}
-use Rattle.console.specs.declared.Loaded.TheVariants as answer
 
-abbrev pub Holds : Loaded → List ℕ → Type 0
-Holds (answer.Octets n) d = IsPrefixLen n d
-Holds answer.Nothing d = Unit {0}
+abbrev pub Holds : Option ℕ → List ℕ → Type 0
+Holds r d = IfSome r (λ n. IsPrefixLen n d)

@@ -17,40 +17,30 @@ pub const STDOUT: i32 = 1;
 
 pub const STDERR: i32 = 2;
 
-// What loading a file answers: how many octets stand at the buffer's front, or that there is no file to be read.
-#[derive(Clone, Copy)]
-pub enum Loaded {
-    Octets(usize),
-    Nothing,
-}
-
 // Reads until the buffer is full or the input ends. A read that fails, as that of a folder, leaves nothing to list.
-fn fill<F: Read>(file: &mut F, buf: &mut [u8]) -> Loaded
+fn fill<F: Read>(file: &mut F, buf: &mut [u8]) -> Option<usize>
     ensures { Holds result buf.new }
 {
     let mut count = 0;
     while count < buf.len() {
-        match file.read(&mut buf[count..]) {
-            Ok(0) => return Loaded::Octets(count),
-            Ok(more) => count += more,
-            Err(_) => return Loaded::Nothing,
+        let more = file.read(&mut buf[count..]).ok()?;
+        if more == 0 {
+            break;
         }
+        count += more;
     }
-    Loaded::Octets(count)
+    Some(count)
 }
 
-// The octets of the file with a name, from its first on, as many as the buffer has room for. What is read is the system's to say.
+// The octets of the file with a name, from its first on, as many as the buffer has room for, and their number; `None` where there is no file to be
+// read. What is read is the system's to say.
 // A name that is not UTF-8 counts as that of no file: std opens files by text alone.
-pub fn load<R: Files>(rt: &R, name: &[u8], buf: &mut [u8]) -> Loaded
+pub fn load<R: Files>(rt: &R, name: &[u8], buf: &mut [u8]) -> Option<usize>
     ensures { Holds result buf.new }
 {
-    let Ok(path) = from_utf8(name) else {
-        return Loaded::Nothing;
-    };
-    match fs::open(rt, path) {
-        Ok(mut file) => fill(&mut file, buf),
-        Err(_) => Loaded::Nothing,
-    }
+    let path = from_utf8(name).ok()?;
+    let mut file = fs::open(rt, path).ok()?;
+    fill(&mut file, buf)
 }
 
 // Writes the listing of a token, window by window, and answers the number of its lines.
@@ -71,18 +61,17 @@ pub fn print(fd: i32, token: &[u8]) -> usize
 }
 
 // Lists the token in the file with a name, by way of a buffer that the caller lends.
-pub fn list_file<R: Files>(rt: &R, fd: i32, name: &[u8], buf: &mut [u8]) -> Loaded
+pub fn list_file<R: Files>(rt: &R, fd: i32, name: &[u8], buf: &mut [u8]) -> Option<usize>
     ensures { Holds result buf.new }
 {
     let loaded = load(rt, name, buf);
     match loaded {
-        Loaded::Octets(n) => {
+        Some(n) => {
             print(fd, &buf[..n]);
-            Loaded::Octets(n)
         }
-        Loaded::Nothing => {
+        None => {
             io::write_all(fd, b"no file\n");
-            Loaded::Nothing
         }
     }
+    loaded
 }

@@ -16,15 +16,13 @@
 --   fits_fields c    a scheme list is one of whole ids, extensions and alerts keep their limits, and count and length fit their fields
 --   encodable h c    both of these: there is such a message
 --   Outcome          what a writer leaves: the next place and the lent octets, or the lent octets with nothing written
---   told, storing    the outcome of an answer of src/, and of writing a message into d at a place; storing_handed: where extensions or alerts are handed
---                    over apart
-use Rattle.std.specs.Prelude.{◌≡◌, ℕ, ◌+◌, ◌/◌, ◌%◌, Bool, cond, ◌&&◌, List, [], ◌∷◌, ◌++◌, length, leb, eqb, ℤ}
+--   told, storing    the outcome of an answer of src/, the next place or none, and of writing a message into d at a place; storing_handed: where
+--                    extensions or alerts are handed over apart
+use Rattle.std.specs.Prelude.{◌≡◌, ℕ, ◌+◌, ◌/◌, ◌%◌, Bool, cond, ◌&&◌, List, [], ◌∷◌, ◌++◌, length, leb, eqb, ℤ, Option, Some, None}
 use Rattle.message.specs.Layout.{shape_of, header_of, signature}
 use Rattle.put.specs.Put.{put, octets_of, unsigned32, joined}
 use Rattle.elements.specs.Elements.{Item, offset_of, item_octets, items_size, items_fit}
 use Rattle.encode.specs.declared.Heading.{Heading}
-use Rattle.encode.specs.declared.Stored.{Stored}
-use Rattle.encode.specs.declared.Stored.TheVariants as answer
 
 -- INITIATOR_NEGO, ACCEPTOR_NEGO: "schemes", 16 octets an id; C-22: "up to 8 extensions"
 pub record Offer : Type 0 where
@@ -147,9 +145,9 @@ pub data Outcome : Type 0 where
   written : (next : ℕ) (octets : List ℕ) → Outcome
   unwritten : (octets : List ℕ) → Outcome
 
-abbrev pub told : Stored → List ℕ → Outcome
-told (answer.Next n) d = written n d
-told answer.Nothing d = unwritten d
+abbrev pub told : Option ℕ → List ℕ → Outcome
+told (Some n) d = written n d
+told None d = unwritten d
 
 unfoldable pub storing : List ℕ → ℕ → Heading → Contents → Outcome
 storing d at h c =

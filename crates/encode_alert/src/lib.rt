@@ -7,7 +7,7 @@ ghost use Rattle.elements.specs.Elements.{items_of, elements_fit};
 ghost use Rattle.encode.specs.Encode.{head_fields, alert_fields, encoded, alert_of, told, storing_handed};
 
 use elements::{Elements, fits, offset_of, put_elements};
-use encode::{Heading, Stored, has_room, put_head, put_vector};
+use encode::{Heading, has_room, put_head, put_vector};
 use message::{Kind, field};
 use put::{put_i32, put_octets, put_u32};
 use vector::MessageOffset;
@@ -71,24 +71,19 @@ pub fn write(
     code: i32,
     alerts: Elements,
     values: &[u8],
-) -> Stored
+) -> Option<usize>
     ensures { told result d.new ≡ storing_handed (elements_fit alerts values.now) d.old at heading
         (alert_of scheme code (items_of alerts values.now)) }
 {
     if heading.kind.0 != Kind::ALERT {
-        return Stored::Nothing;
+        return None;
     }
-    if fits(alerts, values) {
-        if has_room(
-            d.len(),
-            at,
-            Kind::ALERT_HEADER_LEN + (field::ELEMENT * alerts.count + values.len()),
-        ) {
-            Stored::Next(put_alert(d, at, heading, scheme, code, alerts, values))
-        } else {
-            Stored::Nothing
-        }
-    } else {
-        Stored::Nothing
+    if !fits(alerts, values) {
+        return None;
     }
+    let size = Kind::ALERT_HEADER_LEN + (field::ELEMENT * alerts.count + values.len());
+    if !has_room(d.len(), at, size) {
+        return None;
+    }
+    Some(put_alert(d, at, heading, scheme, code, alerts, values))
 }

@@ -2,6 +2,7 @@
 -- Assumes nothing.
 use mathlib.Core.Path.{◌≡◌}
 use mathlib.Core.Bool.{Bool, true, false}
+use mathlib.Core.Logic.{◌⊎◌, inl, inr}
 use mathlib.Core.List.{List}
 use Prim.Native.Nat.{ℕ, ◌+◌, ◌≤◌, ◌<◌}
 use lib.ListN.{length}
@@ -13,32 +14,26 @@ use Rattle.encode.specs.Encode.{Payload, of_exchange, encoded, encodable, writte
 use Rattle.encode.proofs.Storing.{unencodable, crowded, roomy, room-given}
 
 module _ (d : List ℕ) (at : ℕ) (h : Heading) (p : Payload) where
-  pub exchange-low : h.kind.0 < 2 → unwritten d ≡ storing d at h (of_exchange p)
+  pub exchange-unfit : (h.kind.0 < 2)
+      ⊎ (((2 ≤ h.kind.0) × (5 < h.kind.0)) ⊎ ((2 ≤ h.kind.0) × (h.kind.0 ≤ 5) × (4294967231 < length p.value)))
+      → unwritten d ≡ storing d at h (of_exchange p)
   unfolding encodable
-  exchange-low k = unencodable d at h (of_exchange p) (simp (lt-leb _ _ k))
+  exchange-unfit (inl k) = unencodable d at h (of_exchange p) (simp (lt-leb _ _ k))
+  exchange-unfit (inr (inl (low, k))) = unencodable d at h (of_exchange p) (simp (le-leb _ _ low, lt-leb _ _ k))
+  exchange-unfit (inr (inr (low, high, k))) = unencodable d at h (of_exchange p) (simp (le-leb _ _ low, le-leb _ _ high, lt-leb _ _ k))
 
-  module _ (low : 2 ≤ h.kind.0) where
-    pub exchange-high : 5 < h.kind.0 → unwritten d ≡ storing d at h (of_exchange p)
+  module _ (low : 2 ≤ h.kind.0) (high : h.kind.0 ≤ 5) (size : length p.value ≤ 4294967231) where
+    can-exchange : encodable h (of_exchange p) ≡ true
     unfolding encodable
-    exchange-high k = unencodable d at h (of_exchange p) (simp (le-leb _ _ low, lt-leb _ _ k))
+    can-exchange = simp (le-leb _ _ low, le-leb _ _ high, le-leb _ _ size)
 
-    module _ (high : h.kind.0 ≤ 5) where
-      pub exchange-long : 4294967231 < length p.value → unwritten d ≡ storing d at h (of_exchange p)
-      unfolding encodable
-      exchange-long k = unencodable d at h (of_exchange p) (simp (le-leb _ _ low, le-leb _ _ high, lt-leb _ _ k))
+    module _ (id : length h.conversation ≡ 16) (whole : length p.scheme ≡ 16) (r : Bool)
+        (r-is : r ≡ leb (at + (64 + length p.value)) (length d)) where
+      pub exchange-crowded : r ≡ false → unwritten d ≡ storing d at h (of_exchange p)
+      exchange-crowded = crowded d at h (of_exchange p) can-exchange id whole r r-is
 
-      module _ (size : length p.value ≤ 4294967231) where
-        can-exchange : encodable h (of_exchange p) ≡ true
-        unfolding encodable
-        can-exchange = simp (le-leb _ _ low, le-leb _ _ high, le-leb _ _ size)
+      pub exchange-roomy : r ≡ true → (d' : List ℕ) (next : ℕ) → Written d at (64 + length p.value) (encoded h (of_exchange p)) d' next
+          → written next d' ≡ storing d at h (of_exchange p)
+      exchange-roomy = roomy d at h (of_exchange p) can-exchange id whole r r-is
 
-        module _ (id : length h.conversation ≡ 16) (whole : length p.scheme ≡ 16) (r : Bool)
-            (r-is : r ≡ leb (at + (64 + length p.value)) (length d)) where
-          pub exchange-crowded : r ≡ false → unwritten d ≡ storing d at h (of_exchange p)
-          exchange-crowded = crowded d at h (of_exchange p) can-exchange id whole r r-is
-
-          pub exchange-roomy : r ≡ true → (d' : List ℕ) (next : ℕ) → Written d at (64 + length p.value) (encoded h (of_exchange p)) d' next
-              → written next d' ≡ storing d at h (of_exchange p)
-          exchange-roomy = roomy d at h (of_exchange p) can-exchange id whole r r-is
-
-pub ruleset storings = (exchange-low, exchange-high, exchange-long, exchange-crowded, exchange-roomy, room-given)
+pub ruleset storings = (exchange-unfit, exchange-crowded, exchange-roomy, room-given)

@@ -5,7 +5,7 @@ ghost use Rattle.std.specs.Prelude.{◌≡◌, ◌+◌, ◌≤◌, length};
 ghost use Rattle.put.specs.Put.{Written};
 ghost use Rattle.encode.specs.Encode.{encoded, exchange_of, told, storing};
 
-use encode::{Heading, Stored, has_room, put_head, put_octet_vector};
+use encode::{Heading, has_room, put_head, put_octet_vector};
 use message::Kind;
 use put::put_octets;
 use vector::MessageOffset;
@@ -32,22 +32,21 @@ fn put_exchange(d: &mut [u8], at: usize, heading: Heading, scheme: [u8; 16], val
 }
 
 // Writes a message that carries an exchange or metadata at a place.
-pub fn write(d: &mut [u8], at: usize, heading: Heading, scheme: [u8; 16], value: &[u8]) -> Stored
+pub fn write(
+    d: &mut [u8],
+    at: usize,
+    heading: Heading,
+    scheme: [u8; 16],
+    value: &[u8],
+) -> Option<usize>
     ensures { told result d.new ≡ storing d.old at heading (exchange_of scheme value.now) }
 {
-    if heading.kind.0 < Kind::INITIATOR_META_DATA {
-        return Stored::Nothing;
+    let kind = heading.kind.0;
+    if kind < Kind::INITIATOR_META_DATA || Kind::AP_REQUEST < kind || MOST < value.len() {
+        return None;
     }
-    if Kind::AP_REQUEST < heading.kind.0 {
-        return Stored::Nothing;
+    if !has_room(d.len(), at, Kind::EXCHANGE_HEADER_LEN + value.len()) {
+        return None;
     }
-    let length = value.len();
-    if MOST < length {
-        return Stored::Nothing;
-    }
-    if has_room(d.len(), at, Kind::EXCHANGE_HEADER_LEN + length) {
-        Stored::Next(put_exchange(d, at, heading, scheme, value))
-    } else {
-        Stored::Nothing
-    }
+    Some(put_exchange(d, at, heading, scheme, value))
 }

@@ -2,6 +2,7 @@
 -- Assumes nothing.
 use mathlib.Core.Path.{◌≡◌, sym, ap, ◌∙◌}
 use mathlib.Core.Bool.{Bool, true, false}
+use mathlib.Core.Logic.{◌⊎◌, inl, inr}
 use mathlib.Core.List.{List, [], ◌∷◌, ◌++◌}
 use Prim.Native.Nat.{ℕ, ◌+◌, ◌*◌, ◌/◌, ◌%◌, ◌≤◌, ◌<◌}
 use lib.ListN.{length}
@@ -54,36 +55,32 @@ module _ (d : List ℕ) (at : ℕ) (h : Heading) (random schemes : List ℕ) (e 
   unfolding encodable
   nego-kind k = unhanded d at h _ _ (simp (lt-leb _ _ k))
 
-  module _ (kind : h.kind.0 ≤ 1) where
-    pub nego-parts : (length schemes % 16 ≡ 0 → ⊥) → Left
-    unfolding encodable
-    nego-parts k = unhanded d at h _ _ (simp (le-leb _ _ kind, ne_eqb _ _ k))
+  pub nego-list : h.kind.0 ≤ 1 → (length schemes % 16 ≡ 0 → ⊥) ⊎ ((length schemes % 16 ≡ 0) × (1048560 < length schemes)) → Left
+  unfolding encodable
+  nego-list kind (inl k) = unhanded d at h _ _ (simp (le-leb _ _ kind, ne_eqb _ _ k))
+  nego-list kind (inr (ids, k)) = unhanded d at h _ _ (simp (le-leb _ _ kind, eq-eqb _ _ ids, lt-leb _ _ k))
 
-    module _ (ids : length schemes % 16 ≡ 0) where
-      pub nego-many : 1048560 < length schemes → Left
+  module _ (f : Bool) (f-is : f ≡ elements_fit e v) where
+    pub nego-unfit : f ≡ false → Left
+    unfolding storing_handed
+    nego-unfit k = rw (sym f-is ∙ k)
+
+    module _ (kind : h.kind.0 ≤ 1) (ids : length schemes % 16 ≡ 0) (count : length schemes ≤ 1048560) (fit : f ≡ true)
+        (id : length h.conversation ≡ 16) (whole : length random ≡ 32) (r : Bool)
+        (r-is : r ≡ leb (at + (96 + length schemes + (12 * e.count + length v))) (length d)) where
+      can-nego : encodable h (nego_of random schemes (items_of e v)) ≡ true
       unfolding encodable
-      nego-many k = unhanded d at h _ _ (simp (le-leb _ _ kind, eq-eqb _ _ ids, lt-leb _ _ k))
+      can-nego = simp (le-leb _ _ kind, eq-eqb _ _ ids, le-leb _ _ count, (handed e v (sym f-is ∙ fit)).fit)
 
-      module _ (count : length schemes ≤ 1048560) (f : Bool) (f-is : f ≡ elements_fit e v) where
-        pub nego-unfit : f ≡ false → Left
-        unfolding storing_handed
-        nego-unfit k = rw (sym f-is ∙ k)
+      sized : size_of (nego_of random schemes (items_of e v)) ≡ 96 + length schemes + (12 * e.count + length v)
+      sized = rw (size-given e v (sym f-is ∙ fit))
 
-        module _ (fit : f ≡ true) (id : length h.conversation ≡ 16) (whole : length random ≡ 32) (r : Bool)
-            (r-is : r ≡ leb (at + (96 + length schemes + (12 * e.count + length v))) (length d)) where
-          can-nego : encodable h (nego_of random schemes (items_of e v)) ≡ true
-          unfolding encodable
-          can-nego = simp (le-leb _ _ kind, eq-eqb _ _ ids, le-leb _ _ count, (handed e v (sym f-is ∙ fit)).fit)
+      pub nego-crowded : r ≡ false → Left
+      nego-crowded k = handed-on d at h _ _ _ (sym f-is ∙ fit) (crowded d at h _ can-nego id whole r (rw sized r-is) k)
 
-          sized : size_of (nego_of random schemes (items_of e v)) ≡ 96 + length schemes + (12 * e.count + length v)
-          sized = rw (size-given e v (sym f-is ∙ fit))
+      pub nego-roomy : r ≡ true → (d' : List ℕ) (next : ℕ)
+          → Written d at (96 + length schemes + (12 * e.count + length v)) (encoded h (nego_of random schemes (items_of e v))) d' next
+          → written next d' ≡ storing_handed (elements_fit e v) d at h (nego_of random schemes (items_of e v))
+      nego-roomy k d' next w = handed-on d at h _ _ _ (sym f-is ∙ fit) (roomy d at h _ can-nego id whole r (rw sized r-is) k d' next (rw sized w))
 
-          pub nego-crowded : r ≡ false → Left
-          nego-crowded k = handed-on d at h _ _ _ (sym f-is ∙ fit) (crowded d at h _ can-nego id whole r (rw sized r-is) k)
-
-          pub nego-roomy : r ≡ true → (d' : List ℕ) (next : ℕ)
-              → Written d at (96 + length schemes + (12 * e.count + length v)) (encoded h (nego_of random schemes (items_of e v))) d' next
-              → written next d' ≡ storing_handed (elements_fit e v) d at h (nego_of random schemes (items_of e v))
-          nego-roomy k d' next w = handed-on d at h _ _ _ (sym f-is ∙ fit) (roomy d at h _ can-nego id whole r (rw sized r-is) k d' next (rw sized w))
-
-pub ruleset storings = (nego-kind, nego-parts, nego-many, nego-unfit, nego-crowded, nego-roomy, room-given, few-given, short-given, fit-given)
+pub ruleset storings = (nego-kind, nego-unfit, nego-crowded, nego-roomy, room-given, few-given, short-given, fit-given)

@@ -7,7 +7,7 @@ ghost use Rattle.elements.specs.Elements.{items_of, elements_fit};
 ghost use Rattle.encode.specs.Encode.{head_fields, nego_fields, encoded, nego_of, told, storing_handed};
 
 use elements::{Elements, fits, offset_of, put_elements};
-use encode::{Heading, Stored, has_room, put_head, put_vector};
+use encode::{Heading, has_room, put_head, put_vector};
 use message::{Kind, field};
 use put::put_octets;
 use vector::MessageOffset;
@@ -30,10 +30,9 @@ fn put_header(
     ensures { Written d.old at 96 (joined (head_fields heading size ++ nego_fields random schemes offset.0 extensions))
         d.new result }
 {
-    let version = [0u8; 8];
     let random_at = put_head(d, at, heading, size);
     let version_at = put_octets(d, random_at, &random);
-    let schemes_at = put_octets(d, version_at, &version);
+    let schemes_at = put_octets(d, version_at, &[0u8; 8]);
     let extensions_at = put_vector(d, schemes_at, MessageOffset(Kind::NEGO_HEADER), schemes);
     put_vector(d, extensions_at, offset, extensions)
 }
@@ -83,31 +82,23 @@ pub fn write(
     schemes: &[u8],
     extensions: Elements,
     values: &[u8],
-) -> Stored
+) -> Option<usize>
     ensures { told result d.new ≡ storing_handed (elements_fit extensions values.now) d.old at heading
         (nego_of random schemes.now (items_of extensions values.now)) }
 {
     if Kind::ACCEPTOR_NEGO < heading.kind.0 {
-        return Stored::Nothing;
+        return None;
     }
     let length = schemes.len();
-    if length % field::ID != 0 {
-        return Stored::Nothing;
+    if length % field::ID != 0 || MOST < length {
+        return None;
     }
-    if MOST < length {
-        return Stored::Nothing;
+    if !fits(extensions, values) {
+        return None;
     }
-    if fits(extensions, values) {
-        if has_room(
-            d.len(),
-            at,
-            Kind::NEGO_HEADER_LEN + length + (field::ELEMENT * extensions.count + values.len()),
-        ) {
-            Stored::Next(put_nego(d, at, heading, random, schemes, extensions, values))
-        } else {
-            Stored::Nothing
-        }
-    } else {
-        Stored::Nothing
+    let size = Kind::NEGO_HEADER_LEN + length + (field::ELEMENT * extensions.count + values.len());
+    if !has_room(d.len(), at, size) {
+        return None;
     }
+    Some(put_nego(d, at, heading, random, schemes, extensions, values))
 }

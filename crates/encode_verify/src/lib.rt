@@ -5,7 +5,7 @@ ghost use Rattle.std.specs.Prelude.{◌≡◌, ◌+◌, ◌≤◌, length};
 ghost use Rattle.put.specs.Put.{Written};
 ghost use Rattle.encode.specs.Encode.{encoded, verify_of, told, storing};
 
-use encode::{Heading, Stored, has_room, put_head, put_octet_vector};
+use encode::{Heading, has_room, put_head, put_octet_vector};
 use message::{Kind, verify};
 use put::{put_i32, put_octets, put_u32};
 use vector::MessageOffset;
@@ -50,19 +50,14 @@ pub fn write(
     scheme: [u8; 16],
     checksum: i32,
     value: &[u8],
-) -> Stored
+) -> Option<usize>
     ensures { told result d.new ≡ storing d.old at heading (verify_of scheme checksum value.now) }
 {
-    if heading.kind.0 != Kind::VERIFY {
-        return Stored::Nothing;
+    if heading.kind.0 != Kind::VERIFY || MOST < value.len() {
+        return None;
     }
-    let length = value.len();
-    if MOST < length {
-        return Stored::Nothing;
+    if !has_room(d.len(), at, Kind::VERIFY_HEADER_LEN + value.len()) {
+        return None;
     }
-    if has_room(d.len(), at, Kind::VERIFY_HEADER_LEN + length) {
-        Stored::Next(put_verify(d, at, heading, scheme, checksum, value))
-    } else {
-        Stored::Nothing
-    }
+    Some(put_verify(d, at, heading, scheme, checksum, value))
 }

@@ -3,7 +3,7 @@
 
 ghost use Rattle.std.specs.Prelude.{◌<◌, length};
 
-use console::{Loaded, STDIN, STDOUT, load};
+use console::{STDIN, STDOUT, load};
 use envelope_lines::envelope_text;
 use fields::part;
 use scan::find;
@@ -23,10 +23,10 @@ fn show<R: Files>(rt: &R, name: &[u8]) {
     io::write_all(STDOUT, b"\n");
     let mut buf = [0u8; 65536];
     match load(rt, name, &mut buf) {
-        Loaded::Octets(n) => {
+        Some(n) => {
             say(part(&buf, 0, n));
         }
-        Loaded::Nothing => {
+        None => {
             io::write_all(STDOUT, b"no file\n");
         }
     }

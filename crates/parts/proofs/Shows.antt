@@ -1,7 +1,7 @@
 -- The vector readers' answers, in the words of the code.
 -- Assumes nothing.
 use Prim.Native.Nat.{ℕ, zero, suc, ◌+◌, ◌*◌, ◌≤◌, ◌<◌}
-use mathlib.Core.Path.{◌≡◌, refl, sym, ap, ◌∙◌}
+use mathlib.Core.Path.{◌≡◌, refl, ap, ◌∙◌}
 use mathlib.Core.Bool.{true, false}
 use mathlib.Core.Logic.{◌⊎◌, inl, inr}
 use mathlib.Core.List.{List, []}
@@ -28,7 +28,7 @@ shown-short header m v h = go (which (keeps_rule header (length m) v)) where
   empty (suc n) e t = let i = rule-inside header (length m) v t (λ z. omega arith) in absurd (omega (arith, i))
 
   go : (keeps_rule header (length m) v ≡ true) ⊎ (keeps_rule header (length m) v ≡ false) → [] ≡ shown header m v
-  go (inr t) = shown-none header m v false (sym t) refl
+  go (inr t) = shown-none header m v t
   go (inl t) = shown-empty header m v (empty (extent v) refl t)
 
 -- as many elements are read as are asked for

@@ -3,7 +3,7 @@ ghost use Rattle.console.specs.Console.{Holds};
 
 use super::end::{End, Ends, both_closed, end_of, held, moved, used, with_end};
 use commands::make;
-use console::{Loaded, STDOUT, load};
+use console::{STDOUT, load};
 use fields::part;
 use reports::report;
 use scan::find;
@@ -125,18 +125,17 @@ fn play_front(buf: &[u8], n: usize) {
 }
 
 // Plays the script in the file with a name, by way of a buffer that the caller lends, and writes what its calls answer to standard output.
-pub fn play_file<R: Files>(rt: &R, name: &[u8], buf: &mut [u8]) -> Loaded
+pub fn play_file<R: Files>(rt: &R, name: &[u8], buf: &mut [u8]) -> Option<usize>
     ensures { Holds result buf.new }
 {
     let loaded = load(rt, name, buf);
     match loaded {
-        Loaded::Octets(n) => {
+        Some(n) => {
             play_front(buf, n);
-            Loaded::Octets(n)
         }
-        Loaded::Nothing => {
+        None => {
             io::write_all(STDOUT, b"no file\n");
-            Loaded::Nothing
         }
     }
+    loaded
 }

@@ -2,12 +2,11 @@
 -- Assumes nothing.
 use mathlib.Core.Path.{◌≡◌, refl, sym, ap, ◌∙◌}
 use mathlib.Core.List.{List, [], ◌∷◌, ◌++◌, append_assoc, append-nil}
-use Prim.Native.Nat.{ℕ, ◌+◌, ◌<◌, ◌≤◌}
+use Prim.Native.Nat.{ℕ, ◌+◌, ◌≤◌}
 use native.Mathlib.Nat.{add-zero, add_assoc}
-use native.Mathlib.Numerals.{add-one}
 use native.Mathlib.Omega.{arith}
-use lib.ListN.{length, drop, take, get_or, set, length-append, length-drop, take-append-drop}
-use lib.Seq.{drop-drop, drop_at, take_at, length-take-le, paste, paste-suc, take-length}
+use lib.ListN.{length, drop, take, length-append, length-drop, take-append-drop}
+use lib.Seq.{drop-drop, drop_at, take_at, length-take-le, paste, take-length}
 use Rattle.put.specs.Put.{put, octets_of, joined, Written}
 
 pub put-none : (d : List ℕ) (at : ℕ) → put d at [] ≡ d
@@ -68,14 +67,10 @@ pub wrote : {d d2 : List ℕ} {vs : List (List ℕ)} {at a2 : ℕ} (n : ℕ) →
     → Written d at n (joined vs) d2 a2
 wrote {d} {d2} {vs} {at} n w e h = record { size = e; after = omega (arith, wrote_after w); holds = wrote-holds w (omega arith) }
 
--- a copy octet by octet: `paste d at v i` is d after i octets
+-- octets copied into a part of a slice
 pub copied : (d : List ℕ) (at : ℕ) (v : List ℕ) → paste d at v (length v) ≡ put d at v
 unfolding put
 copied d at v = rw take-length
-
-pub copy_step : (d : List ℕ) (at : ℕ) (v : List ℕ) (i : ℕ) → at + length v ≤ length d → i < length v
-    → set (paste d at v i) (at + i) (get_or v i 0) ≡ paste d at v (i + 1)
-copy_step d at v i h k = rw add-one (paste-suc d at v i 0 (omega arith) k)
 
 pub as_number : {d d' : List ℕ} {at x y next : ℕ} (k : ℕ) → x ≡ y → Written d at k (octets_of k x) d' next → Written d at k (octets_of k y) d' next
 as_number {x} {y} k e w = rw (← e) w

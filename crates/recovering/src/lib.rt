@@ -5,7 +5,6 @@ ghost use Rattle.std.specs.Prelude.{◌≡◌, length};
 ghost use Rattle.console.specs.Console.{Holds};
 ghost use Rattle.recovery.specs.Recovery.{recovered_lines};
 
-use console::Loaded;
 use std::rt::Files;
 
 // Writes the lines of a file, window by window, and answers the number of its lines.
@@ -26,18 +25,17 @@ pub fn print(fd: i32, file: &[u8]) -> usize
 }
 
 // Lists what can still be read of the file with a name, by way of a buffer that the caller lends.
-pub fn recover_file<R: Files>(rt: &R, fd: i32, name: &[u8], buf: &mut [u8]) -> Loaded
+pub fn recover_file<R: Files>(rt: &R, fd: i32, name: &[u8], buf: &mut [u8]) -> Option<usize>
     ensures { Holds result buf.new }
 {
     let loaded = console::load(rt, name, buf);
     match loaded {
-        Loaded::Octets(n) => {
+        Some(n) => {
             print(fd, &buf[..n]);
-            Loaded::Octets(n)
         }
-        Loaded::Nothing => {
+        None => {
             io::write_all(fd, b"no file\n");
-            Loaded::Nothing
         }
     }
+    loaded
 }

@@ -3,7 +3,7 @@
 
 ghost use Rattle.console.specs.Console.{Holds};
 
-use console::{Loaded, STDOUT, load};
+use console::{STDOUT, load};
 use fields::part;
 use replay_case::{CaseText, read_case};
 use replaying::{Found, Marks};
@@ -11,26 +11,6 @@ use std::rt::Files;
 use turns::show_replay;
 
 mod turns;
-
-// Whether a file was read, and how many octets of it.
-#[derive(Clone, Copy)]
-struct Opened {
-    found: bool,
-    octets: usize,
-}
-
-fn file_of(loaded: Loaded) -> Opened {
-    match loaded {
-        Loaded::Octets(n) => Opened {
-            found: true,
-            octets: n,
-        },
-        Loaded::Nothing => Opened {
-            found: false,
-            octets: 0,
-        },
-    }
-}
 
 // The marks of a side: four digits say no more than 65,535.
 fn marks_of(n: u32) -> u16 {
@@ -41,11 +21,11 @@ fn marks_of(n: u32) -> u16 {
 fn replay_files<R: Files>(rt: &R, c: CaseText, text: &[u8], ilist: &[u8], alist: &[u8]) {
     let mut ibuf = [0u8; 65536];
     let mut abuf = [0u8; 65536];
-    let iopened = file_of(load(rt, part(text, c.initiator.from, c.initiator.end), &mut ibuf));
-    let aopened = file_of(load(rt, part(text, c.acceptor.from, c.acceptor.end), &mut abuf));
+    let iloaded = load(rt, part(text, c.initiator.from, c.initiator.end), &mut ibuf);
+    let aloaded = load(rt, part(text, c.acceptor.from, c.acceptor.end), &mut abuf);
     let found = Found {
-        initiator: iopened.found,
-        acceptor: aopened.found,
+        initiator: iloaded.is_some(),
+        acceptor: aloaded.is_some(),
     };
     let marks = Marks {
         initiator: marks_of(c.i.marks),
@@ -56,8 +36,8 @@ fn replay_files<R: Files>(rt: &R, c: CaseText, text: &[u8], ilist: &[u8], alist:
         alist,
         marks,
         found,
-        part(&ibuf, 0, iopened.octets),
-        part(&abuf, 0, aopened.octets),
+        part(&ibuf, 0, iloaded.unwrap_or(0)),
+        part(&abuf, 0, aloaded.unwrap_or(0)),
     );
 }
 
@@ -91,18 +71,17 @@ fn replay_front<R: Files>(rt: &R, buf: &[u8], n: usize) {
 }
 
 // Replays the case in the file with a name, by way of a buffer that the caller lends, and writes what is to be seen of it to standard output.
-pub fn replay_file<R: Files>(rt: &R, name: &[u8], buf: &mut [u8]) -> Loaded
+pub fn replay_file<R: Files>(rt: &R, name: &[u8], buf: &mut [u8]) -> Option<usize>
     ensures { Holds result buf.new }
 {
     let loaded = load(rt, name, buf);
     match loaded {
-        Loaded::Octets(n) => {
+        Some(n) => {
             replay_front(rt, buf, n);
-            Loaded::Octets(n)
         }
-        Loaded::Nothing => {
+        None => {
             io::write_all(STDOUT, b"no file\n");
-            Loaded::Nothing
         }
     }
+    loaded
 }

@@ -1,7 +1,7 @@
 // Counts the files whose names stand on standard input, one a line, and prints the tally. Names beyond 1,000 aren't opened.
 #![tactic(auto)]
 
-use console::{Loaded, STDERR, STDIN, STDOUT, load};
+use console::{STDERR, STDIN, STDOUT, load};
 use scan::find;
 use std::io::IsTerminal;
 use std::rt::Files;
@@ -23,11 +23,11 @@ struct Week {
 fn count_by<R: Files>(rt: &R, t: Tally, name: &[u8], buf: &mut [u8]) -> Tally {
     let loaded = load(rt, name, buf);
     match loaded {
-        Loaded::Octets(n) => {
+        Some(n) => {
             let counted = count_next(t, &buf[..n]);
             counted.tally
         }
-        Loaded::Nothing => {
+        None => {
             let counted = count_missing(t);
             counted.tally
         }

@@ -3,7 +3,7 @@
 
 ghost use Rattle.console.specs.Console.{Holds};
 
-use console::{Loaded, STDOUT, load, print};
+use console::{STDOUT, load, print};
 use envelope_lines::{begun, envelope_text, token};
 use fields::part;
 use std::rt::Files;
@@ -20,18 +20,17 @@ fn show(s: &[u8]) {
 }
 
 // Writes what the envelope in the file with a name says to standard output, by way of a buffer that the caller lends.
-pub fn unwrap_file<R: Files>(rt: &R, name: &[u8], buf: &mut [u8]) -> Loaded
+pub fn unwrap_file<R: Files>(rt: &R, name: &[u8], buf: &mut [u8]) -> Option<usize>
     ensures { Holds result buf.new }
 {
     let loaded = load(rt, name, buf);
     match loaded {
-        Loaded::Octets(n) => {
+        Some(n) => {
             show(part(buf, 0, n));
-            Loaded::Octets(n)
         }
-        Loaded::Nothing => {
+        None => {
             io::write_all(STDOUT, b"no file\n");
-            Loaded::Nothing
         }
     }
+    loaded
 }

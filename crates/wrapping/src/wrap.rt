@@ -2,7 +2,7 @@
 ghost use Rattle.console.specs.Console.{Holds};
 
 use super::draft::{Draft, bad, empty, started, with_octets, with_state};
-use console::{Loaded, STDOUT, load};
+use console::{STDOUT, load};
 use envelope_lines::{refused_line, wrote_line};
 use envelope_script::{Line, read_line};
 use envelope_write::{Stored, write_init, write_resp};
@@ -137,18 +137,17 @@ fn wrap_front(buf: &[u8], n: usize) {
 }
 
 // Wraps the text in the file with a name, by way of a buffer that the caller lends, and writes the answer to standard output.
-pub fn wrap_file<R: Files>(rt: &R, name: &[u8], buf: &mut [u8]) -> Loaded
+pub fn wrap_file<R: Files>(rt: &R, name: &[u8], buf: &mut [u8]) -> Option<usize>
     ensures { Holds result buf.new }
 {
     let loaded = load(rt, name, buf);
     match loaded {
-        Loaded::Octets(n) => {
+        Some(n) => {
             wrap_front(buf, n);
-            Loaded::Octets(n)
         }
-        Loaded::Nothing => {
+        None => {
             io::write_all(STDOUT, b"no file\n");
-            Loaded::Nothing
         }
     }
+    loaded
 }

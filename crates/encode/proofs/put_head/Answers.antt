@@ -5,16 +5,6 @@ use Rattle.put.proofs.Laws.{wrote, step, done, as_number}
 use borrow.Author.Rules.{rules}
 use Rattle.encode.proofs.put_head.Goals as goal
 
-pub slice_bounds-put_octets-end-2 : goal.slice_bounds-put_octets-end-2
-slice_bounds-put_octets-end-2 c =
-    let id : length c.args.heading.conversation ≡ 16 = search rules in
-    search rules
-
-pub put_octets-requires : goal.put_octets-requires
-put_octets-requires c =
-    let id : length c.args.heading.conversation ≡ 16 = search rules in
-    search rules
-
 pub returns : goal.returns
 returns c =
     let id : length c.args.heading.conversation ≡ 16 = search rules in

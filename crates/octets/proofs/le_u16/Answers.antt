@@ -1,21 +1,6 @@
-use Prim.Native.Nat.{◌+◌}
-use native.Mathlib.Omega.{arith}
-use native.Mathlib.Nat.{add-zero}
-use Rattle.octets.specs.Octets.{le}
+use Rattle.std.proofs.Common.{◌∙◌}
+use Rattle.octets.proofs.Le.{from_le}
 use Rattle.octets.proofs.le_u16.Goals as goal
 
-pub overflow_cast-result : goal.overflow_cast-result
-overflow_cast-result c = omega (arith, c.shared_slice_known-1.given c.args.at)
-
-pub overflow_cast-result-2 : goal.overflow_cast-result-2
-overflow_cast-result-2 c = omega (arith, c.shared_slice_known-2-1.given (c.args.at + 1))
-
-pub overflow_mul-result : goal.overflow_mul-result
-overflow_mul-result c = omega (arith, c.shared_slice_known-2-1.given (c.args.at + 1))
-
-pub overflow_add-result-2 : goal.overflow_add-result-2
-overflow_add-result-2 c = omega (arith, c.shared_slice_known-1.given c.args.at, c.shared_slice_known-2-1.given (c.args.at + 1))
-
 pub returns : goal.returns
-unfolding le
-returns c = simp add-zero (omega arith)
+returns c = rw c.octets_at.ensures at c.from_le_bytes.ensures ∙ from_le 1 c.args.s.now c.args.at

@@ -1,5 +1,6 @@
-use Rattle.octets.proofs.Le.{le-add}
+use Rattle.std.proofs.Common.{◌∙◌}
+use Rattle.octets.proofs.Le.{from_le}
 use Rattle.octets.proofs.le_u32.Goals as goal
 
 pub returns : goal.returns
-returns c = simp (le-add 2 2, c.le_u16.ensures, c.le_u16-2.ensures)
+returns c = rw c.octets_at.ensures at c.from_le_bytes.ensures ∙ from_le 3 c.args.s.now c.args.at

@@ -1,17 +1,15 @@
-use Rattle.std.proofs.Common.{arith}
-use Rattle.scan.proofs.Steps.{found, passed, ended}
+use Rattle.std.proofs.Common.{rules, tests, ◌==◌}
+use Rattle.std.proofs.lemmas.Iterator.{YieldsList-from_slice}
+use Rattle.std.proofs.lemmas.Iterator.Search.{position_from_yields_List}
+use Rattle.scan.proofs.Steps.{found}
 use Rattle.scan.proofs.find.Goals as goal
 
-pub returns-then-s-at-clause-place : goal.returns-then-s-at-clause-place
-returns-then-s-at-clause-place c =
-    omega (arith, found c.args.s.now c.args.to c.loop-at.at c.args.octet (omega arith) c.requires.within c.if-s-at.true)
+pub returns-in-Some-clause-place : goal.returns-in-Some-clause-place
+returns-in-Some-clause-place c =
+    let e = position_from_yields_List (λ x. x == c.args.octet) _ _ c.position.result c.position.ensures.ran (YieldsList-from_slice _ c.iter.ensures.rest) (λ x b q k. search (rules, tests)) in
+    rw c.in-Some.is at (found c.args.octet c.args.s.now c.args.from c.args.to c.requires.in_order c.requires.within _ e)
 
-pub loop-at-preserved : goal.loop-at-preserved
-loop-at-preserved c = record {
-  onward = omega arith;
-  inside = omega arith;
-  place = omega (arith, passed c.args.s.now c.args.to c.loop-at.at c.args.octet (omega arith) c.requires.within c.if-s-at.false);
-}
-
-pub returns-clause-place : goal.returns-clause-place
-returns-clause-place c = omega (arith, ended c.args.s.now c.args.to c.loop-at.at c.args.octet (omega arith) c.requires.within)
+pub returns-in-None-clause-place : goal.returns-in-None-clause-place
+returns-in-None-clause-place c =
+    let e = position_from_yields_List (λ x. x == c.args.octet) _ _ c.position.result c.position.ensures.ran (YieldsList-from_slice _ c.iter.ensures.rest) (λ x b q k. search (rules, tests)) in
+    rw c.in-None.is at (found c.args.octet c.args.s.now c.args.from c.args.to c.requires.in_order c.requires.within _ e)
