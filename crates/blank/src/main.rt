@@ -6,26 +6,22 @@ use console::{STDERR, STDIN, STDOUT, load};
 use lines::refused_text;
 use scan::find;
 use std::rt::Files;
-use token::Answer;
-use vector::TokenPlace;
+use token::Refused;
 
 // The only line of a refused token.
-fn write_refusal(n: u32, place: TokenPlace) {
+fn write_refusal(refused: Refused) {
     let mut text = [0u8; 128];
-    let end = refused_text(&mut text, n, place);
+    let end = refused_text(&mut text, refused.refusal.number(), refused.place);
     io::write_all(STDERR, &text[..end]);
 }
 
 // A token, blanked; of a refused one only what it is refused with.
 fn write_blanked(token: &mut [u8]) {
-    let answer = blank(token);
-    match answer {
-        Answer::Messages(_) => {
+    match blank(token) {
+        Ok(_) => {
             io::write_all(STDOUT, &token[..]);
         }
-        Answer::Refused(n, place) => {
-            write_refusal(n, place);
-        }
+        Err(refused) => write_refusal(refused),
     }
 }
 

@@ -16,8 +16,9 @@ use Rattle.text.proofs.Pieces.{then, front-is, same-room}
 use Rattle.put.specs.Put.{joined}
 use Rattle.vector.specs.declared.TokenPlace.{TokenPlace}
 use Rattle.message.specs.declared.Header.{Header}
-use Rattle.message.specs.declared.Read.{Read}
-use Rattle.message.specs.declared.Read.TheVariants as answer
+use Rattle.std.proofs.Common.{Result, Ok, Err}
+use Rattle.refusal.specs.declared.Refusal.{Refusal}
+use Rattle.refusal.specs.Refusals.{number_of}
 use Rattle.message.specs.Layout.{head_of, size, front}
 use Rattle.message.specs.Check.{message_rows, message_verdict, said, fields_of}
 use Rattle.message.proofs.Tables.{verdict-read, verdict-refused}
@@ -71,15 +72,15 @@ pub taken-room : (s : Scan) (n : ℕ) → InFile s n → s.taken + 1 < 2 ^ 32
 taken-room s n h = omega (arith, h.short, h.few)
 
 -- one turn, by what the message's reading answers
-module _ (rest : List ℕ) (r : Read) (r-is : said r ≡ message_verdict rest) (s : Scan) (d : List ℕ) where
-  pub turn-skipped : (n : ℕ) → r ≡ answer.Refused n
+module _ (rest : List ℕ) (r : Result Header Refusal) (r-is : said r ≡ message_verdict rest) (s : Scan) (d : List ℕ) where
+  pub turn-skipped : (f : Refusal) → r ≡ Err f
       → scanned (record { progress = s.progress; place = record { 0 = s.place.0 + 1 }; end = s.end; taken = s.taken }) d ≡ advanced rest s d
   unfolding advanced readable message_verdict
-  turn-skipped n e =
-      let no = verdict-refused (message_rows rest) (fields_of (head_of rest)) n (sym r-is ∙ ap said e) in
+  turn-skipped f e =
+      let no = verdict-refused (message_rows rest) (fields_of (head_of rest)) (number_of f) (sym r-is ∙ ap said e) in
       rw no.0
 
-  module _ (h : Header) (e : r ≡ answer.Message h) where
+  module _ (h : Header) (e : r ≡ Ok h) where
     reads : (readable rest ≡ true) × (fields_of (head_of rest) ≡ h)
     unfolding readable message_verdict
     reads = verdict-read (message_rows rest) (fields_of (head_of rest)) h (sym r-is ∙ ap said e)

@@ -23,11 +23,14 @@ unfolding recovered_lines recovery_lines texts
 lines_long s h = rw (lt-leb _ _ h)
 
 module _ (file : List ℕ) (from end : ℕ) (d : List ℕ) (p : Progress) (p-is : p ≡ start_of from end) where
-  pub window-refused : 65535 < length file → (t : Progress) (d' : List ℕ) → within t d' ≡ step (within p d) (joined (refused_line 1 0)) → (x : Shown)
+  pub window-refused : 65535 < length file → (n : ℕ) → n ≡ 1 → (t : Progress) (d' : List ℕ)
+      → within t d' ≡ step (within p d) (joined (refused_line n 0)) → (x : Shown)
       → x ≡ shown_so_far t → as_window x d' ≡ window_of (recovered_lines file) from end d
   unfolding steps
-  window-refused h t d' b x c =
-      window-is (recovered_lines file) from end d p t d' p-is (b ∙ sym (ap (λ (l : List (List ℕ)). steps l (within p d)) (lines_long file h))) x c
+  window-refused h n n-is t d' b x c =
+      window-is (recovered_lines file) from end d p t d' p-is
+      (b ∙ ap (λ (k : ℕ). step (within p d) (joined (refused_line k 0))) n-is
+      ∙ sym (ap (λ (l : List (List ℕ)). steps l (within p d)) (lines_long file h))) x c
 
   pub window-pieces : length file ≤ 65535 → (s : Scan) (e : List ℕ) → ShowsPieces file (within p d) s e → (t : Progress) (d' : List ℕ)
       → within t d' ≡ step (within s.progress e) (joined (end_line s.taken (length file))) → (x : Shown) → x ≡ shown_so_far t

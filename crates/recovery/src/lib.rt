@@ -9,7 +9,8 @@ ghost use Rattle.recovery.specs.Recovery.{skipped_line, recovered_lines};
 ghost use Rattle.recovery.specs.Scans.{scanned, stretch, advanced, InFile, ShowsPieces};
 
 use listing::{show_end, show_message, show_refusal};
-use message::{Read, read_message};
+use message::read_message;
+use refusal::Refusal;
 use text::{append, wide_field};
 use vector::{MessageOffset, TokenPlace, in_token};
 use windows::{Progress, Shown, finish, put_line, start};
@@ -51,28 +52,20 @@ fn advance(s: Scan, d: &mut [u8], rest: &[u8]) -> Scan
     requires going { Going s.progress (length d.old) }
     ensures { scanned result d.new ≡ advanced rest.now s d.old }
 {
-    let reading = read_message(rest);
-    let Read::Message(h) = reading else {
-        let progress = s.progress;
-        let end = s.end;
-        let next = s.place.0 + 1;
+    let Ok(h) = read_message(rest) else {
         return Scan {
-            progress,
-            place: TokenPlace(next),
-            end,
-            taken: s.taken,
+            place: TokenPlace(s.place.0 + 1),
+            ..s
         };
     };
-    let length = h.length as usize;
-    let taken = s.taken + 1;
-    let end = in_token(s.place, MessageOffset(h.length));
     let before = show_stretch(s.progress, d, s.end, s.place);
-    let progress = show_message(before, d, s.place, &rest[..length]);
+    let progress = show_message(before, d, s.place, &rest[..h.length as usize]);
+    let end = in_token(s.place, MessageOffset(h.length));
     Scan {
         progress,
         place: end,
         end,
-        taken,
+        taken: s.taken + 1,
     }
 }
 
@@ -93,12 +86,10 @@ fn show_pieces(p: Progress, d: &mut [u8], file: &[u8]) -> Scan
         scan = advance(scan, d, &file[at..]);
     }
     let progress = show_stretch(scan.progress, d, scan.end, scan.place);
-    let place = scan.place;
     Scan {
         progress,
-        place,
-        end: place,
-        taken: scan.taken,
+        end: scan.place,
+        ..scan
     }
 }
 
@@ -108,7 +99,7 @@ pub fn window(file: &[u8], from: usize, end: usize, d: &mut [u8]) -> Shown
 {
     let progress = start(from, end);
     if 65535 < file.len() {
-        return finish(show_refusal(progress, d, 1, TokenPlace(0)));
+        return finish(show_refusal(progress, d, Refusal::TooLong.number(), TokenPlace(0)));
     }
     let scan = show_pieces(progress, d, file);
     finish(show_end(scan.progress, d, scan.taken, file.len()))
