@@ -1,20 +1,20 @@
 -- The functions in the words of the code.
 -- Assumes nothing.
-use Prim.Native.Nat.{ℕ, zero, suc, ◌+◌, ◌-◌, ◌*◌, ◌≤◌, ◌<◌, ◌^◌, min, max}
-use mathlib.Core.Path.{◌≡◌, sym, ap, ◌∙◌}
+use Prim.Native.Nat.{ℕ, suc, ◌+◌, ◌-◌, ◌*◌, ◌≤◌, ◌<◌, min, max}
+use mir.Val.{bool_byte}
+use mathlib.Core.Path.{◌≡◌, refl, sym, ap, ◌∙◌}
 use mathlib.Core.Bool.{Bool, true, false}
 use mathlib.Core.Logic.{inl, inr}
 use mathlib.Core.List.{List}
-use native.Mathlib.Numerals.{sub-one}
 use native.Mathlib.Omega.{arith}
-use lib.ListN.{length, get_or, set, take, drop, length-drop, drop_of_length-le, get_or-eq_default}
-use lib.Seq.{get_or-set_same, get_or-set_other, set_out, take_all, length-take-le}
-use lib.Dec.{leb, ltb, eqb}
-use borrow.Author.Tests.{lt-ltb, le-ltb, lt-leb, le-leb, ltb-true, ltb-false, leb-true, leb-false, eqb-true, eqb-false}
+use lib.ListN.{length, get_or, set, take, drop, drop_of_length-le}
+use lib.Seq.{set_out, take_all}
+use lib.Dec.{leb, ltb}
+use borrow.Author.Tests.{lt-ltb, le-ltb, lt-leb, le-leb, leb-true, leb-false}
 use Rattle.octets.specs.Octets.{le}
 use Rattle.octets.proofs.Bools.{which}
 use Rattle.vector.specs.declared.Vector.{Vector}
-use Rattle.vector.specs.Vector.{extent, part}
+use Rattle.vector.specs.Vector.{part}
 use Rattle.message.specs.Layout.{Shape, head_of, shape_of, header_of, nego, exchange, verify, alert, values_of, elements_at, elements_of, octet_vector, scheme_vector, extension_vector, exchange_vector, checksum_vector, alert_vector, vectors_of, content_of}
 use Rattle.message.proofs.Shapes.{shape-nego, shape-exchange, shape-verify, shape-alert, room-nego, room-exchange, room-verify, room-alert, header-least}
 use Rattle.coverage.specs.declared.Octets.{Octets}
@@ -40,14 +40,6 @@ take-least l k = elim (which (leb k (length l))) [
       omega arith in rw z (take_all (length l) l (omega arith) ∙ sym (take_all k l (omega arith)))
 ]
 
-module _ (m : List ℕ) (v : Vector) (from len : ℕ) (from_is : from ≡ min v.offset.0 (length m))
-    (len_is : len ≡ min (v.count * v.size) (length m - from)) where
-  pub part-is : take (from + len - from) (drop from m) ≡ part m v
-  part-is =
-      let l : length (drop from m) ≡ length m - from = length-drop from m in
-      let e : from + len - from ≡ min (extent v) (length (drop from m)) = omega arith in
-      rw e (take-least (drop from m) (extent v) ∙ ap (take (extent v)) (ap (λ (k : ℕ). drop k m) from_is ∙ drop-least m v.offset.0))
-
 -- ---- `mark`
 module _ (map : List ℕ) (v : Vector) where
   pub mark-out : length map ≤ v.offset.0 → map ≡ marked map v
@@ -63,49 +55,45 @@ module _ (map : List ℕ) (v : Vector) where
 abbrev pub values_from : ℕ → List ℕ → ℕ → List Vector
 values_from n a at = values_of (elements_at n a at)
 
-module _ (a : List ℕ) (whole map : List ℕ) (at : ℕ) where
-  pub values-done : (n : ℕ) → whole ≡ marked_all map (values_from n a at) → n ≤ 0 → map ≡ whole
+module _ (a : List ℕ) (whole map : List ℕ) where
+  pub values-done : (n k : ℕ) → n ≤ k → whole ≡ marked_all map (values_from (n - k) a (12 * k)) → map ≡ whole
   unfolding marked_all elements_at
-  values-done zero inv h = sym inv
-  values-done (suc n) inv h = absurd (omega arith)
+  values-done n k h inv = let e : n - k ≡ 0 = omega arith in sym (rw e at inv)
 
-  pub values-more : (n : ℕ) (v : Vector) (map' : List ℕ) → whole ≡ marked_all map (values_from n a at) → 0 < n → v ≡ octet_vector a (at + 4)
-      → map' ≡ marked map v
-      → whole ≡ marked_all map' (values_from (n - 1) a (at + 12))
+  pub values-more : (n k : ℕ) (v : Vector) (map' : List ℕ) → k < n → v ≡ octet_vector a (12 * k + 4) → map' ≡ marked map v
+      → whole ≡ marked_all map (values_from (n - k) a (12 * k)) → whole ≡ marked_all map' (values_from (n - (k + 1)) a (12 * (k + 1)))
   unfolding marked_all elements_at
-  values-more zero v map' inv h e f = absurd (omega arith)
-  values-more (suc n) v map' inv h e f = inv ∙ simp (sub-one, f, e)
+  values-more n k v map' h e f inv =
+      let left : n - k ≡ suc (n - (k + 1)) = omega arith in
+      let at : 12 * k + 12 ≡ 12 * (k + 1) = omega arith in
+      rw left at inv ∙ rw at (simp (f, e))
 
 -- ---- a turn of `swept`
-module _ (map : List ℕ) (whole far n at : ℕ) where
-  pub sweep-done : (k : ℕ) → whole ≡ n + sweep map far k at → k ≤ 0 → n ≡ whole
-  unfolding sweep
-  sweep-done zero inv h = omega arith
-  sweep-done (suc k) inv h = absurd (omega arith)
+from-bool : (b : Bool) → bool_byte b ≡ one b
+unfolding one
+from-bool true = refl
+from-bool false = refl
 
-  pub sweep-more : (k far' x : ℕ) → whole ≡ n + sweep map far k at → 0 < k → far' ≡ max far (get_or map at 0) → x ≡ one (ltb at far')
-      → whole ≡ n + x + sweep map far' (k - 1) (at + 1)
+pub bit : (b : Bool) (x : ℕ) → x ≡ bool_byte b → x ≤ 1
+bit true x e = omega arith
+bit false x e = omega arith
+
+module _ (map : List ℕ) (whole far n : ℕ) where
+  pub sweep-done : (size at : ℕ) → size ≤ at → whole ≡ n + sweep map far (size - at) at → n ≡ whole
   unfolding sweep
-  sweep-more zero far' x inv h e f = absurd (omega arith)
-  sweep-more (suc k) far' x inv h e f = simp (sub-one, f, e) (omega arith)
+  sweep-done size at h inv = let e : size - at ≡ 0 = omega arith in let r : whole ≡ n + 0 = rw e at inv in omega arith
+
+  pub sweep-more : (size at far' x : ℕ) → at < size → far' ≡ max far (get_or map at 0) → x ≡ bool_byte (ltb at far')
+      → whole ≡ n + sweep map far (size - at) at → whole ≡ n + x + sweep map far' (size - (at + 1)) (at + 1)
+  unfolding sweep
+  sweep-more size at far' x h e f inv =
+      let left : size - at ≡ suc (size - (at + 1)) = omega arith in
+      rw left at inv ∙ simp (f, e, from-bool) (omega arith)
 
 pub one-le : (b : Bool) (x : ℕ) → x ≡ one b → x ≤ 1
 unfolding one
 one-le true x e = omega arith
 one-le false x e = omega arith
-
--- ---- `clear`
-pub clear_next : (map : List ℕ) (i : ℕ) → i < length map → ((p : ℕ) → p < i → get_or map p 0 ≡ 0) → (p : ℕ) → p < i + 1 → get_or (set map i 0) p 0 ≡ 0
-clear_next map i h inv p k = elim (which (eqb p i)) [
-  | inl e ↦ rw (eqb-true p i e) (get_or-set_same map i 0 0 h)
-  | inr e ↦ let o = eqb-false p i e in get_or-set_other map i p 0 0 o ∙ inv p (omega arith)
-]
-
-pub clear-all : (map : List ℕ) (i : ℕ) → length map ≤ i → ((p : ℕ) → p < i → get_or map p 0 ≡ 0) → Clear map
-clear-all map i h inv p = elim (which (ltb p i)) [
-  | inl e ↦ inv p (ltb-true p i e)
-  | inr e ↦ let k = ltb-false p i e in get_or-eq_default map 0 (omega arith)
-]
 
 -- ---- the vectors of each layout
 module _ (map m : List ℕ) where
@@ -149,19 +137,6 @@ module _ (kind : ℕ) (m : List ℕ) where
         pub by-alert : (kind ≡ 6 → ⊥) → Done alert → Done (shape_of kind)
         by-alert h e = rw (shape-alert kind not-nego not-exchange h) e
 
--- ---- `one_before`
-pub before-yes : (at end : ℕ) → at < end → 1 ≡ one (ltb at end)
-unfolding one
-before-yes at end h = simp (lt-ltb at end h)
-
-pub before-no : (at end : ℕ) → end ≤ at → 0 ≡ one (ltb at end)
-unfolding one
-before-no at end h = simp (le-ltb at end h)
-
-pub ruleset parts = (part-is)
-
-pub ruleset befores = (before-yes, before-no)
-
 pub ruleset sweeps = (mark-out, mark-in, values-done, values-more, sweep-done, sweep-more)
 
 pub ruleset layouts = (marks-exchange, marks-verify, marks-alert, marks-nego)
@@ -195,20 +170,17 @@ module _ (m : List ℕ) where
         let e : length m ≡ header_octets m = omega (arith, header-count) in
         rw (no-vector-octets, no-bare-octets, ← e)
 
-  pub counted-short : length m < 64 → ◌≡◌ {A = Octets} (record { headers = length m; vectors = 0; bare = 0 }) (octets_in m)
-  counted-short h = counted-cut (omega (arith, header-least (shape_of (head_of m).kind)))
+-- ---- `whole_kind`
+module _ (m : List ℕ) (kind : ℕ) (kind-is : kind ≡ le 4 m 8) where
+  pub kind-here : kind ≡ (head_of m).kind
+  unfolding head_of
+  kind-here = kind-is
 
-  module _ (kind : ℕ) (kind-is : kind ≡ le 4 m 8) where
-    pub kind-here : kind ≡ (head_of m).kind
-    unfolding head_of
-    kind-here = kind-is
+  pub header-here : (header : ℕ) → header ≡ header_of (shape_of kind) → header ≡ header_in m
+  header-here header e = e ∙ ap (λ (k : ℕ). header_of (shape_of k)) kind-here
 
-    pub counted-header : (header : ℕ) → header ≡ header_of (shape_of kind) → length m < header
-        → ◌≡◌ {A = Octets} (record { headers = length m; vectors = 0; bare = 0 }) (octets_in m)
-    counted-header header e h = counted-cut (rw (sym kind-here) (omega arith))
-
-    pub header-fits : (header : ℕ) → header ≡ header_of (shape_of kind) → header ≤ length m → header_of (shape_of kind) ≤ length m
-    header-fits header e h = omega arith
+pub header_least : (m : List ℕ) → 64 ≤ header_in m
+header_least m = header-least (shape_of (head_of m).kind)
 
 -- the sweeps over a map in which the message's vectors are marked
 module _ (m : List ℕ) (kind : ℕ) (kind-is : kind ≡ (head_of m).kind) (h : header_of (shape_of kind) ≤ length m)
@@ -257,16 +229,3 @@ module _ (m : List ℕ) (kind : ℕ) (kind-is : kind ≡ (head_of m).kind) (h : 
         let b : length m - held ≡ bare_octets m = omega (arith, bare-sum) in
         let a : header ≡ header_octets m = omega (arith, header-count m, header-own, fits) in
         rw (b, vectors-swept vectors vectors-is, a)
-
--- the front of the map, with a cell for each octet
-module _ (map m : List ℕ) (room : length m ≤ length map) where
-  pub cells : length (take (length m) map) ≡ length m
-  cells = length-take-le (length m) map room
-
-  pub cells-own : length m ≡ length (take (length m) map)
-  cells-own = sym cells
-
-  pub cells-few : length m < 2 ^ 32 → length (take (length m) map) < 2 ^ 32
-  cells-few h = omega (arith, cells)
-
-pub ruleset countings = (cells, cells-own, cells-few, counted-short, kind-here, counted-header, header-fits, held_fits, counted-all)

@@ -9,11 +9,10 @@ use lib.ListN.{length, get_or, get_or-eq_default}
 use lib.Dec.{leb}
 use borrow.Author.Tests.{lt-leb, le-leb, leb-true, leb-false}
 use Rattle.octets.proofs.Bools.{which}
-use Rattle.octets.specs.Octets.{le}
 use Rattle.vector.specs.declared.Vector.{Vector}
 use Rattle.vector.specs.Vector.{part}
 use Rattle.message.specs.Layout.{Shape, head_of, shape_of, header_of, nego, alert, values_of, elements_at, elements_of, octet_vector, scheme_vector, extension_vector, exchange_vector, checksum_vector, alert_vector, vectors_of, content_of}
-use Rattle.message.proofs.Shapes.{shape-nego, shape-exchange, shape-verify, shape-alert, room-nego, room-alert, header-least}
+use Rattle.message.proofs.Shapes.{shape-nego, shape-exchange, shape-verify, shape-alert, room-nego, room-alert}
 use Rattle.coverage.specs.Coverage.{header_in, vectors_in, no_vector, vector_in}
 
 -- ---- the values of an array
@@ -145,56 +144,44 @@ module _ (m : List ℕ) where
     unfolding vectors_in
     none_in = rw (lt-leb _ _ short)
 
-    none-count : 0 ≡ length (vectors_in m)
+    pub none-count : 0 ≡ length (vectors_in m)
     none-count = rw none_in
 
-    none_of : (k : ℕ) (v : Vector) → v ≡ no_vector → v ≡ vector_in m k
+    pub none_of : (k : ℕ) (v : Vector) → v ≡ no_vector → v ≡ vector_in m k
     none_of k v e = e ∙ sym (rw none_in (get_or-eq_default [] no_vector {n = k} (omega arith)))
 
-  least : length m < 64 → length m < header_in m
-  least h = omega (arith, header-least (shape_of (head_of m).kind))
-
-  pub count-short : length m < 64 → 0 ≡ length (vectors_in m)
-  count-short h = none-count (least h)
-
-  pub of-short : length m < 64 → (k : ℕ) (v : Vector) → v ≡ no_vector → v ≡ vector_in m k
-  of-short h = none_of (least h)
-
-  module _ (kind : ℕ) (kind-is : kind ≡ le 4 m 8) (header : ℕ) (header_is : header ≡ header_of (shape_of kind)) where
-    same : kind ≡ (head_of m).kind
-    unfolding head_of
-    same = kind-is
-
-    own : header ≡ header_in m
-    own = header_is ∙ ap (λ (k : ℕ). header_of (shape_of k)) same
-
-    pub count_cut : length m < header → 0 ≡ length (vectors_in m)
-    count_cut h = none-count (omega (arith, own))
-
-    pub of_cut : length m < header → (k : ℕ) (v : Vector) → v ≡ no_vector → v ≡ vector_in m k
-    of_cut h = none_of (omega (arith, own))
-
-    all : header ≤ length m → vectors_of (content_of (shape_of kind) m) ≡ vectors_in m
+  module _ (kind : ℕ) (kind-is : kind ≡ (head_of m).kind) (fits : header_in m ≤ length m) where
+    all : vectors_of (content_of (shape_of kind) m) ≡ vectors_in m
     unfolding vectors_in
-    all h =
-        let f : header_in m ≤ length m = omega (arith, own) in
-        ap (λ (k : ℕ). vectors_of (content_of (shape_of k) m)) same ∙ sym (rw (le-leb (header_in m) (length m) f) refl)
+    all = ap (λ (k : ℕ). vectors_of (content_of (shape_of k) m)) kind-is ∙ sym (rw (le-leb (header_in m) (length m) fits) refl)
 
-    pub count-all : header ≤ length m → (n : ℕ) → n ≡ length (vectors_of (content_of (shape_of kind) m)) → n ≡ length (vectors_in m)
-    count-all h n e = e ∙ ap length (all h)
+    pub count-all : (n : ℕ) → n ≡ length (vectors_of (content_of (shape_of kind) m)) → n ≡ length (vectors_in m)
+    count-all n e = e ∙ ap length all
 
-    pub of-all : header ≤ length m → (k : ℕ) (v : Vector) → v ≡ get_or (vectors_of (content_of (shape_of kind) m)) k no_vector → v ≡ vector_in m k
-    of-all h k v e = e ∙ ap (λ (l : List Vector). get_or l k no_vector) (all h)
+    pub of-all : (k : ℕ) (v : Vector) → v ≡ get_or (vectors_of (content_of (shape_of kind) m)) k no_vector → v ≡ vector_in m k
+    of-all k v e = e ∙ ap (λ (l : List Vector). get_or l k no_vector) all
 
-    pub room-all : header ≤ length m → header_of (shape_of kind) ≤ length m
-    room-all h = omega arith
-
-pub ruleset values = (value_none, value-here, only-first, only_none)
-
-pub ruleset places = (nego-first, nego-second, nego-value, alert-first, alert-value)
-
-pub ruleset kind-vectors = (kind-nego, kind-exchange, kind-verify, kind-alert)
-
-pub ruleset counts = (room-extensions, room-alerts, count-nego, count-one, count-alert)
-
-pub ruleset wholes = (count-short, of-short, count_cut, of_cut, count-all, of-all, room-all)
+pub ruleset numbered = (
+  value_none,
+  value-here,
+  only-first,
+  only_none,
+  nego-first,
+  nego-second,
+  nego-value,
+  alert-first,
+  alert-value,
+  kind-nego,
+  kind-exchange,
+  kind-verify,
+  kind-alert,
+  room-extensions,
+  room-alerts,
+  count-nego,
+  count-one,
+  count-alert,
+  none-count,
+  none_of,
+  count-all,
+  of-all,
+)

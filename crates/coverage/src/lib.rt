@@ -1,10 +1,10 @@
 // The octets of a message that its vectors cover, and its vectors one by one.
-#![tactic(auto)]
+#![tactic(auto, using(crate::proofs::Marks::sweeps, crate::proofs::Marks::layouts, crate::proofs::Marks::kinds))]
 
-ghost use Rattle.std.specs.Prelude.{◌≡◌, ◌≤◌, ◌<◌, min, max, ◌^◌, ltb, length};
+ghost use Rattle.std.specs.Prelude.{◌≡◌, ◌≤◌, ◌<◌, max, ◌^◌, length, MatchOption};
 ghost use Rattle.vector.specs.Vector.{part as Vector·part};
 ghost use Rattle.message.specs.Layout.{nego, alert, head_of, shape_of, header_of, values_of, elements_of, vectors_of, content_of};
-ghost use Rattle.coverage.specs.Coverage.{one, octets_in};
+ghost use Rattle.coverage.specs.Coverage.{header_in, octets_in};
 ghost use Rattle.coverage.specs.Sweep.{Clear, marked, marked_all, sweep};
 
 use message::field::{
@@ -24,34 +24,20 @@ pub struct Octets {
     pub bare: u32,
 }
 
-// The lesser of two numbers.
-fn least(a: u64, b: u64) -> u64
-    ensures { result ≡ min a b }
-{
-    if a < b { a } else { b }
-}
-
 // The greater of two numbers.
 pub fn greatest(a: u32, b: u32) -> u32
     ensures { result ≡ max a b }
 {
-    if a < b { b } else { a }
-}
-
-// One where a place lies before an end.
-fn one_before(at: usize, end: u32) -> u32
-    ensures { result ≡ one (ltb at end) }
-{
-    if at < end as usize { 1 } else { 0 }
+    a.max(b)
 }
 
 // What a message has of a vector, also where it ends before the vector does.
 fn part(m: &[u8], v: Vector) -> &[u8]
     ensures { result.now ≡ Vector·part m.now v }
 {
-    let from = least(v.offset.0 as u64, m.len() as u64) as usize;
+    let from = m.len().min(v.offset.0 as usize);
     let left = m.len() - from;
-    let to = from + least(v.count as u64 * v.size as u64, left as u64) as usize;
+    let to = from + v.extent().min(left as u64) as usize;
     &m[from..to]
 }
 
@@ -64,9 +50,8 @@ fn mark(map: &mut [u32], v: Vector)
     if map.len() <= from {
         return;
     }
-    let extent = v.count as u64 * v.size as u64;
-    let end = least(from as u64 + extent, map.len() as u64) as u32;
-    map[from] = greatest(map[from], end);
+    let end = (from as u64 + v.extent()).min(map.len() as u64) as u32;
+    map[from] = map[from].max(end);
 }
 
 // Marks the values of the elements of an array.
@@ -74,12 +59,11 @@ fn mark_values(map: &mut [u32], array: &[u8])
     requires { length map.old < 2 ^ 32 }
     ensures { map.new ≡ marked_all map.old (values_of (elements_of array.now)) }
 {
-    let mut left = array.len() / field::ELEMENT;
-    let mut at: usize = 0;
-    while 0 < left {
-        mark(map, octet_vector(array, at + field::ELEMENT_VALUE));
-        at += field::ELEMENT;
-        left -= 1;
+    for k in 0..array.len() / field::ELEMENT {
+        mark(
+            map,
+            octet_vector(array, field::ELEMENT * k + field::ELEMENT_VALUE),
+        );
     }
 }
 
@@ -124,20 +108,31 @@ pub fn mark_kind(map: &mut [u32], kind: Kind, m: &[u8])
     mark_alert(map, m);
 }
 
+// The kind of a message that has its whole header.
+fn whole_kind(m: &[u8]) -> Option<Kind>
+    ensures { MatchOption result (length m.now < header_in m.now) (λ kind. (kind.0 ≡ (head_of m.now).kind) × (header_in m.now ≤ length m.now)) }
+{
+    // No header is shorter than 64 octets.
+    if m.len() < 64 {
+        return None;
+    }
+    let kind = Kind(le_u32(m, field::TYPE));
+    if m.len() < kind.header() as usize {
+        return None;
+    }
+    Some(kind)
+}
+
 // How many places lie before the farthest end met so far, which is `start` at first.
 fn swept(map: &[u32], start: u32) -> u32
     requires { length map.now < 2 ^ 32 }
     ensures { result ≡ sweep map.now start (length map.now) 0 }
 {
-    let mut at: usize = 0;
-    let mut left = map.len();
     let mut far = start;
-    let mut count: u32 = 0;
-    while 0 < left {
-        far = greatest(far, map[at]);
-        count += one_before(at, far);
-        at += 1;
-        left -= 1;
+    let mut count = 0;
+    for at in 0..map.len() {
+        far = far.max(map[at]);
+        count += u32::from(at < far as usize);
     }
     count
 }
@@ -146,11 +141,7 @@ fn swept(map: &[u32], start: u32) -> u32
 pub fn clear(map: &mut [u32])
     ensures { Clear map.new }
 {
-    let mut i: usize = 0;
-    while i < map.len() {
-        map[i] = 0;
-        i += 1;
-    }
+    map.fill(0);
 }
 
 // The octets of a message of a kind, in a map with a cell for each.
@@ -176,22 +167,12 @@ pub fn count_octets(map: &mut [u32], m: &[u8]) -> Octets
     requires { (length m.now < 2 ^ 32) × (length m.now ≤ length map.old) }
     ensures { result ≡ octets_in m.now }
 {
-    let len = m.len();
-    // No header is shorter than 64 octets.
-    if len < 64 {
+    let Some(kind) = whole_kind(m) else {
         return Octets {
-            headers: len as u32,
+            headers: m.len() as u32,
             vectors: 0,
             bare: 0,
         };
-    }
-    let kind = Kind(le_u32(m, field::TYPE));
-    if len < kind.header() as usize {
-        return Octets {
-            headers: len as u32,
-            vectors: 0,
-            bare: 0,
-        };
-    }
-    count_kind(&mut map[..len], kind, m)
+    };
+    count_kind(&mut map[..m.len()], kind, m)
 }

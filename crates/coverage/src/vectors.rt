@@ -1,14 +1,15 @@
 // The vectors of a message by number: the header's in order, then the nested ones.
+#![tactic(auto, using(crate::proofs::Numbered::numbered))]
+
 ghost use Rattle.std.specs.Prelude.{◌≡◌, ◌≤◌, ◌∷◌, [], length, get_or};
 ghost use Rattle.message.specs.Layout.{nego, alert, shape_of, header_of, values_of, elements_of, vectors_of, content_of};
 ghost use Rattle.coverage.specs.Coverage.{no_vector, vectors_in, vector_in};
 
-use super::part;
+use super::{part, whole_kind};
 use message::field::{
     checksum_vector, exchange_vector, extension_vector, octet_vector, scheme_vector,
 };
 use message::{Kind, field};
-use octets::le_u32;
 use vector::{MessageOffset, Vector};
 
 // An empty vector, which stands beyond the last.
@@ -36,10 +37,7 @@ fn value_of(array: &[u8], k: usize) -> Vector
 fn only(v: Vector, k: usize) -> Vector
     ensures { result ≡ get_or (v ∷ []) k no_vector }
 {
-    if k == 0 {
-        return v;
-    }
-    none()
+    if k == 0 { v } else { none() }
 }
 
 // A NEGO's.
@@ -104,14 +102,9 @@ fn kind_count(kind: Kind, m: &[u8]) -> usize
 pub fn vector_count(m: &[u8]) -> usize
     ensures { result ≡ length (vectors_in m.now) }
 {
-    // No header is shorter than 64 octets.
-    if m.len() < 64 {
+    let Some(kind) = whole_kind(m) else {
         return 0;
-    }
-    let kind = Kind(le_u32(m, field::TYPE));
-    if m.len() < kind.header() as usize {
-        return 0;
-    }
+    };
     kind_count(kind, m)
 }
 
@@ -119,12 +112,8 @@ pub fn vector_count(m: &[u8]) -> usize
 pub fn vector_of(m: &[u8], k: usize) -> Vector
     ensures { result ≡ vector_in m.now k }
 {
-    if m.len() < 64 {
+    let Some(kind) = whole_kind(m) else {
         return none();
-    }
-    let kind = Kind(le_u32(m, field::TYPE));
-    if m.len() < kind.header() as usize {
-        return none();
-    }
+    };
     kind_vector(kind, m, k)
 }

@@ -1,6 +1,6 @@
 // The readers of a message's contents: vectors, as parts of the octets that the caller lends, and signed numbers. Each takes any slice; where it has no room
 // for the header, or the vector breaks its rule, there is nothing to show, and a number is 0.
-#![tactic(auto)]
+#![tactic(auto, using(crate::proofs::Shows::shows), unfolding(message::specs::Show::id_at, message::specs::Show::nested_of, message::specs::Show::signed_in, message::specs::Show::extension_type))]
 
 ghost use Rattle.std.specs.Prelude.{◌≡◌, ◌+◌, ◌≤◌};
 ghost use Rattle.vector.specs.Vector.{shown};
@@ -26,6 +26,9 @@ pub fn scheme(m: &[u8]) -> &[u8]
     }
     &m[field::SCHEME..SCHEME_END]
 }
+
+// This reader and those below are alike but for a header and a vector: one function over both would have to say in its contract what a closure computes, and
+// would leave each of them a call as long as its body.
 
 // The scheme vector's octets, 16 a scheme.
 pub fn schemes(m: &[u8]) -> &[u8]

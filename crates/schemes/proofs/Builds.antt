@@ -1,106 +1,79 @@
--- Sets that a loop builds from the last place to the first, in the words of the code: the common set, and the marks by the kept places.
+-- Sets by the places at which a test holds: one place more, and the common set and the marks as such sets.
 -- Assumes nothing.
-use Prim.Native.Nat.{ℕ, suc, ◌+◌, ◌*◌, ◌-◌, ◌/◌, ◌^◌, ◌≤◌, ◌<◌}
-use mathlib.Core.Path.{◌≡◌, sym, ◌∙◌}
+use Prim.Native.Nat.{ℕ, zero, suc, ◌+◌, ◌*◌, ◌/◌, ◌-◌, ◌^◌, ◌<◌}
+use mathlib.Core.Path.{◌≡◌, refl, sym, ap, ◌∙◌}
 use mathlib.Core.Bool.{Bool, true, false, cond}
-use mathlib.Core.List.{List, ◌∷◌}
-use native.Mathlib.Nat.{sub_self, add-sub_cancel_left}
+use mathlib.Core.List.{List, [], ◌∷◌, ◌++◌}
+use native.Mathlib.Nat.{pow-suc, add-zero, zero-add, add-sub_cancel_left}
+use native.Mathlib.Numerals.{add-one}
 use native.Mathlib.Omega.{arith}
-use lib.ListN.{length, get_or, take, drop, length-drop, drop_of_length-le}
-use lib.Seq.{drop-cons}
-use lib.Pow.{pow_mono}
-use Rattle.octets.specs.Octets.{octets}
+use lib.ListN.{length, get_or, take, drop}
 use Rattle.message.specs.Show.{ids_at, ids_of}
-use Rattle.message.proofs.Ids.{length_ids}
-use Rattle.schemes.specs.Lists.{Id, mem, bit}
-use Rattle.schemes.specs.Sets.{set_of, common_set}
-use Rattle.schemes.specs.Answers.{marked_at}
-use Rattle.schemes.proofs.Ids.{rest, rest-start, rest-step}
-use Rattle.schemes.proofs.Places.{set-bound}
+use Rattle.message.proofs.Ids.{id-at}
+use Rattle.schemes.specs.Lists.{mem}
+use Rattle.schemes.specs.Sets.{set_of}
+use Rattle.schemes.specs.Answers.{places_from, with_bit}
+use Rattle.schemes.proofs.Digits.{bit-beyond}
+use Rattle.schemes.proofs.Places.{set-bound, length-places}
 
--- One more place in front, in the words of the code: the list l' is x and then l, and b says whether x has p.
-module _ {A : Type 0} (p : A → Bool) (l : List A) (set : ℕ) (inv : set ≡ set_of p l) where
-  -- a set of at most 15 places has room for one more
-  set_room : length l ≤ 15 → set * 2 + 1 < 65536
-  set_room h =
-      let g : set < 2 ^ length l = rw inv (set-bound p l) in
-      let w : 2 ^ length l ≤ 32768 = pow_mono {i = length l} {j = 15} h in
-      omega arith
+set-snoc : {A : Type 0} (p : A → Bool) (l : List A) (x : A) → set_of p (l ++ (x ∷ [])) ≡ set_of p l + cond (p x) (2 ^ length l) 0
+unfolding set_of
+set-snoc p [] x = omega arith
+set-snoc p (y ∷ l) x =
+    let w : 2 ^ suc (length l) ≡ 2 ^ length l * 2 = pow-suc 2 (length l) in
+    rw (set-snoc p l x) (go (p x) w)
+  where
+    go : (b : Bool) → 2 ^ suc (length l) ≡ 2 ^ length l * 2
+        → cond (p y) 1 0 + 2 * (set_of p l + cond b (2 ^ length l) 0) ≡ cond (p y) 1 0 + 2 * set_of p l + cond b (2 ^ suc (length l)) 0
+    go true w = omega arith
+    go false w = omega arith
 
-  module _ (x : A) (l' : List A) (l'-is : l' ≡ x ∷ l) (b : Bool) (b-is : b ≡ p x) where
-    set-step : set_of p l' ≡ cond b 1 0 + 2 * set
-    unfolding set_of
-    set-step = rw (l'-is, ← b-is, ← inv)
+places-snoc : (j n : ℕ) → places_from j (suc n) ≡ places_from j n ++ ((j + n) ∷ [])
+unfolding places_from
+places-snoc j zero = rw (add-zero j) refl
+places-snoc j (suc n) =
+    let e : suc j + n ≡ j + suc n = omega arith in
+    ap (λ (l : List ℕ). j ∷ l) (rw e at (places-snoc (suc j) n))
 
-    set-hit : b ≡ true → set * 2 + 1 ≡ set_of p l'
-    set-hit t = sym (set-step ∙ rw t (omega arith))
+-- ---- one place more, in the words of the code
+module _ (p : ℕ → Bool) where
+  pub where-start : 0 ≡ set_of p (places_from 0 0)
+  unfolding set_of places_from
+  where-start = refl
 
-    set-miss : b ≡ false → set * 2 ≡ set_of p l'
-    set-miss t = sym (set-step ∙ rw t (omega arith))
+  module _ (k set : ℕ) (inv : set ≡ set_of p (places_from 0 k)) where
+    more : set_of p (places_from 0 (k + 1)) ≡ set + cond (p k) (2 ^ k) 0
+    more = rw (add-one, places-snoc 0 k, zero-add k, set-snoc, length-places, ← inv) refl
 
--- the common set, by the own list's places
-module _ (own : List ℕ) (n : ℕ) (peer : List ℕ) where
-  abbrev listed : Id → Bool
-  listed x = mem x (ids_of peer)
+    pub where-hit : true ≡ p k → with_bit set k ≡ set_of p (places_from 0 (k + 1))
+    unfolding with_bit
+    where-hit e =
+        let h : set < 2 ^ k = rw (← inv, length-places) at (set-bound p (places_from 0 k)) in
+        rw (← bit-beyond set k h) (sym (more ∙ rw (← e)))
 
-  pub common-start : 0 ≡ common_set (rest n own n) (ids_of peer)
-  unfolding set_of ids_at
-  common-start = rw sub_self
+    pub where-miss : false ≡ p k → set ≡ set_of p (places_from 0 (k + 1))
+    where-miss e = sym (more ∙ rw (← e) (add-zero set))
 
-  module _ (k set : ℕ) (inv : set ≡ common_set (rest n own k) (ids_of peer)) where
-    pub common-end : k ≤ 0 → set ≡ common_set (ids_at n own) (ids_of peer)
-    common-end h = let e : k ≡ 0 = omega arith in (rw e at inv) ∙ rw (← rest-start n own)
+-- ---- a set of a list, by its places
+module _ {A : Type 0} (p : A → Bool) (d : A) where
+  split : (x : A) (l s : List A) (j : ℕ) → drop j s ≡ x ∷ l → (get_or s j d ≡ x) × (drop (suc j) s ≡ l)
+  split x l [] zero f = let z : ◌≡◌ {A = ℕ} 0 1 = cc in absurd (omega arith)
+  split x l [] (suc j) f = let z : ◌≡◌ {A = ℕ} 0 1 = cc in absurd (omega arith)
+  split x l (y ∷ s) zero f = (cc, cc)
+  split x l (y ∷ s) (suc j) f = split x l s j f
 
-    module _ (more : 0 < k) (inside : k ≤ n) where
-      pub common-room : n ≤ 16 → set * 2 + 1 < 65536
-      common-room few = set_room listed (rest n own k) set inv (rw length_ids (omega arith))
+  set-from : (s : List A) (j : ℕ) (l : List A) → drop j s ≡ l → set_of (λ k. p (get_or s k d)) (places_from j (length l)) ≡ set_of p l
+  unfolding set_of places_from
+  set-from s j [] e = refl
+  set-from s j (x ∷ l) e = let (u, v) = split x l s j e in rw (u, set-from s (suc j) l v)
 
-      pub common-half : n ≤ 16 → set * 2 < 65536
-      common-half few = omega (arith, common-room few)
+  pub set-at : (l : List A) (n : ℕ) → n ≡ length l → set_of (λ k. p (get_or l k d)) (places_from 0 n) ≡ set_of p l
+  set-at l n e = rw e (set-from l 0 l refl)
 
-      module _ (b : Bool) (b-is : b ≡ mem (take ((k - 1) * 16 + 16 - (k - 1) * 16) (drop ((k - 1) * 16) own)) (ids_at (length peer / 16) peer)) where
-        next-is : rest n own (k - 1) ≡ octets 16 own ((k - 1) * 16) ∷ rest n own k
-        next-is = let e : k - 1 + 1 ≡ k = omega arith in rest-step n own (k - 1) (omega arith) ∙ rw e
-
-        test-is : b ≡ listed (octets 16 own ((k - 1) * 16))
-        test-is = rw add-sub_cancel_left at b-is
-
-        pub common-hit : b ≡ true → set * 2 + 1 ≡ common_set (rest n own (k - 1)) (ids_of peer)
-        common-hit = set-hit listed (rest n own k) set inv _ (rest n own (k - 1)) next-is b test-is
-
-        pub common-miss : b ≡ false → set * 2 ≡ common_set (rest n own (k - 1)) (ids_of peer)
-        common-miss = set-miss listed (rest n own k) set inv _ (rest n own (k - 1)) next-is b test-is
-
-pub ruleset commons = (common-start, common-end, common-room, common-half, common-hit, common-miss)
-
--- the marks, by the kept places
-module _ (kept : List ℕ) (sized : length kept ≡ 16) (marks : ℕ) where
-  abbrev is_marked : ℕ → Bool
-  is_marked k = bit marks k
-
-  pub marks-start : 0 ≡ marked_at (drop 16 kept) marks
-  unfolding set_of
-  marks-start = let h : length kept ≤ 16 = omega arith in rw (drop_of_length-le kept h)
-
-  module _ (k set : ℕ) (inv : set ≡ marked_at (drop k kept) marks) where
-    pub marks-end : k ≤ 0 → set ≡ marked_at kept marks
-    marks-end h = let e : k ≡ 0 = omega arith in rw e at inv
-
-    module _ (more : 0 < k) (inside : k ≤ 16) where
-      pub marks-room : set * 2 + 1 < 65536
-      marks-room = set_room is_marked (drop k kept) set inv (simp length-drop (omega arith))
-
-      pub marks-half : set * 2 < 65536
-      marks-half = omega (arith, marks-room)
-
-      module _ (b : Bool) (b-is : b ≡ bit marks (get_or kept (k - 1) 0)) where
-        kept-is : drop (k - 1) kept ≡ get_or kept (k - 1) 0 ∷ drop k kept
-        kept-is = let e : suc (k - 1) ≡ k = omega arith in drop-cons kept (k - 1) 0 (omega arith) ∙ rw e
-
-        pub marks-hit : b ≡ true → set * 2 + 1 ≡ marked_at (drop (k - 1) kept) marks
-        marks-hit = set-hit is_marked (drop k kept) set inv _ (drop (k - 1) kept) kept-is b b-is
-
-        pub marks-miss : b ≡ false → set * 2 ≡ marked_at (drop (k - 1) kept) marks
-        marks-miss = set-miss is_marked (drop k kept) set inv _ (drop (k - 1) kept) kept-is b b-is
-
-pub ruleset markings = (marks-start, marks-end, marks-room, marks-half, marks-hit, marks-miss)
+-- whether the peer lists the own scheme at a place, in the words of the code
+pub listed-at : (own peer : List ℕ) (n k : ℕ) → k < n → (b : Bool)
+    → b ≡ mem (take (k * 16 + 16 - k * 16) (drop (k * 16) own)) (ids_at (length peer / 16) peer)
+    → b ≡ mem (get_or (ids_at n own) k []) (ids_of peer)
+listed-at own peer n k low b e =
+    let m : 16 * k ≡ k * 16 = omega arith in
+    e ∙ rw (add-sub_cancel_left, id-at n own k low, m) refl

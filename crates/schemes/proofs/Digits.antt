@@ -7,9 +7,13 @@ use mathlib.Core.Logic.{◌⊎◌, inl, inr}
 use native.Mathlib.Nat.{pow-suc, div-one, lt_of_lt_of_le, div-lt_iff_lt-mul}
 use native.Mathlib.Numerals.{one-add}
 use native.Mathlib.Omega.{arith}
-use lib.Dec.{eqb, ltb, eqb-suc-suc, eqb-suc-zero, eqb-zero-suc}
-use lib.Pow.{pow_pos, pow_mono, pow-lt, shr-shr}
-use borrow.Author.Tests.{ltb-true, ltb-false, eqb-true, eqb-false, eq-eqb, ne_eqb, lt-ltb}
+use mir.Syntax.{w16}
+use Rattle.std.specs.Int.{bit_at}
+use Rattle.std.specs.Int.RustNames.{bit_or}
+use Rattle.std.proofs.lemmas.Nat.Bits.{same_from_bits, bit_at_set_same, bit_at_set_other}
+use lib.Dec.{eqb, ltb, leb, eqb-suc-suc, eqb-suc-zero, eqb-zero-suc}
+use lib.Pow.{pow_pos, pow_mono, shr-shr}
+use borrow.Author.Tests.{ltb-true, ltb-false, eqb-true, eqb-false, eq-eqb, ne_eqb, lt-ltb, le-ltb, le-leb}
 use Rattle.octets.proofs.Bools.{which}
 use Rattle.schemes.specs.Lists.{bit}
 use Rattle.schemes.specs.Sets.{ones, below}
@@ -34,11 +38,11 @@ module _ (m k : ℕ) (small : m < 2 ^ 16) (wide : 16 ≤ k) where
   fits : m < 2 ^ k
   fits = lt_of_lt_of_le small (pow_mono {i = 16} {j = k} wide)
 
-  pub bit-none : false ≡ bit m k
-  bit-none = bit-beyond m k fits
+  pub bit-none : ltb k 16 ≡ bit m k
+  bit-none = le-ltb k 16 wide ∙ bit-beyond m k fits
 
-  pub within-wide : true ≡ below k m
-  within-wide = sym (lt-ltb _ _ fits)
+  pub within-wide : leb 16 k ≡ below k m
+  within-wide = le-leb 16 k wide ∙ sym (lt-ltb _ _ fits)
 
 pub within-shift : (m n : ℕ) → eqb (m / 2 ^ n) 0 ≡ below n m
 within-shift m n = go (which (ltb m (2 ^ n))) where
@@ -57,12 +61,6 @@ within-shift m n = go (which (ltb m (2 ^ n))) where
 module _ (k : ℕ) (small : k ≤ 16) where
   one_shifted : 1 * 2 ^ k % 4294967296 ≡ 2 ^ k
   one_shifted = let h : 2 ^ k ≤ 65536 = pow_mono {i = k} {j = 16} small in omega arith
-
-  pub full-room : 1 ≤ 1 * 2 ^ k % 4294967296
-  full-room = rw one_shifted (pow_pos k)
-
-  pub full-fits : 1 * 2 ^ k % 4294967296 - 1 < 65536
-  full-fits = let h : 2 ^ k ≤ 65536 = pow_mono {i = k} {j = 16} small in rw one_shifted (omega (arith, pow_pos k))
 
   pub full_is : 1 * 2 ^ k % 4294967296 - 1 ≡ ones k
   full_is = rw one_shifted (omega (arith, ones-pow k))
@@ -83,35 +81,6 @@ bit-room (suc n) m (suc k) h g e =
     let p : 2 ^ suc n ≡ 2 ^ n * 2 = pow-suc 2 n in
     let q : 2 ^ suc k ≡ 2 ^ k * 2 = pow-suc 2 k in
     omega (arith, bit-room n (m / 2) k (omega arith) (omega arith) e)
-
-module _ (m k : ℕ) (b : Bool) (b-is : b ≡ bit m k) where
-  pub with-old : b ≡ true → m ≡ with_bit m k
-  unfolding with_bit
-  with-old t = rw (← b-is, t)
-
-  module _ (low : k < 16) (small : m < 2 ^ 16) (t : b ≡ false) where
-    one_bit : 1 * 2 ^ k % 65536 ≡ 2 ^ k
-    one_bit = let h : 2 ^ k < 65536 = pow-lt {i = k} {j = 16} low in omega arith
-
-    pub with-fits : m + 1 * 2 ^ k % 65536 < 65536
-    with-fits = rw one_bit (bit-room 16 m k small low (sym b-is ∙ t))
-
-    pub with-new : m + 1 * 2 ^ k % 65536 ≡ with_bit m k
-    unfolding with_bit
-    with-new = rw (one_bit, ← b-is, t)
-
-pub ruleset additions = (with-old, with-fits, with-new)
-
--- ---- for callers: a set of the lowest k bits, and a set with one more bit, lie within the list
-pub ones_below : (k : ℕ) → below k (ones k) ≡ true
-ones_below k = lt-ltb (ones k) (2 ^ k) (omega (arith, ones-pow k))
-
-pub with-below : (n m k : ℕ) → below n m ≡ true → k < n → below n (with_bit m k) ≡ true
-unfolding with_bit
-with-below n m k h low = go (bit m k) refl where
-  go : (b : Bool) → bit m k ≡ b → below n (cond b m (m + 2 ^ k)) ≡ true
-  go true e = h
-  go false e = lt-ltb _ _ (bit-room n m k (ltb-true m (2 ^ n) h) low e)
 
 -- its bits are those of the set, and the one
 even-next : (m : ℕ) → bit m 0 ≡ false → ((m + 1) / 2 ≡ m / 2) × (bit (m + 1) 0 ≡ true)
@@ -144,4 +113,21 @@ bit-with m k j = go (bit m k) refl where
   go true e = same (eqb j k) refl e
   go false e = bit-plus m k j e
 
-pub ruleset digits = (bit-shift, bit-none, within-wide, within-shift, full-room, full-fits, full_is)
+-- the set with a bit set, in the words of the code
+bit-number : (m k : ℕ) → bit_at m k ≡ cond (bit m k) 1 0
+bit-number m k = rw (← bit-shift m k) (go (m / 2 ^ k % 2) (omega arith)) where
+  go : (r : ℕ) → r < 2 → r ≡ cond (eqb r 1) 1 0
+  go zero h = refl
+  go (suc zero) h = refl
+  go (suc (suc r)) h = absurd (omega arith)
+
+pub or-with : (m k : ℕ) → k < 16 → bit_or m (1 * 2 ^ k % 65536) ≡ with_bit m k
+or-with m k low = same_from_bits _ _ (λ i. each i (eqb i k) refl) where
+  each : (i : ℕ) (b : Bool) → eqb i k ≡ b → bit_at (bit_or m (1 * 2 ^ k % 65536)) i ≡ bit_at (with_bit m k) i
+  each i true e =
+      let q : i ≡ k = eqb-true i k e in
+      rw (bit-number (with_bit m k) i, bit-with m k i, e, q) (bit_at_set_same w16 m k low)
+  each i false e =
+      rw (bit-number (with_bit m k) i, bit-with m k i, e) (bit_at_set_other w16 m k low i (eqb-false i k e) ∙ bit-number m i)
+
+pub ruleset digits = (bit-shift, bit-none, within-wide, within-shift)

@@ -5,12 +5,12 @@ use mathlib.Core.Path.{◌≡◌, refl, sym, ap, ◌∙◌}
 use mathlib.Core.Bool.{Bool, true, false, cond}
 use mathlib.Core.Logic.{◌⊎◌, inl, inr}
 use mathlib.Core.List.{List, [], ◌∷◌}
-use native.Mathlib.Nat.{sub-zero, add-sub_cancel_left}
+use native.Mathlib.Nat.{sub-zero}
 use native.Mathlib.Omega.{arith}
-use lib.ListN.{length, take, drop, length-take, length-drop}
+use lib.ListN.{length, take, drop}
 use lib.Seq.{drop-drop}
 use lib.Dec.{eqb, ltb, leb-suc-suc}
-use borrow.Author.Tests.{eqb-true, eqb-false, eq-eqb, ne_eqb, le-leb, lt-leb, lt-ltb, le-ltb}
+use borrow.Author.Tests.{eqb-true, eqb-false, eq-eqb, ne_eqb, le-leb, lt-leb, lt-ltb}
 use Rattle.octets.proofs.Bools.{which}
 use Rattle.octets.proofs.Slices.{tail_all}
 use Rattle.octets.specs.Octets.{octets, same_octets, same_id}
@@ -63,38 +63,8 @@ module _ (id s : List ℕ) (n p : ℕ) (p-is : p ≡ place (ids_at n s) id) wher
   listed : mem id (ids_at n s) ≡ ltb p n
   listed = mem-place id (ids_at n s) ∙ rw (length_ids, p-is)
 
-  pub has-it : p < n → true ≡ mem id (ids_at n s)
-  has-it h = sym (listed ∙ lt-ltb _ _ h)
-
-  pub has-not : n ≤ p → false ≡ mem id (ids_at n s)
-  has-not h = sym (listed ∙ le-ltb _ _ h)
-
   pub has-test : ltb p n ≡ mem id (ids_at n s)
   has-test = sym listed
-
--- ---- one turn of the search: x is what the loop began with
-module _ (s id : List ℕ) (n : ℕ) where
-  pub find-start : place (ids_at n s) id ≡ 0 + place (rest n s 0) id
-  find-start = rw (rest-start n s) (omega arith)
-
-  module _ (k x : ℕ) (inv : x ≡ k + place (rest n s k) id) where
-    pub find-end : k ≤ n → n ≤ k → n ≡ x
-    unfolding place
-    find-end g h = sym (inv ∙ rw (rest_end n s k h) (omega arith))
-
-    module _ (room : n * 16 ≤ length s) (more : k < n) (b : Bool) (b-is : b ≡ same_id id (take (k * 16 + 16 - k * 16) (drop (k * 16) s))) where
-      same : same_octets id (octets 16 s (k * 16)) ≡ b
-      same =
-          let l : length (octets 16 s (k * 16)) ≡ 16 = simp (length-take, length-drop) (omega arith) in
-          sym ((rw add-sub_cancel_left at b-is) ∙ same-as id (octets 16 s (k * 16)) l)
-
-      pub find-hit : b ≡ true → k ≡ x
-      unfolding place
-      find-hit t = sym (inv ∙ simp (rest-step n s k more, same, t) (omega arith))
-
-      pub find-miss : b ≡ false → x ≡ k + 1 + place (rest n s (k + 1)) id
-      unfolding place
-      find-miss t = inv ∙ simp (rest-step n s k more, same, t) (omega arith)
 
 -- ---- one turn of the test for repeats
 module _ (s : List ℕ) (n : ℕ) where
@@ -106,14 +76,14 @@ module _ (s : List ℕ) (n : ℕ) where
     unfolding distinct
     distinct-end h = sym (inv ∙ rw (rest_end n s k h))
 
-    module _ (more : k < n) (b : Bool)
-        (b-is : b ≡ mem (take (k * 16 + 16 - k * 16) (drop (k * 16) s))
-        (ids_at (n - (k + 1)) (take (length s - (k * 16 + 16)) (drop (k * 16 + 16) s))))
+    module _ (more : k < n) (id behind : List ℕ) (front : id ≡ take 16 (take (length s - k * 16) (drop (k * 16) s)))
+        (back : behind ≡ drop 16 (take (length s - k * 16) (drop (k * 16) s))) (b : Bool) (b-is : b ≡ mem id (ids_at (n - k - 1) behind))
       where
         known : mem (octets 16 s (k * 16)) (rest n s (k + 1)) ≡ b
         known =
             let f : k * 16 + 16 ≡ (k + 1) * 16 = omega arith in
-            sym (rw f at (simp (add-sub_cancel_left, tail_all s (k * 16 + 16)) at b-is))
+            let g : n - k - 1 ≡ n - (k + 1) = omega arith in
+            sym (b-is ∙ rw (front, back, g) (simp (tail_all, drop-drop, f)))
 
         pub distinct-repeat : b ≡ true → false ≡ x
         unfolding distinct
@@ -125,26 +95,17 @@ module _ (s : List ℕ) (n : ℕ) where
 
 -- ---- the answers about an own list
 module _ (own : List ℕ) where
-  pub list-uneven : (length own % 16 ≡ 0 → ⊥) → false ≡ list_ok own
+  pub list-refused : (length own % 16 ≡ 0 → ⊥)
+      ⊎ (((length own % 16 ≡ 0) × (length own / 16 < 1)) ⊎ ((length own % 16 ≡ 0) × (1 ≤ length own / 16) × (16 < length own / 16)))
+      → false ≡ list_ok own
   unfolding list_ok
-  list-uneven h = rw (ne_eqb _ _ h)
+  list-refused (inl h) = rw (ne_eqb _ _ h)
+  list-refused (inr (inl (even, h))) = simp (eq-eqb _ _ even, length_ids, lt-leb _ _ h)
+  list-refused (inr (inr (even, some, h))) = simp (eq-eqb _ _ even, length_ids, le-leb _ _ some, lt-leb _ _ h)
 
-  module _ (even : length own % 16 ≡ 0) where
-    pub list-empty : length own / 16 < 1 → false ≡ list_ok own
-    unfolding list_ok
-    list-empty h = simp (eq-eqb _ _ even, length_ids, lt-leb _ _ h)
+  pub list-judged : length own % 16 ≡ 0 → 1 ≤ length own / 16 → length own / 16 ≤ 16
+      → (b : Bool) → b ≡ distinct (ids_at (length own / 16) own) → b ≡ list_ok own
+  unfolding list_ok
+  list-judged even some h b e = e ∙ simp (eq-eqb _ _ even, length_ids, le-leb _ _ some, le-leb _ _ h)
 
-    module _ (some : 1 ≤ length own / 16) where
-      pub list-long : 16 < length own / 16 → false ≡ list_ok own
-      unfolding list_ok
-      list-long h = simp (eq-eqb _ _ even, length_ids, le-leb _ _ some, lt-leb _ _ h)
-
-      pub list-judged : length own / 16 ≤ 16 → (b : Bool) → b ≡ distinct (ids_at (length own / 16) own) → b ≡ list_ok own
-      unfolding list_ok
-      list-judged h b e = e ∙ simp (eq-eqb _ _ even, length_ids, le-leb _ _ some, le-leb _ _ h)
-
-pub ruleset searches = (find-start, find-end, find-hit, find-miss, has-it, has-not, has-test)
-
-pub ruleset repeats = (distinct-start, distinct-end, distinct-repeat, distinct_more)
-
-pub ruleset own-lists = (list-uneven, list-empty, list-long, list-judged)
+pub ruleset repeats = (distinct-start, distinct-end)

@@ -3,6 +3,7 @@ pub mod Replies
 pub mod Ids
 pub mod Digits
 pub mod Pads
+pub mod Chunks
 pub mod Places
 pub mod Builds
 pub mod Mentions

@@ -1,27 +1,20 @@
 -- The kept places inside the own list: one turn of the test, in the words of the code, and what runs keep.
 -- Assumes nothing.
-use Prim.Native.Nat.{ℕ, zero, suc, ◌+◌, ◌*◌, ◌-◌, ◌/◌, ◌%◌, ◌^◌, ◌≤◌, ◌<◌}
+use Prim.Native.Nat.{ℕ, suc, ◌+◌, ◌*◌, ◌/◌, ◌^◌, ◌≤◌, ◌<◌}
 use mathlib.Core.Path.{◌≡◌, refl, sym, ◌∙◌}
 use mathlib.Core.Bool.{Bool, true, false, cond, not, ◌&&◌, ◌||◌}
 use mathlib.Core.List.{List, [], ◌∷◌, ◌++◌}
-use native.Mathlib.Nat.{pow-suc, sub-zero}
+use native.Mathlib.Nat.{pow-suc}
 use native.Mathlib.Numerals.{add-one}
 use native.Mathlib.Omega.{arith}
 use lib.ListN.{length, get_or, drop, drop_of_length-le}
 use lib.Seq.{drop-cons}
 use lib.Dec.{ltb}
-use borrow.Author.Tests.{eq-eqb, ne_eqb, lt-ltb, ltb-true}
+use borrow.Author.Tests.{lt-ltb, ltb-true}
 use Rattle.octets.proofs.Bools.{both}
 use Rattle.schemes.specs.Lists.{Id, place, bit}
 use Rattle.schemes.specs.Sets.{has, noted, mentions, kept_places, open_places, kept_below, pad_to}
-use Rattle.schemes.specs.Answers.{places_from, left_places, left_of}
-
-module _ (p m n : ℕ) where
-  pub asked : m % 2 ≡ 1 → ltb p n ≡ (not (bit m 0) || ltb p n)
-  asked h = rw (eq-eqb (m % 2) 1 h)
-
-  pub unasked : (m % 2 ≡ 1 → ⊥) → true ≡ (not (bit m 0) || ltb p n)
-  unasked h = rw (ne_eqb (m % 2) 1 h)
+use Rattle.schemes.specs.Answers.{left_of}
 
 module _ (ks : List ℕ) (sized : length ks ≡ 16) (n k m : ℕ) (x : Bool) (inv : x ≡ kept_below n (drop k ks) m) where
   pub below_end : 16 ≤ k → true ≡ x
@@ -39,7 +32,7 @@ module _ (ks : List ℕ) (sized : length ks ≡ 16) (n k m : ℕ) (x : Bool) (in
     pub below-pass : b ≡ true → x ≡ kept_below n (drop (k + 1) ks) (m / 2)
     below-pass t = step ∙ rw t
 
-pub ruleset limits = (asked, unasked, below_end, below-stop, below-pass)
+pub ruleset limits = (below_end, below-stop, below-pass)
 
 -- ---- for callers: the places that an end keeps lie inside its list
 abbrev pub AllBelow : ℕ → List ℕ → Type 0
@@ -97,26 +90,3 @@ open-below n (k ∷ ks) c m h g =
     go true true u i f = i f
     go true false u i f = ltb-true k n u
     go false y u i f = i f
-
-pub places-below : (n k j c : ℕ) → c < 2 ^ (n - k) → kept_below n (places_from k j) c ≡ true
-unfolding kept_below places_from
-places-below n k zero c h = refl
-places-below n k (suc j) c h = go (n - k) refl (places-below n (suc k) j (c / 2)) where
-  go : (d : ℕ) → n - k ≡ d → (c / 2 < 2 ^ (n - suc k) → kept_below n (places_from (suc k) j) (c / 2) ≡ true)
-      → (not (bit c 0) || ltb k n) && kept_below n (places_from (suc k) j) (c / 2) ≡ true
-  go zero e i =
-      let q : c < 2 ^ 0 = rw e at h in
-      let z : c ≡ 0 = omega arith in
-      rw z (none-asked n (places_from (suc k) j))
-  go (suc d) e i =
-      let f : n - suc k ≡ d = omega arith in
-      let p : 2 ^ suc d ≡ 2 ^ d * 2 = pow-suc 2 d in
-      let q : c < 2 ^ suc d = rw e at h in
-      rw (lt-ltb k n (omega arith)) (over (not (bit c 0)) (i (rw f (omega arith))))
-    where
-      over : (b : Bool) → kept_below n (places_from (suc k) j) (c / 2) ≡ true → (b || true) && kept_below n (places_from (suc k) j) (c / 2) ≡ true
-      over true r = r
-      over false r = r
-
-pub own_below : (n c m : ℕ) → c < 2 ^ n → ((left_of (left_places 16 c m)).left ≡ 0 → ⊥) → (left_of (left_places 16 c m)).place < n
-own_below n c m h g = open-below n (places_from 0 16) c m (places-below n 0 16 c (rw sub-zero h)) g

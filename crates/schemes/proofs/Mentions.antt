@@ -1,20 +1,20 @@
 -- The kept places: a search among places, their number, and one turn of the loop over the peer's ids, in the words of the code.
 -- Assumes nothing.
-use Prim.Native.Nat.{ℕ, zero, suc, ◌+◌, ◌*◌, ◌-◌, ◌/◌, ◌≤◌, ◌<◌}
+use Prim.Native.Nat.{ℕ, zero, suc, ◌+◌, ◌*◌, ◌-◌, ◌≤◌, ◌<◌}
 use mathlib.Core.Path.{◌≡◌, refl, sym, ap, ◌∙◌}
 use mathlib.Core.Bool.{Bool, true, false, cond, not, ◌&&◌, ◌||◌}
+use mathlib.Core.Logic.{inl, inr}
 use mathlib.Core.List.{List, [], ◌∷◌, ◌++◌}
-use native.Mathlib.Nat.{add-sub_cancel_left}
-use native.Mathlib.Numerals.{add-one}
 use native.Mathlib.Omega.{arith}
-use lib.ListN.{length, get_or, set, take, drop, replicate, length-append, length-take, drop_of_length-le}
-use lib.Seq.{drop-cons, drop-drop, take-append_seam}
+use lib.ListN.{length, set, take, drop, replicate, length-append, length-take}
+use lib.Seq.{drop-drop, take-append_seam}
 use lib.Arith.{lt_of_le-ne}
 use lib.Dec.{eqb, ltb}
-use borrow.Author.Tests.{eq-eqb, ne_eqb, lt-ltb, le-ltb, eqb-true, eqb-false, ltb-true}
+use borrow.Author.Tests.{eq-eqb, ne_eqb, lt-ltb, eqb-true, eqb-false, ltb-true}
+use Rattle.octets.proofs.Bools.{which}
+use Rattle.std.specs.List.{list_any}
 use Rattle.octets.specs.Octets.{octets}
-use Rattle.message.specs.Show.{ids_at, ids_of}
-use Rattle.message.proofs.Ids.{length_ids}
+use Rattle.message.specs.Show.{ids_at}
 use Rattle.schemes.specs.declared.Kept.{Kept}
 use Rattle.schemes.specs.Lists.{Id, place}
 use Rattle.schemes.specs.Sets.{has, noted, mentions, kept_places, pad_to}
@@ -22,22 +22,17 @@ use Rattle.schemes.specs.Answers.{kept_of, places_in, Noting}
 use Rattle.schemes.proofs.Pads.{pad-more}
 use Rattle.schemes.proofs.Replies.{has-append}
 
--- ---- one turn of the search for a place: x is what the loop began with
-module _ (s : List ℕ) (p i : ℕ) (x : Bool) (inv : x ≡ has p (drop i s)) where
-  pub place_end : length s ≤ i → false ≡ x
-  unfolding has
-  place_end h = sym (inv ∙ rw (drop_of_length-le s h))
+-- ---- a place among places, as std finds it
+eqb-flip : (a b : ℕ) → eqb a b ≡ eqb b a
+eqb-flip a b = elim (which (eqb a b)) [
+  | inl e ↦ e ∙ sym (eq-eqb b a (sym (eqb-true a b e)))
+  | inr e ↦ e ∙ sym (ne_eqb b a (λ f. eqb-false a b e (sym f)))
+]
 
-  module _ (more : i < length s) where
-    pub place-hit : get_or s i 0 ≡ p → true ≡ x
-    unfolding has
-    place-hit e = sym (inv ∙ rw (drop-cons s i 0 more, eq-eqb p (get_or s i 0) (sym e)))
-
-    pub place-miss : (get_or s i 0 ≡ p → ⊥) → x ≡ has p (drop (i + 1) s)
-    unfolding has
-    place-miss e = inv ∙ rw (drop-cons s i 0 more, ne_eqb p (get_or s i 0) (λ f. e (sym f)), add-one)
-
-pub ruleset places = (place_end, place-hit, place-miss)
+pub any-has : (p : ℕ) (ps : List ℕ) → list_any (λ q. eqb q p) ps ≡ has p ps
+unfolding has
+any-has p [] = refl
+any-has p (q ∷ ps) = rw (eqb-flip q p, any-has p ps) refl
 
 -- ---- one place more at the end
 or-false : (b : Bool) → (b || false) ≡ b
@@ -99,15 +94,7 @@ kept-sized own reply = mentions-sized own reply [] (omega (arith, free-none (len
 pub kept-few : (own reply : List Id) → length (kept_places own reply) ≤ length own
 kept-few own reply = omega (arith, kept-sized own reply)
 
-pub kept_more : (own reply : List Id) (p : ℕ) → p < length own → has p (kept_places own reply) ≡ false → length (kept_places own reply) < length own
-kept_more own reply p h f = omega (arith, kept-sized own reply, free-less (length own) p (kept_places own reply) h f)
-
 -- ---- one id more
-mentions-snoc : (own xs : List Id) (y : Id) (ps : List ℕ) → mentions own (xs ++ (y ∷ [])) ps ≡ noted (length own) (place own y) (mentions own xs ps)
-unfolding mentions
-mentions-snoc own [] y ps = refl
-mentions-snoc own (x ∷ xs) y ps = mentions-snoc own xs y (noted (length own) (place own x) ps)
-
 pub ids-snoc : (j : ℕ) (s : List ℕ) → ids_at (suc j) s ≡ ids_at j s ++ (octets 16 s (j * 16) ∷ [])
 unfolding ids_at
 ids-snoc zero s = refl
@@ -133,18 +120,12 @@ module _ (k : Kept) (p n : ℕ) (pre : Noting k p n) where
   pub note-inside : k.count ≤ length k.places
   note-inside = omega (arith, counted, length-take k.count k.places)
 
-  pub note-beyond : n ≤ p → k ≡ kept_of (noted n p (places_in k))
-  note-beyond h = pre.whole ∙ rw (le-ltb p n h)
-
   module _ (low : p < n) (b : Bool) (b-is : b ≡ has p (places_in k)) where
     pub note-known : b ≡ true → k ≡ kept_of (noted n p (places_in k))
     note-known t = pre.whole ∙ rw (lt-ltb p n low, ← b-is, t)
 
     pub note-room : b ≡ false → k.count < 16
     note-room t = pre.room low (sym b-is ∙ t)
-
-    pub note-fits : b ≡ false → k.count + 1 < 4294967296
-    note-fits t = omega (arith, note-room t)
 
     pub note-new : b ≡ false
         → ◌≡◌ {A = Kept} (record { places = set k.places k.count p; count = k.count + 1 }) (kept_of (noted n p (places_in k)))
@@ -156,42 +137,39 @@ module _ (k : Kept) (p n : ℕ) (pre : Noting k p n) where
         let e : k.count + 1 ≡ length (ps ++ (p ∷ [])) = simp length-append (omega (arith, counted)) in
         rw (lt-ltb p n low, ← b-is, t, a, e)
 
-pub ruleset notes = (counted, note-inside, note-beyond, note-known, note-room, note-fits, note-new)
+-- ---- the loop over the peer's ids: of the ids `all`, those of `left` are not noted yet
+pub record Keeping (own all left : List Id) (k : Kept) : Type 0 where
+  pub whole : k ≡ kept_of (places_in k)
+  pub sized : Sized (length own) (places_in k)
+  pub left_to : kept_places own all ≡ mentions own left (places_in k)
 
--- ---- one turn of the loop over the peer's ids
-module _ (own : List ℕ) (n : ℕ) (peer : List ℕ) where
-  pub kept-start : ◌≡◌ {A = Kept} (record { places = replicate 16 0; count = 0 }) (kept_of (kept_places (ids_at n own) (ids_at 0 peer)))
-  unfolding kept_of mentions ids_at
-  kept-start = refl
+module _ (own all : List Id) where
+  pub keeping-start : Keeping own all all (record { places = replicate 16 0; count = 0 })
+  unfolding kept_of
+  keeping-start = record { whole = refl; sized = omega (arith, free-none (length own)); left_to = refl }
 
-  module _ (j : ℕ) (k : Kept) (inv : k ≡ kept_of (kept_places (ids_at n own) (ids_at j peer))) where
-    kept_in : places_in k ≡ kept_places (ids_at n own) (ids_at j peer)
-    kept_in = rw inv (in_kept (kept_places (ids_at n own) (ids_at j peer)))
-
-    pub kept-noting : (p : ℕ) → n ≤ 16 → Noting k p n
+  module _ (k : Kept) where
+    pub keeping-noting : (left : List Id) → Keeping own all left k → length own ≤ 16 → (p : ℕ) → Noting k p (length own)
     unfolding kept_of
-    kept-noting p few = record {
+    keeping-noting left e few p = record {
       few = few;
-      whole = inv ∙ ap kept_of (sym kept_in);
-      room = λ low free.
-          let e : k.count ≡ length (kept_places (ids_at n own) (ids_at j peer)) = ap (λ (x : Kept). x.count) inv in
-          let l : length (ids_at n own) ≡ n = length_ids n own in
-          let f : has p (kept_places (ids_at n own) (ids_at j peer)) ≡ false = rw kept_in at free in
-          let h : p < length (ids_at n own) = rw l low in
-          let m = kept_more (ids_at n own) (ids_at j peer) p h f in
-          omega arith;
+      whole = e.whole;
+      room = λ low new.
+          let c : k.count ≡ length (places_in k) = ap (λ (x : Kept). x.count) e.whole in
+          omega (arith, e.sized, free-less (length own) p (places_in k) low new);
     }
 
-    pub kept-turn : (p : ℕ) → p ≡ place (ids_at n own) (take (j * 16 + 16 - j * 16) (drop (j * 16) peer)) → (r : Kept)
-        → r ≡ kept_of (noted n p (places_in k)) → r ≡ kept_of (kept_places (ids_at n own) (ids_at (j + 1) peer))
-    kept-turn p p-is r r-is =
-        let e : p ≡ place (ids_at n own) (octets 16 peer (j * 16)) = rw add-sub_cancel_left at p-is in
-        let m = mentions-snoc (ids_at n own) (ids_at j peer) (octets 16 peer (j * 16)) [] in
-        let q : noted n p (places_in k) ≡ mentions (ids_at n own) (ids_at j peer ++ (octets 16 peer (j * 16) ∷ [])) [] =
-        rw (kept_in, e) (sym (rw length_ids at m)) in
-        r-is ∙ ap kept_of (q ∙ ap (λ (l : List Id). mentions (ids_at n own) l []) (sym (rw add-one (ids-snoc j peer))))
+    pub keeping-turn : (x : Id) (left : List Id) → Keeping own all (x ∷ left) k → (r : Kept)
+        → r ≡ kept_of (noted (length own) (place own x) (places_in k)) → Keeping own all left r
+    unfolding mentions
+    keeping-turn x left e r r-is =
+        let i : places_in r ≡ noted (length own) (place own x) (places_in k) = rw r-is (in_kept (noted (length own) (place own x) (places_in k))) in
+        record {
+          whole = r-is ∙ ap kept_of (sym i);
+          sized = rw i (noted-sized (length own) (place own x) (places_in k) e.sized);
+          left_to = e.left_to ∙ ap (mentions own left) (sym i);
+        }
 
-    pub kept-done : j ≤ length peer / 16 → length peer / 16 ≤ j → k ≡ kept_of (kept_places (ids_at n own) (ids_of peer))
-    kept-done g h = let e : j ≡ length peer / 16 = omega arith in rw e at inv
-
-pub ruleset keepings = (kept-start, kept-noting, kept-turn, kept-done)
+    pub keeping-end : Keeping own all [] k → k ≡ kept_of (kept_places own all)
+    unfolding mentions
+    keeping-end e = e.whole ∙ ap kept_of (sym e.left_to)

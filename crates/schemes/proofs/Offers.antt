@@ -7,8 +7,8 @@ use mathlib.Core.List.{List, [], ◌∷◌, ◌++◌, append_assoc, append-nil}
 use native.Mathlib.Nat.{mul_comm}
 use native.Mathlib.Numerals.{add-one}
 use native.Mathlib.Omega.{arith}
-use lib.ListN.{length, get_or, set, take, drop, replicate, length-append, length-take, length-drop, length-replicate, replicate-append-replicate}
-use lib.Seq.{paste, paste-zero, paste-suc, take_all, take_at, drop_at, drop-append-add}
+use lib.ListN.{length, take, drop, replicate, length-append, length-take, length-drop, length-replicate, replicate-append-replicate}
+use lib.Seq.{paste, take_all, take_at, drop_at, drop-append-add}
 use Rattle.octets.specs.Octets.{octets}
 use Rattle.message.specs.Show.{ids_at}
 use Rattle.message.proofs.Ids.{length_ids}
@@ -17,21 +17,6 @@ use Rattle.schemes.specs.Lists.{Id, bit, join_ids}
 use Rattle.schemes.specs.Sets.{left, pad_to}
 use Rattle.schemes.specs.Answers.{schemes_of}
 use Rattle.schemes.proofs.Mentions.{ids-snoc}
-
--- ---- an id copied behind others
-module _ (d id : List ℕ) (n : ℕ) where
-  pub copy_start : d ≡ paste d (16 * n) id 0
-  copy_start = paste-zero d (16 * n) id
-
-  module _ (sized : length d ≡ 256) (id-sized : length id ≡ 16) (low : n < 16) (x : List ℕ) (j : ℕ) (inv : x ≡ paste d (16 * n) id j) where
-    pub copy_more : j < 16 → set x (16 * n + j) (get_or id j 0) ≡ paste d (16 * n) id (j + 1)
-    copy_more h = rw (inv, add-one) (paste-suc d (16 * n) id j 0 (omega arith) (omega arith))
-
-    pub copy-end : j ≤ 16 → 16 ≤ j
-        → ◌≡◌ {A = Schemes} (record { octets = x; count = n + 1 }) (record { octets = paste d (16 * n) id 16; count = n + 1 })
-    copy-end g h = let e : j ≡ 16 = omega arith in rw (inv, e)
-
-pub ruleset appends = (copy_start, copy_more, copy-end)
 
 drop-zeros : (k n : ℕ) → k ≤ n → drop k (replicate {A = ℕ} n 0) ≡ replicate (n - k) 0
 drop-zeros k n h =

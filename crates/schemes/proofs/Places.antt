@@ -11,10 +11,10 @@ use native.Mathlib.Omega.{arith}
 use lib.ListN.{length, get_or, drop, length-map, get_or-eq_default}
 use lib.Dec.{eqb}
 use lib.Bits.{bit_and, and_step, and_le_l}
-use lib.Count.{ones, ones_step, count_trailing_zeros, trailing_le, under}
+use lib.Count.{ones, ones_step, count_trailing_zeros, under}
 use lib.Pow.{shr-shr}
 use Rattle.schemes.specs.Lists.{Id, first, bit}
-use Rattle.schemes.specs.Sets.{set_of, left, open_places, named, pad_to}
+use Rattle.schemes.specs.Sets.{set_of, left, open_places, named}
 use Rattle.schemes.specs.Answers.{marked_at, places_from, left_places, left_of}
 use Rattle.schemes.specs.declared.Left.{Left}
 use Rattle.schemes.proofs.Digits.{bit-shift}
@@ -186,10 +186,45 @@ module _ (c m : ℕ) (fits : c < 65536) (marks : m < 65536) where
       let e : get_or (places_from 0 16) k 0 ≡ k = places-at 0 16 k h ∙ omega arith in
       rw e at (choice-some (places_from 0 16) c m (length-places 0 16) fits m own-marks)
 
-pub zeros-fit : (w : ℕ) → count_trailing_zeros 16 w < 18446744073709551616
-zeros-fit w = omega (arith, trailing_le 16 w)
+-- ---- the initiator's answer, from the acceptor's on the marks by the kept places
+no-places : (l : List ℕ) → length l ≡ 0 → ◌≡◌ {A = Left} (left_of l) (record { place = 0; left = 0 })
+unfolding left_of
+no-places [] h = refl
+no-places (x ∷ l) h = absurd (omega arith)
 
-pub ruleset choices = (zeros-fit, choice-none, choice-some, choice-inside, own-none, own-some)
+counted : (l : List ℕ) → (left_of l).left ≡ length l
+unfolding left_of
+counted l = refl
+
+module _ (ks : List ℕ) (c m : ℕ) (sized : length ks ≡ 16) (fits : c < 65536) (w : ℕ) (w-is : w ≡ marked_at ks m) (marks : w < 65536)
+    (o : Left) (o_is : o ≡ left_of (left_places 16 c w)) where
+  count-own : length (left_places 16 c w) ≡ o.left
+  count-own = sym (ap (λ (x : Left). x.left) o_is ∙ counted (left_places 16 c w))
+
+  count-kept : length (open_places ks c m) ≡ o.left
+  count-kept =
+      let a = count-open ks c m (rw sized fits) in
+      let b = count-open (places_from 0 16) c w (rw length-places fits) in
+      let e : opened ks c m ≡ opened (places_from 0 16) c w = rw (sized, length-places, w-is) (ap (less 16 c) (rw (← w-is) (own-marks c w fits marks))) in
+      a ∙ ap ones e ∙ sym b ∙ count-own
+
+  pub kept-none : o.left ≡ 0 → o ≡ left_of (open_places ks c m)
+  kept-none h = o_is ∙ no-places (left_places 16 c w) (count-own ∙ h) ∙ sym (no-places (open_places ks c m) (count-kept ∙ h))
+
+  module _ (some-left : o.left ≡ 0 → ⊥) where
+    open-some : bit_and c (65535 - w) ≡ 0 → ⊥
+    open-some z = some-left (ap (λ (x : Left). x.left) (o_is ∙ sym (own-none c w fits marks z)))
+
+    own-is : ◌≡◌ {A = Left} o (record { place = count_trailing_zeros 16 (bit_and c (65535 - w)); left = ones (bit_and c (65535 - w)) })
+    own-is = o_is ∙ sym (own-some c w fits marks open-some)
+
+    pub kept-inside : o.place < 16
+    kept-inside = rw (ap (λ (x : Left). x.place) own-is) (choice-inside ks c m sized fits w w-is open-some)
+
+    pub kept-some : ◌≡◌ {A = Left} (record { place = get_or ks o.place 0; left = o.left }) (left_of (open_places ks c m))
+    kept-some = ap (λ (x : Left). record { place = get_or ks x.place 0; left = x.left }) own-is ∙ choice-some ks c m sized fits w w-is
+
+pub ruleset choices = (own-none, own-some, kept-none, kept-inside, kept-some)
 
 -- ---- for callers: what a set without bits beyond some places leaves, it leaves among them
 pub open-append : (ks zs : List ℕ) (c m : ℕ) → c < 2 ^ length ks → open_places (ks ++ zs) c m ≡ open_places ks c m
@@ -198,9 +233,6 @@ open-append [] zs c m h = let z : c ≡ 0 = omega arith in rw z (open_none zs m)
 open-append (k ∷ ks) zs c m h =
     let p : 2 ^ suc (length ks) ≡ 2 ^ length ks * 2 = pow-suc 2 (length ks) in
     rw (open-append ks zs (c / 2) m (omega arith))
-
-pub open-padded : (ks : List ℕ) (c m : ℕ) → c < 2 ^ length ks → open_places (pad_to 16 ks) c m ≡ open_places ks c m
-open-padded ks c m h = open-append ks _ c m h
 
 places-append : (k n j : ℕ) → places_from k (n + j) ≡ places_from k n ++ places_from (k + n) j
 unfolding places_from

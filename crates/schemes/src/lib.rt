@@ -10,14 +10,14 @@ pub mod set;
 // How many schemes an own list has at the most: a set has a bit for each.
 pub const MOST: usize = 16;
 
-// The own places of the reply's schemes, in the reply's order, with zeros behind them.
+// The own places of the reply's schemes, in the reply's order, with zeros behind them. An array with a count, here and in `Schemes`: memory is fixed, no heap.
 #[derive(Clone, Copy)]
 pub struct Kept {
     pub places: [u8; 16],
     pub count: u32,
 }
 
-// The lowest own place left, and how many were left; zeros where none was.
+// The lowest own place left, and how many were left; zeros where none was: an `Option` would say by `None` what a count of 0 says.
 #[derive(Clone, Copy)]
 pub struct Left {
     pub place: u32,

@@ -1,4 +1,4 @@
-// Lists of schemes in octets, 16 a scheme.
+// Lists of schemes in octets, 16 a scheme. A record's list has room for 16 schemes and a count beside it, in fixed memory: so list and count are two arguments.
 ghost use Rattle.std.specs.Prelude.{◌≡◌, ◌+◌, ◌*◌, ◌≤◌, ◌<◌, length};
 ghost use Rattle.octets.specs.Octets.{octets};
 ghost use Rattle.message.specs.Show.{ids_at};
@@ -8,21 +8,15 @@ use super::MOST;
 use message::field;
 use octets::same_id;
 
-// The place of the first of the n ids of a list that is `id`, or n where none is.
+// The place of the first of the n ids of a list that is `id`, or n where none is: a mark at the definition's `place` is not set for a scheme of another list.
 pub fn find(list: &[u8], n: usize, id: &[u8]) -> usize
     requires { n * 16 ≤ length list.now }
     ensures { result ≡ place (ids_at n list.now) id.now }
 {
-    let mut k: usize = 0;
-    while k < n {
-        let at = k * field::ID;
-        let end = at + field::ID;
-        if same_id(id, &list[at..end]) {
-            return k;
-        }
-        k += 1;
-    }
-    n
+    list[..n * field::ID]
+        .chunks_exact(field::ID)
+        .position(|listed| same_id(id, listed))
+        .unwrap_or(n)
 }
 
 // Whether `id` is one of the n ids of a list.
@@ -38,15 +32,11 @@ pub fn distinct_ids(list: &[u8], n: usize) -> bool
     requires { n * 16 ≤ length list.now }
     ensures { result ≡ distinct (ids_at n list.now) }
 {
-    let mut k: usize = 0;
-    while k < n {
-        let at = k * field::ID;
-        let end = at + field::ID;
-        let left = n - (k + 1);
-        if has_id(&list[end..], left, &list[at..end]) {
+    for k in 0..n {
+        let (id, behind) = list[k * field::ID..].split_at(field::ID);
+        if has_id(behind, n - k - 1, id) {
             return false;
         }
-        k += 1;
     }
     true
 }
@@ -56,13 +46,7 @@ pub fn list_ok(own: &[u8]) -> bool
     ensures { result ≡ list_ok own.now }
 {
     let count = own.len() / field::ID;
-    if own.len() % field::ID != 0 {
-        return false;
-    }
-    if count < 1 {
-        return false;
-    }
-    if MOST < count {
+    if own.len() % field::ID != 0 || count < 1 || MOST < count {
         return false;
     }
     distinct_ids(own, count)
@@ -73,12 +57,8 @@ pub fn id_at(s: &[u8], at: usize) -> [u8; 16]
     requires { at + 16 ≤ length s.now }
     ensures { result ≡ octets 16 s.now at }
 {
-    let mut id = [0u8; 16];
-    let mut j: usize = 0;
-    while j < field::ID {
-        id[j] = s[at + j];
-        j += 1;
-    }
+    let mut id = [0u8; field::ID];
+    id.copy_from_slice(&s[at..at + field::ID]);
     id
 }
 

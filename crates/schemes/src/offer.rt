@@ -17,11 +17,7 @@ fn with_id(s: Schemes, id: [u8; 16]) -> Schemes
 {
     let at = field::ID * s.count as usize;
     let mut octets = s.octets;
-    let mut j: usize = 0;
-    while j < field::ID {
-        octets[at + j] = id[j];
-        j += 1;
-    }
+    octets[at..at + field::ID].copy_from_slice(&id);
     Schemes {
         octets,
         count: s.count + 1,
@@ -37,10 +33,7 @@ pub fn gather(list: [u8; 256], n: usize, set: u16) -> Schemes
         octets: [0u8; 256],
         count: 0,
     };
-    let mut k: usize = 0;
-    while k < n {
-        let place = k as u32;
-        k += 1;
+    for place in 0..n as u32 {
         if bit_of(set, place) {
             schemes = with_id(schemes, id_of(list, place));
         }

@@ -2,26 +2,12 @@
 ghost use Rattle.std.specs.Prelude.{◌≡◌, not, ◌||◌, ◌*◌, ◌≤◌, length, ltb};
 ghost use Rattle.message.specs.Show.{ids_at, ids_of};
 ghost use Rattle.schemes.specs.Lists.{bit};
-ghost use Rattle.schemes.specs.Sets.{has, noted, kept_places, kept_below};
+ghost use Rattle.schemes.specs.Sets.{noted, kept_places, kept_below};
 ghost use Rattle.schemes.specs.Answers.{kept_of, places_in, Noting};
 
 use super::Kept;
 use super::list::find;
 use message::field;
-
-// Whether a place is one of those of a slice.
-fn has_place(places: &[u8], p: u8) -> bool
-    ensures { result ≡ has p places.now }
-{
-    let mut i: usize = 0;
-    while i < places.len() {
-        if places[i] == p {
-            return true;
-        }
-        i += 1;
-    }
-    false
-}
 
 // The kept places with p behind them, where p is one of n places and not there yet.
 fn note(k: Kept, p: usize, n: usize) -> Kept
@@ -33,8 +19,7 @@ fn note(k: Kept, p: usize, n: usize) -> Kept
     }
     let place = p as u8;
     let count = k.count as usize;
-    let places = k.places;
-    if has_place(&places[..count], place) {
+    if k.places[..count].contains(&place) {
         return k;
     }
     let mut next = k;
@@ -48,18 +33,12 @@ pub fn kept_places(own: &[u8], n: usize, peer: &[u8]) -> Kept
     requires { (n * 16 ≤ length own.now) × (n ≤ 16) }
     ensures { result ≡ kept_of (kept_places (ids_at n own.now) (ids_of peer.now)) }
 {
-    let count = peer.len() / field::ID;
     let mut kept = Kept {
         places: [0u8; 16],
         count: 0,
     };
-    let mut j: usize = 0;
-    while j < count {
-        let at = j * field::ID;
-        let end = at + field::ID;
-        let place = find(own, n, &peer[at..end]);
-        kept = note(kept, place, n);
-        j += 1;
+    for id in peer.chunks_exact(field::ID) {
+        kept = note(kept, find(own, n, id), n);
     }
     kept
 }
@@ -68,10 +47,7 @@ pub fn kept_places(own: &[u8], n: usize, peer: &[u8]) -> Kept
 fn place_within(p: u8, set: u16, n: u32) -> bool
     ensures { result ≡ (not (bit set 0) || ltb p n) }
 {
-    if set % 2 == 1 {
-        return (p as u32) < n;
-    }
-    true
+    set % 2 == 0 || (p as u32) < n
 }
 
 // Whether every kept place at a bit of the set is one of n.
@@ -79,13 +55,11 @@ pub fn kept_within(kept: [u8; 16], common: u16, n: u32) -> bool
     ensures { result ≡ kept_below n kept common }
 {
     let mut set = common;
-    let mut k: usize = 0;
-    while k < 16 {
-        if place_within(kept[k], set, n) {} else {
+    for place in &kept {
+        if !place_within(*place, set, n) {
             return false;
         }
-        set = set / 2;
-        k += 1;
+        set /= 2;
     }
     true
 }

@@ -1,15 +1,16 @@
-use Rattle.coverage.proofs.Marks.{sweeps, one-le}
-use native.Mathlib.Omega.{arith}
+use Rattle.std.proofs.Common.{arith, length}
+use Rattle.coverage.proofs.Marks.{sweep-done, sweep-more, bit}
 use Rattle.coverage.proofs.swept.Goals as goal
 
-pub loop-left-init : goal.loop-left-init
-loop-left-init c = (omega arith, omega arith, omega arith)
-
-pub overflow_add-count : goal.overflow_add-count
-overflow_add-count c = let l = one-le _ _ c.one_before-count.ensures in omega arith
-
-pub loop-left-preserved : goal.loop-left-preserved
-loop-left-preserved c = let l = one-le _ _ c.one_before-count.ensures in (omega arith, omega arith, search sweeps)
+pub loop-at-preserved : goal.loop-at-preserved
+loop-at-preserved c =
+    let l = c.loop-at in
+    record {
+      few = omega (arith, bit _ _ c.from-count.ensures);
+      counted = sweep-more c.args.map.now _ l.far l.count (length c.args.map.now) l.at _ _ c.loop-at-test.true c.max-far.ensures c.from-count.ensures l.invariant.counted;
+    }
 
 pub returns : goal.returns
-returns c = search sweeps
+returns c =
+    let l = c.loop-at in
+    sweep-done c.args.map.now _ l.far l.count (length c.args.map.now) l.at c.loop-at-test.false l.invariant.counted

@@ -1,24 +1,14 @@
+use Prim.Native.Nat.{ℕ}
+use mathlib.Core.Path.{◌≡◌, ◌∙◌}
+use lib.ListN.{length, get_or}
 use borrow.Author.Rules.{rules}
-use Rattle.schemes.proofs.Builds.{markings}
+use borrow.Author.Tests.{tests}
+use Rattle.schemes.specs.Lists.{bit}
+use Rattle.schemes.proofs.Builds.{set-at}
 use Rattle.schemes.proofs.choosing.marked_kept.Goals as goal
 
-pub loop-k-init : goal.loop-k-init
-loop-k-init c = (search rules, search (rules, markings))
-
-pub overflow_mul-set : goal.overflow_mul-set
-overflow_mul-set c = record { fits = search (rules, markings) }
-
-pub overflow_add-set : goal.overflow_add-set
-overflow_add-set c = record { fits = search (rules, markings) }
-
-pub loop-k-preserved-then-bit_of : goal.loop-k-preserved-then-bit_of
-loop-k-preserved-then-bit_of c = (search rules, search (rules, markings))
-
-pub overflow_mul-set-else-bit_of : goal.overflow_mul-set-else-bit_of
-overflow_mul-set-else-bit_of c = record { fits = search (rules, markings) }
-
-pub loop-k-preserved : goal.loop-k-preserved
-loop-k-preserved c = (search rules, search (rules, markings))
-
 pub returns : goal.returns
-returns c = search (rules, markings)
+returns c =
+    let sized : 16 ≡ length c.args.kept = search rules in
+    c.set_where.ensures (λ (k : ℕ). bit c.args.marks (get_or c.args.kept k 0)) (λ k b low q. search (rules, tests))
+    ∙ set-at (λ (k : ℕ). bit c.args.marks k) 0 c.args.kept 16 sized

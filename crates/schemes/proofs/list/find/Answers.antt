@@ -1,15 +1,14 @@
 use borrow.Author.Rules.{rules}
-use Rattle.schemes.proofs.Ids.{searches}
+use borrow.Author.Tests.{tests}
+use mathlib.Core.Path.{◌∙◌}
+use Rattle.octets.specs.Octets.{same_id}
+use Rattle.std.proofs.lemmas.Iterator.Search.{position_from_yields_List}
+use Rattle.schemes.proofs.Chunks.{front-yielded, found-place}
 use Rattle.schemes.proofs.list.find.Goals as goal
 
-pub loop-k-init : goal.loop-k-init
-loop-k-init c = (search rules, search searches)
-
-pub returns-then-same_id : goal.returns-then-same_id
-returns-then-same_id c = search searches
-
-pub loop-k-preserved : goal.loop-k-preserved
-loop-k-preserved c = (search rules, search searches)
-
 pub returns : goal.returns
-returns c = search searches
+returns c =
+    c.unwrap_or.ensures
+    ∙ found-place _ _ _ c.requires _
+    (position_from_yields_List (same_id c.args.id.now) _ _ c.position.result c.position.ensures.ran
+    (front-yielded _ c.args.list.now c.requires _ c.chunks_exact.ensures.rest c.chunks_exact.ensures.size) (λ x b q k. search (rules, tests)))

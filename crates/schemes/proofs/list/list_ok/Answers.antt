@@ -1,14 +1,8 @@
-use Rattle.schemes.proofs.Ids.{own-lists}
+use Rattle.schemes.proofs.Ids.{list-refused, list-judged}
 use Rattle.schemes.proofs.list.list_ok.Goals as goal
 
 pub returns-then-own-ne0 : goal.returns-then-own-ne0
-returns-then-own-ne0 c = search own-lists
-
-pub returns-then-count-lt1 : goal.returns-then-count-lt1
-returns-then-count-lt1 c = search own-lists
-
-pub returns-then-count-gt-MOST : goal.returns-then-count-gt-MOST
-returns-then-count-gt-MOST c = search own-lists
+returns-then-own-ne0 c = list-refused _ c.then-own-ne0.either
 
 pub returns : goal.returns
-returns c = search own-lists
+returns c = list-judged _ c.if-own-ne0.false c.if-count-lt1.false c.if-count-gt-MOST.false _ c.distinct_ids.ensures

@@ -1,12 +1,12 @@
-use Prim.Native.Nat.{◌-◌, ◌≤◌}
 use mathlib.Core.Path.{◌≡◌}
-use Rattle.message.specs.Show.{ids_at}
-use Rattle.schemes.specs.Sets.{kept_places}
-use Rattle.schemes.specs.Answers.{kept_of}
+use Rattle.std.specs.Slice.Iter.{chunks_exact_rest, chunks_exact_size}
+use Rattle.message.specs.Show.{ids_at, ids_of}
+use Rattle.schemes.proofs.Mentions.{Keeping}
 use Rattle.schemes.proofs.reply.kept_places.Given as goal
 
-abbrev pub invariant-loop-j : goal.invariant-loop-j
-invariant-loop-j l = (l.j ≤ l.count) × (l.kept ≡ kept_of (kept_places (ids_at l.n l.own) (ids_at l.j l.peer)))
-
-abbrev pub decreases-loop-j : goal.decreases-loop-j
-decreases-loop-j l = l.count - l.j
+abbrev pub invariant-loop-id : goal.invariant-loop-id
+invariant-loop-id l =
+    (goal.iterator-loop-id).can_next l.id-iterator ×
+    (goal.iterator-loop-id).is_finite l.id-iterator ×
+    (chunks_exact_size l.id-iterator ≡ 16) ×
+    Keeping (ids_at l.n l.own) (ids_of l.peer) (ids_of (chunks_exact_rest l.id-iterator)) l.kept

@@ -1,24 +1,16 @@
-use Rattle.schemes.proofs.Mentions.{notes}
 use borrow.Author.Rules.{rules}
+use mathlib.Core.Path.{◌∙◌}
+use Rattle.schemes.proofs.Mentions.{any-has, note-inside, note-known, note-room, note-new}
 use Rattle.schemes.proofs.reply.note.Goals as goal
 
-pub returns-then-n-p : goal.returns-then-n-p
-returns-then-n-p c = search (rules, notes)
+pub shared_ref_as_front-contains : goal.shared_ref_as_front-contains
+shared_ref_as_front-contains c = search (rules, note-inside)
 
-pub slice_bounds-places-end : goal.slice_bounds-places-end
-slice_bounds-places-end c = search (rules, notes)
-
-pub slice_bounds-has_place-end : goal.slice_bounds-has_place-end
-slice_bounds-has_place-end c = search (rules, notes)
-
-pub returns-then-has_place : goal.returns-then-has_place
-returns-then-has_place c = search (rules, notes)
+pub returns-then-contains : goal.returns-then-contains
+returns-then-contains c = note-known _ _ _ c.requires c.if-n-p.false _ (c.contains.ensures.value ∙ any-has _ _) c.if-contains.true
 
 pub bounds-next-count : goal.bounds-next-count
-bounds-next-count c = search (rules, notes)
-
-pub overflow_add-next : goal.overflow_add-next
-overflow_add-next c = record { fits = search (rules, notes) }
+bounds-next-count c = note-room _ _ _ c.requires c.if-n-p.false _ (c.contains.ensures.value ∙ any-has _ _) c.if-contains.false
 
 pub returns : goal.returns
-returns c = search (rules, notes)
+returns c = note-new _ _ _ c.requires c.if-n-p.false _ (c.contains.ensures.value ∙ any-has _ _) c.if-contains.false

@@ -1,24 +1,18 @@
+use Prim.Native.Nat.{ℕ}
+use mathlib.Core.Path.{◌∙◌, sym}
+use mathlib.Core.List.{[]}
+use lib.ListN.{get_or}
 use borrow.Author.Rules.{rules}
-use Rattle.schemes.proofs.Builds.{commons}
+use borrow.Author.Tests.{tests}
+use Rattle.message.specs.Show.{ids_at, ids_of}
+use Rattle.message.proofs.Ids.{length_ids}
+use Rattle.schemes.specs.Lists.{Id, mem}
+use Rattle.schemes.proofs.Builds.{set-at, listed-at}
 use Rattle.schemes.proofs.set.common_set.Goals as goal
 
-pub loop-k-init : goal.loop-k-init
-loop-k-init c = (search rules, search commons)
-
-pub overflow_mul-set : goal.overflow_mul-set
-overflow_mul-set c = record { fits = search (rules, commons) }
-
-pub overflow_add-set : goal.overflow_add-set
-overflow_add-set c = record { fits = search (rules, commons) }
-
-pub loop-k-preserved-then-has_id : goal.loop-k-preserved-then-has_id
-loop-k-preserved-then-has_id c = (search rules, search (rules, commons))
-
-pub overflow_mul-set-else-has_id : goal.overflow_mul-set-else-has_id
-overflow_mul-set-else-has_id c = record { fits = search (rules, commons) }
-
-pub loop-k-preserved : goal.loop-k-preserved
-loop-k-preserved c = (search rules, search (rules, commons))
-
 pub returns : goal.returns
-returns c = search (rules, commons)
+returns c =
+    let peer = ids_of c.args.peer.now in
+    let own = ids_at c.args.n c.args.own.now in
+    c.set_where.ensures (λ (k : ℕ). mem (get_or own k []) peer) (λ k b low q. search (rules, tests, listed-at))
+    ∙ set-at (λ (x : Id). mem x peer) [] own c.args.n (sym (length_ids c.args.n c.args.own.now))

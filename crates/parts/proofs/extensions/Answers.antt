@@ -1,8 +1,0 @@
-use Rattle.parts.proofs.Shows.{shows}
-use Rattle.parts.proofs.extensions.Goals as goal
-
-pub returns-then-m-lt-NEGO_HEADER_LEN : goal.returns-then-m-lt-NEGO_HEADER_LEN
-returns-then-m-lt-NEGO_HEADER_LEN c = search shows
-
-pub returns : goal.returns
-returns c = search shows
