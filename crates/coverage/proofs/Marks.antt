@@ -117,31 +117,9 @@ module _ (map m : List ℕ) where
   unfolding marked_all vectors_of content_of
   marks-nego v a map1 map2 es map3 e f e2 f2 g h = h ∙ simp (g, f2, e2, f, e)
 
--- ---- the layout by the kind's number
-module _ (kind : ℕ) (m : List ℕ) where
-  module _ (map map1 : List ℕ) where
-    abbrev Done : Shape → Type 0
-    Done shape = map1 ≡ marked_all map (vectors_of (content_of shape m))
-
-    pub by-nego : kind ≤ 1 → Done nego → Done (shape_of kind)
-    by-nego h e = rw (shape-nego kind h) e
-
-    module _ (not-nego : 1 < kind) where
-      pub by-exchange : kind ≤ 5 → (v : Vector) → v ≡ exchange_vector m → map1 ≡ marked map v → Done (shape_of kind)
-      by-exchange h v e f = rw (shape-exchange kind not-nego h) (marks-exchange map m v map1 e f)
-
-      module _ (not-exchange : 5 < kind) where
-        pub by-verify : kind ≡ 6 → (v : Vector) → v ≡ checksum_vector m → map1 ≡ marked map v → Done (shape_of kind)
-        by-verify h v e f = rw (shape-verify kind not-nego not-exchange h) (marks-verify map m v map1 e f)
-
-        pub by-alert : (kind ≡ 6 → ⊥) → Done alert → Done (shape_of kind)
-        by-alert h e = rw (shape-alert kind not-nego not-exchange h) e
-
 pub ruleset sweeps = (mark-out, mark-in, values-done, values-more, sweep-done, sweep-more)
 
 pub ruleset layouts = (marks-exchange, marks-verify, marks-alert, marks-nego)
-
-pub ruleset kinds = (room-nego, room-exchange, room-verify, room-alert, by-nego, by-exchange, by-verify, by-alert)
 
 -- ---- `count_octets`: the three counts of a message that has its header, and of one that has not
 module _ (m : List ℕ) where

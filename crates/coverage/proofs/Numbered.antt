@@ -11,8 +11,10 @@ use borrow.Author.Tests.{lt-leb, le-leb, leb-true, leb-false}
 use Rattle.octets.proofs.Bools.{which}
 use Rattle.vector.specs.declared.Vector.{Vector}
 use Rattle.vector.specs.Vector.{part}
-use Rattle.message.specs.Layout.{Shape, head_of, shape_of, header_of, nego, alert, values_of, elements_at, elements_of, octet_vector, scheme_vector, extension_vector, exchange_vector, checksum_vector, alert_vector, vectors_of, content_of}
-use Rattle.message.proofs.Shapes.{shape-nego, shape-exchange, shape-verify, shape-alert, room-nego, room-alert}
+use Rattle.message.specs.declared.Shape.{Shape as D·Shape}
+use Rattle.message.specs.declared.Shape.TheVariants as form
+use Rattle.message.specs.Layout.{Shape, shape_as, head_of, shape_of, header_of, nego, alert, values_of, elements_at, elements_of, octet_vector, scheme_vector, extension_vector, exchange_vector, checksum_vector, alert_vector, vectors_of, content_of}
+use Rattle.message.proofs.Shapes.{shape-nego, shape-exchange, shape-verify, shape-alert}
 use Rattle.coverage.specs.Coverage.{header_in, vectors_in, no_vector, vector_in}
 
 -- ---- the values of an array
@@ -85,32 +87,17 @@ module _ (m : List ℕ) (k : ℕ) (v : Vector) where
       e ∙ ap (λ (l : List ℕ). get_or (values_of (elements_of l)) (k - 1) no_vector) (es-is ∙ ap (part m) a-is)
       ∙ sym (behind-one (alert_vector m) (values_of (elements_of (part m (alert_vector m)))) k h)
 
-  -- ---- the layout by the kind's number
-  module _ (kind : ℕ) where
-    pub kind-nego : kind ≤ 1 → In nego → In (shape_of kind)
-    kind-nego h e = rw (shape-nego kind h) e
+  -- ---- by the layout that the code names
+  module _ (kind : ℕ) (r : D·Shape) (r-is : shape_as r ≡ shape_of kind) where
+    pub kind-exchange : r ≡ form.Exchange → (x : Vector) → x ≡ exchange_vector m → v ≡ get_or (x ∷ []) k no_vector → In (shape_of kind)
+    unfolding vectors_of content_of
+    kind-exchange h x x-is e = rw (sym r-is ∙ ap shape_as h) (e ∙ ap (λ (y : Vector). get_or (y ∷ []) k no_vector) x-is)
 
-    module _ (not-nego : 1 < kind) where
-      pub kind-exchange : kind ≤ 5 → (x : Vector) → x ≡ exchange_vector m → v ≡ get_or (x ∷ []) k no_vector → In (shape_of kind)
-      unfolding vectors_of content_of
-      kind-exchange h x x-is e = rw (shape-exchange kind not-nego h) (e ∙ ap (λ (y : Vector). get_or (y ∷ []) k no_vector) x-is)
-
-      module _ (not-exchange : 5 < kind) where
-        pub kind-verify : kind ≡ 6 → (x : Vector) → x ≡ checksum_vector m → v ≡ get_or (x ∷ []) k no_vector → In (shape_of kind)
-        unfolding vectors_of content_of
-        kind-verify h x x-is e = rw (shape-verify kind not-nego not-exchange h) (e ∙ ap (λ (y : Vector). get_or (y ∷ []) k no_vector) x-is)
-
-        pub kind-alert : (kind ≡ 6 → ⊥) → In alert → In (shape_of kind)
-        kind-alert h e = rw (shape-alert kind not-nego not-exchange h) e
+    pub kind-verify : r ≡ form.Verify → (x : Vector) → x ≡ checksum_vector m → v ≡ get_or (x ∷ []) k no_vector → In (shape_of kind)
+    unfolding vectors_of content_of
+    kind-verify h x x-is e = rw (sym r-is ∙ ap shape_as h) (e ∙ ap (λ (y : Vector). get_or (y ∷ []) k no_vector) x-is)
 
 -- ---- how many
-module _ (kind : ℕ) (m : List ℕ) (h : header_of (shape_of kind) ≤ length m) where
-  pub room-extensions : kind ≤ 1 → 96 ≤ length m
-  room-extensions g = room-nego kind (length m) h g
-
-  pub room-alerts : 1 < kind → 6 < kind → 72 ≤ length m
-  room-alerts g f = room-alert kind (length m) h g (omega arith) (λ q. omega arith)
-
 module _ (m : List ℕ) (kind : ℕ) where
   abbrev Has : ℕ → Type 0
   Has n = n ≡ length (vectors_of (content_of (shape_of kind) m))
@@ -136,6 +123,24 @@ module _ (m : List ℕ) (kind : ℕ) where
         rw (shape-alert kind not-nego (omega arith) (λ q. omega arith))
         (let e : length es ≡ length (part m (alert_vector m)) = ap length (es-is ∙ ap (part m) a-is) in
         omega (arith, values_length (length (part m (alert_vector m)) / 12) (part m (alert_vector m)) 0))
+
+-- the same by the layout that the code names
+module _ (m : List ℕ) (kind : ℕ) (r : D·Shape) (r-is : shape_as r ≡ shape_of kind) where
+  pub counts-nego : r ≡ form.Nego → (a : Vector) → a ≡ extension_vector m → (es : List ℕ) → es ≡ part m a → 2 + length es / 12 ≡ length (vectors_of (content_of (shape_of kind) m))
+  unfolding shape_of
+  counts-nego h a a-is es es-is = rw (sym r-is ∙ ap shape_as h) (count-nego m 0 (omega arith) a a-is es es-is)
+
+  pub counts-exchange : r ≡ form.Exchange → 1 ≡ length (vectors_of (content_of (shape_of kind) m))
+  unfolding shape_of
+  counts-exchange h = rw (sym r-is ∙ ap shape_as h) (count-one m 2 (omega arith) (omega arith))
+
+  pub counts-verify : r ≡ form.Verify → 1 ≡ length (vectors_of (content_of (shape_of kind) m))
+  unfolding shape_of
+  counts-verify h = rw (sym r-is ∙ ap shape_as h) (count-one m 6 (omega arith) (omega arith))
+
+  pub counts-alert : r ≡ form.Alert → (a : Vector) → a ≡ alert_vector m → (es : List ℕ) → es ≡ part m a → 1 + length es / 12 ≡ length (vectors_of (content_of (shape_of kind) m))
+  unfolding shape_of
+  counts-alert h a a-is es es-is = rw (sym r-is ∙ ap shape_as h) (count-alert m 7 (omega arith) (omega arith) a a-is es es-is)
 
 -- ---- a message that has its header, and one that has not
 module _ (m : List ℕ) where
@@ -171,15 +176,12 @@ pub ruleset numbered = (
   nego-value,
   alert-first,
   alert-value,
-  kind-nego,
   kind-exchange,
   kind-verify,
-  kind-alert,
-  room-extensions,
-  room-alerts,
-  count-nego,
-  count-one,
-  count-alert,
+  counts-nego,
+  counts-exchange,
+  counts-verify,
+  counts-alert,
   none-count,
   none_of,
   count-all,

@@ -10,7 +10,7 @@ ghost use Rattle.coverage.specs.Sweep.{Clear, marked, marked_all, sweep};
 use message::field::{
     alert_vector, checksum_vector, exchange_vector, extension_vector, octet_vector, scheme_vector,
 };
-use message::{Kind, field};
+use message::{Kind, Shape, field};
 use octets::le_u32;
 use vector::Vector;
 
@@ -93,19 +93,12 @@ pub fn mark_kind(map: &mut [u32], kind: Kind, m: &[u8])
     requires { (length map.old < 2 ^ 32) × (header_of (shape_of kind.0) ≤ length m.now) }
     ensures { map.new ≡ marked_all map.old (vectors_of (content_of (shape_of kind.0) m.now)) }
 {
-    if kind.0 <= Kind::ACCEPTOR_NEGO {
-        mark_nego(map, m);
-        return;
+    match kind.shape() {
+        Shape::Nego => mark_nego(map, m),
+        Shape::Exchange => mark(map, exchange_vector(m)),
+        Shape::Verify => mark(map, checksum_vector(m)),
+        Shape::Alert => mark_alert(map, m),
     }
-    if kind.0 <= Kind::AP_REQUEST {
-        mark(map, exchange_vector(m));
-        return;
-    }
-    if kind.0 == Kind::VERIFY {
-        mark(map, checksum_vector(m));
-        return;
-    }
-    mark_alert(map, m);
 }
 
 // The kind of a message that has its whole header.

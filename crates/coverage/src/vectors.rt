@@ -9,7 +9,7 @@ use super::{part, whole_kind};
 use message::field::{
     checksum_vector, exchange_vector, extension_vector, octet_vector, scheme_vector,
 };
-use message::{Kind, field};
+use message::{Kind, Shape, field};
 use vector::{MessageOffset, Vector};
 
 // An empty vector, which stands beyond the last.
@@ -72,16 +72,12 @@ fn kind_vector(kind: Kind, m: &[u8], k: usize) -> Vector
     requires { header_of (shape_of kind.0) ≤ length m.now }
     ensures { result ≡ get_or (vectors_of (content_of (shape_of kind.0) m.now)) k no_vector }
 {
-    if kind.0 <= Kind::ACCEPTOR_NEGO {
-        return nego_vector(m, k);
+    match kind.shape() {
+        Shape::Nego => nego_vector(m, k),
+        Shape::Exchange => only(exchange_vector(m), k),
+        Shape::Verify => only(checksum_vector(m), k),
+        Shape::Alert => alert_vector(m, k),
     }
-    if kind.0 <= Kind::AP_REQUEST {
-        return only(exchange_vector(m), k);
-    }
-    if kind.0 == Kind::VERIFY {
-        return only(checksum_vector(m), k);
-    }
-    alert_vector(m, k)
 }
 
 // How many a message of a kind has.
@@ -89,13 +85,11 @@ fn kind_count(kind: Kind, m: &[u8]) -> usize
     requires { header_of (shape_of kind.0) ≤ length m.now }
     ensures { result ≡ length (vectors_of (content_of (shape_of kind.0) m.now)) }
 {
-    if kind.0 <= Kind::ACCEPTOR_NEGO {
-        return 2 + part(m, extension_vector(m)).len() / field::ELEMENT;
+    match kind.shape() {
+        Shape::Nego => 2 + part(m, extension_vector(m)).len() / field::ELEMENT,
+        Shape::Exchange | Shape::Verify => 1,
+        Shape::Alert => 1 + part(m, field::alert_vector(m)).len() / field::ELEMENT,
     }
-    if kind.0 <= Kind::VERIFY {
-        return 1;
-    }
-    1 + part(m, field::alert_vector(m)).len() / field::ELEMENT
 }
 
 // How many vectors a message has; none where it ends before its header does.
