@@ -15,8 +15,8 @@ use Rattle.octets.specs.Octets.{le}
 use Rattle.octets.proofs.Bools.{which}
 use Rattle.vector.specs.declared.Vector.{Vector}
 use Rattle.vector.specs.Vector.{part}
-use Rattle.message.specs.Layout.{Shape, head_of, shape_of, header_of, nego, exchange, verify, alert, values_of, elements_at, elements_of, octet_vector, scheme_vector, extension_vector, exchange_vector, checksum_vector, alert_vector, vectors_of, content_of}
-use Rattle.message.proofs.Shapes.{shape-nego, shape-exchange, shape-verify, shape-alert, room-nego, room-exchange, room-verify, room-alert, header-least}
+use Rattle.message.specs.Layout.{head_of, shape_of, header_of, nego, exchange, verify, alert, values_of, elements_at, elements_of, octet_vector, scheme_vector, extension_vector, exchange_vector, checksum_vector, alert_vector, vectors_of, content_of}
+use Rattle.message.proofs.Shapes.{header-least}
 use Rattle.coverage.specs.declared.Octets.{Octets}
 use Rattle.coverage.specs.Coverage.{header_in, vectors_in, lies_in_one, in_vector, is_bare, one, count, header_octets, vector_octets, bare_octets, octets_in}
 use Rattle.coverage.specs.Sweep.{Clear, marked, marked_all, sweep}

@@ -13,7 +13,7 @@ use Rattle.vector.specs.declared.Vector.{Vector}
 use Rattle.vector.specs.Vector.{part}
 use Rattle.message.specs.declared.Shape.{Shape as D·Shape}
 use Rattle.message.specs.declared.Shape.TheVariants as form
-use Rattle.message.specs.Layout.{Shape, shape_as, head_of, shape_of, header_of, nego, alert, values_of, elements_at, elements_of, octet_vector, scheme_vector, extension_vector, exchange_vector, checksum_vector, alert_vector, vectors_of, content_of}
+use Rattle.message.specs.Layout.{Shape, shape_as, head_of, shape_of, nego, alert, values_of, elements_at, elements_of, octet_vector, scheme_vector, extension_vector, exchange_vector, checksum_vector, alert_vector, vectors_of, content_of}
 use Rattle.message.proofs.Shapes.{shape-nego, shape-exchange, shape-verify, shape-alert}
 use Rattle.coverage.specs.Coverage.{header_in, vectors_in, no_vector, vector_in}
 

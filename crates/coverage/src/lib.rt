@@ -1,5 +1,5 @@
 // The octets of a message that its vectors cover, and its vectors one by one.
-#![tactic(auto, using(crate::proofs::Marks::sweeps, crate::proofs::Marks::layouts, crate::proofs::Marks::kinds))]
+#![tactic(auto, using(crate::proofs::Marks::sweeps, crate::proofs::Marks::layouts))]
 
 ghost use Rattle.std.specs.Prelude.{◌≡◌, ◌≤◌, ◌<◌, max, ◌^◌, length, MatchOption};
 ghost use Rattle.vector.specs.Vector.{part as Vector·part};
