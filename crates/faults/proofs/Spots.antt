@@ -20,7 +20,7 @@ use Rattle.refusal.proofs.Numbers.{number_once}
 use Rattle.vector.specs.declared.Vector.{Vector}
 use Rattle.vector.specs.Vector.{keeps_rule, part, shown}
 use Rattle.message.specs.Layout.{nego, alert, head_of, shape_of, header_of, Element, elements_at, elements_of, extension_vector, alert_vector, content_of, content_in, vectors_of}
-use Rattle.message.proofs.Shapes.{shape-nego, shape-exchange, shape-verify, shape-alert, header-least}
+use Rattle.message.proofs.Shapes.{header-least}
 use Rattle.parts.proofs.Shows.{length-elements}
 use Rattle.coverage.specs.Coverage.{header_in, vectors_in, no_vector, vector_in}
 use Rattle.coverage.proofs.Numbered.{count-nego, count-one, count-alert}
@@ -112,22 +112,7 @@ module _ (m : List ℕ) (k : ℕ) where
       → ◌≡◌ {A = Spot} (record { what = 30; number = k - 1; at = v.offset.0 + 12 * (k - 1) + 4; size = 8 }) (vector_spot alert m k)
   alert-value h v v-is = rw v-is (simp (ne_eqb k 0 h))
 
-  module _ (kind : ℕ) (x : Spot) where
-    pub kind-nego : kind ≤ 1 → x ≡ vector_spot nego m k → x ≡ vector_spot (shape_of kind) m k
-    kind-nego h e = rw (shape-nego kind h) e
-
-    pub kind-exchange : 1 < kind → kind ≤ 5 → x ≡ spot 12 0 56 8 → x ≡ vector_spot (shape_of kind) m k
-    kind-exchange h g e = rw (shape-exchange kind h g) e
-
-    pub kind-verify : 1 < kind → 5 < kind → kind ≡ 6 → x ≡ spot 16 0 68 8 → x ≡ vector_spot (shape_of kind) m k
-    kind-verify h g s e = rw (shape-verify kind h g s) e
-
-    pub kind-alert : 1 < kind → 5 < kind → (kind ≡ 6 → ⊥) → x ≡ vector_spot alert m k → x ≡ vector_spot (shape_of kind) m k
-    kind-alert h g s e = rw (shape-alert kind h g s) e
-
 pub ruleset vector-spots = (nego-first, nego-second, nego-value, alert-first, alert-value)
-
-pub ruleset kind-spots = (kind-nego, kind-exchange, kind-verify, kind-alert)
 
 -- ---- the words of `broken_spot`
 part-short : (m : List ℕ) (v : Vector) → length (part m v) ≤ length m

@@ -17,7 +17,7 @@ use entries::{Entry, name};
 use message::field::{alert_vector, extension_vector};
 use message::verify::CHECKSUM_HEADER;
 use message::walk::first;
-use message::{Kind, field};
+use message::{Kind, Shape, field};
 use octets::{is_negative, le_u32};
 use parts::extensions;
 use refusal::Refusal;
@@ -104,16 +104,12 @@ fn vector_spot(kind: Kind, m: &[u8], k: usize) -> Spot
     requires { (header_of (shape_of kind.0) ≤ length m.now) × (k < 65536) }
     ensures { result ≡ vector_spot (shape_of kind.0) m.now k }
 {
-    if kind.0 <= Kind::ACCEPTOR_NEGO {
-        return nego_spot(m, k);
+    match kind.shape() {
+        Shape::Nego => nego_spot(m, k),
+        Shape::Exchange => single(name::EXCHANGE_VECTOR, field::EXCHANGE, 8),
+        Shape::Verify => single(name::CHECKSUM_VECTOR, field::CHECKSUM_VALUE, 8),
+        Shape::Alert => alert_spot(m, k),
     }
-    if kind.0 <= Kind::AP_REQUEST {
-        return single(name::EXCHANGE_VECTOR, field::EXCHANGE, 8);
-    }
-    if kind.0 == Kind::VERIFY {
-        return single(name::CHECKSUM_VECTOR, field::CHECKSUM_VALUE, 8);
-    }
-    alert_spot(m, k)
 }
 
 // Where the offset and size of the first vector stand that breaks its rule.
