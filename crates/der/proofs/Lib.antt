@@ -6,4 +6,5 @@ pub mod Comparing
 pub mod Wholes
 pub mod Sizes
 pub mod Parts
+pub mod Answers
 pub mod Framing
