@@ -13,13 +13,13 @@ use borrow.Author.Tests.{le-leb, lt-leb, eq-eqb, ne_eqb}
 use Rattle.std.specs.Prelude.{Result, Ok, Err}
 use Rattle.refusal.specs.declared.Refusal.{Refusal}
 use Rattle.refusal.specs.declared.Refusal.TheVariants as refusal
+use Rattle.octets.proofs.Same.{compared}
 use Rattle.octets.specs.Octets.{same_octets}
 use Rattle.der.specs.Got.{ok, check}
 use Rattle.der.specs.Element.{length_in, lead_of, size_of, framed, framed_from, frame, indefinite, shortest, judged, cut}
 use Rattle.der.specs.Holder.{HolderAt, octets_at, part, capped, FrameInside, Frames, Inside, Cuts, verdict}
 use Rattle.der.specs.declared.Framed.{Framed}
 use Rattle.der.specs.declared.Part.{Part as Section}
-use Rattle.der.proofs.Comparing.{compared}
 use Rattle.der.proofs.Parts.{part_none, part-cons, length_part, drop-part, take_part, get_or-part}
 use Rattle.der.proofs.Answers.{got-ok, got-placed}
 

@@ -10,10 +10,10 @@ use lib.Seq.{take_all}
 use lib.Dec.{leb, eqb}
 use lib.Pointwise.{pointwise}
 use borrow.Author.Tests.{lt-ltb, le-ltb, ne_eqb}
+use Rattle.octets.proofs.Same.{compared}
 use Rattle.octets.specs.Octets.{same_octets}
 use Rattle.der.specs.Element.{length_of, length_in, number, shortest, at_most}
 use Rattle.der.specs.Holder.{capped}
-use Rattle.der.proofs.Comparing.{compared}
 
 pub size_none : (v : List ℕ) → length v ≡ 0 → 0 ≡ capped (length_in v)
 unfolding length_in

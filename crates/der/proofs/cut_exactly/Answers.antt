@@ -2,7 +2,7 @@ use Rattle.std.proofs.Common.{◌∙◌}
 use Rattle.der.specs.Element.{cut, exactly}
 use Rattle.der.specs.Holder.{part}
 use Rattle.der.proofs.Answers.{passed-on}
-use Rattle.der.proofs.Comparing.{compared}
+use Rattle.octets.proofs.Same.{compared}
 use Rattle.der.proofs.Framing.{cut_by_lem}
 use Rattle.der.proofs.cut_exactly.Goals as goal
 
