@@ -2,8 +2,8 @@ pub mod Gots
 pub mod Lengths
 pub mod Cuts
 pub mod Nesting
-pub mod Comparing
 pub mod Wholes
 pub mod Sizes
 pub mod Parts
+pub mod Answers
 pub mod Framing

@@ -7,8 +7,10 @@ use mathlib.Core.List.{List, [], ◌∷◌}
 use native.Mathlib.Omega.{arith}
 use lib.ListN.{length, take, drop, get_or}
 use lib.Seq.{take_all}
-use lib.Dec.{leb}
-use borrow.Author.Tests.{lt-ltb, le-ltb}
+use lib.Dec.{leb, eqb}
+use lib.Pointwise.{pointwise}
+use borrow.Author.Tests.{lt-ltb, le-ltb, ne_eqb}
+use Rattle.octets.proofs.Same.{compared}
 use Rattle.octets.specs.Octets.{same_octets}
 use Rattle.der.specs.Element.{length_of, length_in, number, shortest, at_most}
 use Rattle.der.specs.Holder.{capped}
@@ -33,18 +35,21 @@ size-long (x ∷ v) h k n e =
 
 pub ruleset sizing = (size_none, size-short, size-long)
 
-module _ (n : ℕ) (v : List ℕ) (r : Bool) where
-  pub short-one : n < 128 → r ≡ same_octets v (n ∷ []) → r ≡ shortest v n
-  unfolding length_of
-  short-one h e = rw (lt-ltb n 128 h) e
+module _ (n : ℕ) (v w : List ℕ) (r : Bool) (r-is : r ≡ pointwise eqb v w) where
+  same : (x : List ℕ) → w ≡ x → r ≡ same_octets v x
+  same x e = r-is ∙ compared v w ∙ ap (same_octets v) e
 
-  pub short-two : 128 ≤ n → n < 256 → r ≡ same_octets v (0x81 ∷ n ∷ []) → r ≡ shortest v n
+  pub short-one : n < 128 → w ≡ n ∷ [] → r ≡ shortest v n
   unfolding length_of
-  short-two g h e = rw (le-ltb n 128 g, lt-ltb n 256 h) e
+  short-one h e = rw (lt-ltb n 128 h) (same _ e)
 
-  pub short-three : 256 ≤ n → r ≡ same_octets v (0x82 ∷ n / 256 ∷ n % 256 ∷ []) → r ≡ shortest v n
+  pub short-two : 128 ≤ n → n < 256 → w ≡ 0x81 ∷ n ∷ [] → r ≡ shortest v n
   unfolding length_of
-  short-three h e = let g : 128 ≤ n = omega arith in rw (le-ltb n 128 g, le-ltb n 256 h) e
+  short-two g h e = rw (le-ltb n 128 g, lt-ltb n 256 h) (same _ e)
+
+  pub short-three : 256 ≤ n → w ≡ 0x82 ∷ n / 256 ∷ n % 256 ∷ [] → r ≡ shortest v n
+  unfolding length_of
+  short-three h e = let g : 128 ≤ n = omega arith in rw (le-ltb n 128 g, le-ltb n 256 h) (same _ e)
 
 pub ruleset shortening = (short-one, short-two, short-three)
 
@@ -57,9 +62,9 @@ module _ (n : ℕ) (v : List ℕ) where
     is (x ∷ []) h = refl
     is (x ∷ y ∷ v) h = absurd (omega arith)
 
-  pub most_other : (length v ≡ 1 → ⊥) → false ≡ at_most n v
+  pub most_other : (length v ≡ 1 → ⊥) → eqb (length v) 1 ≡ at_most n v
   unfolding at_most
-  most_other h = is v h where
+  most_other h = ne_eqb _ _ h ∙ is v h where
     is : (v : List ℕ) → (length v ≡ 1 → ⊥) → false ≡ at_most n v
     is [] h = refl
     is (x ∷ []) h = absurd (h refl)

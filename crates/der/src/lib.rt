@@ -1,46 +1,25 @@
-// Elements in DER. A holder is the part of the buffer from `at` to `end`.
+// Elements in DER, read where they stand in the caller's buffer.
 #![tactic(auto)]
 
-ghost use Rattle.std.specs.Prelude.{◌≡◌, ◌+◌, ◌-◌, ◌*◌, ◌≤◌, ◌||◌};
-ghost use Rattle.octets.specs.Octets.{same_octets};
+ghost use Rattle.std.specs.Prelude.{◌≡◌, length, ◌+◌, ◌-◌, ◌*◌, ◌≤◌, ◌||◌};
 ghost use Rattle.der.specs.Element.{number, length_in, shortest as Element·shortest, framed_from, frame, indefinite, cut, any, exactly, at_most};
-ghost use Rattle.der.specs.Holder.{Holder, part, capped, Frames, Cuts, verdict};
+ghost use Rattle.der.specs.Holder.{HolderAt, octets_at, capped, Frames, Cuts, verdict};
 
-// An element taken apart: its length from the first place on, its contents from the second to the third; or a refusal's number.
+use refusal::Refusal;
+
+// A part of the buffer, from a place to a place: a holder, or an element's contents.
 #[derive(Clone, Copy)]
-pub enum Framed {
-    At(usize, usize, usize),
-    Refused(u32),
+pub struct Part {
+    pub from: usize,
+    pub end: usize,
 }
 
-// An element's contents, from a place to a place; or a refusal's number.
+// An element taken apart: the octets of its length, its contents, and the rest of its holder.
 #[derive(Clone, Copy)]
-pub enum Cut {
-    Element(usize, usize),
-    Refused(u32),
-}
-
-// Whether two slices hold the same octets.
-pub fn same(a: &[u8], b: &[u8]) -> bool
-    ensures { result ≡ same_octets a.now b.now }
-{
-    if a.len() != b.len() {
-        return false;
-    }
-    let mut i: usize = 0;
-    while i < a.len() {
-        if a[i] != b[i] {
-            return false;
-        }
-        i += 1;
-    }
-    true
-}
-
-fn wide(x: u8) -> usize
-    ensures { result ≡ x }
-{
-    x as usize
+struct Framed {
+    lead: Part,
+    contents: Part,
+    rest: Part,
 }
 
 // A capped number with one octet more behind it.
@@ -48,8 +27,7 @@ fn more(n: usize, x: u8) -> usize
     requires { n ≤ 65536 }
     ensures { result ≡ capped (n * 256 + x) }
 {
-    let value = n * 256 + wide(x);
-    if value < 65536 { value } else { 65536 }
+    (n * 256 + usize::from(x)).min(65536)
 }
 
 // The number in octets, most significant first, capped: so the octets may be as many as there are.
@@ -57,10 +35,8 @@ fn whole(v: &[u8]) -> usize
     ensures { result ≡ capped (number v.now) }
 {
     let mut value: usize = 0;
-    let mut i: usize = 0;
-    while i < v.len() {
-        value = more(value, v[i]);
-        i += 1;
+    for x in v {
+        value = more(value, *x);
     }
     value
 }
@@ -69,7 +45,7 @@ fn whole(v: &[u8]) -> usize
 fn lead(x: u8) -> usize
     ensures { result ≡ 1 + (x - 128) }
 {
-    if x < 128 { 1 } else { wide(x) - 127 }
+    1 + usize::from(x).saturating_sub(128)
 }
 
 // The number that the octets of a length say, capped.
@@ -80,7 +56,7 @@ fn size(v: &[u8]) -> usize
         return 0;
     }
     if v[0] < 128 {
-        return wide(v[0]);
+        return usize::from(v[0]);
     }
     whole(&v[1..])
 }
@@ -91,114 +67,117 @@ fn shortest(v: &[u8], n: usize) -> bool
     ensures { result ≡ Element·shortest v.now n }
 {
     if n < 128 {
-        let written = [n as u8];
-        return same(v, &written);
+        return v == [n as u8].as_slice();
     }
     if n < 256 {
-        let written = [0x81, n as u8];
-        return same(v, &written);
+        return v == [0x81, n as u8].as_slice();
     }
-    let written = [0x82, (n / 256) as u8, (n % 256) as u8];
-    same(v, &written)
+    v == [0x82, (n / 256) as u8, (n % 256) as u8].as_slice()
 }
 
 // An element from its length on.
-fn framed_from(s: &[u8], at: usize, end: usize) -> Framed
-    requires { Holder s.now at end }
-    ensures { Frames s.now at end (framed_from (part s.now at end)) result }
+fn framed_from(s: &[u8], holder: Part) -> Result<Framed, Refusal>
+    requires { HolderAt s.now holder }
+    ensures { Frames s.now holder
+        (framed_from (octets_at s.now holder)) result }
 {
-    if at == end {
-        return Framed::Refused(20);
+    let at = holder.from;
+    if at == holder.end {
+        return Err(Refusal::Element);
     }
-    let width = lead(s[at]);
-    if end - at < width {
-        return Framed::Refused(20);
+    let from = at + lead(s[at]);
+    if holder.end < from {
+        return Err(Refusal::Element);
     }
-    let contents_at = at + width;
-    let length = size(&s[at..contents_at]);
-    if end - contents_at < length {
-        return Framed::Refused(20);
+    let end = from + size(&s[at..from]);
+    if holder.end < end {
+        return Err(Refusal::Element);
     }
-    Framed::At(at, contents_at, contents_at + length)
+    Ok(Framed {
+        lead: Part {
+            from: at,
+            end: from,
+        },
+        contents: Part { from, end },
+        rest: Part {
+            from: end,
+            end: holder.end,
+        },
+    })
 }
 
 // The element with a tag at the front of a holder, taken apart.
-fn frame_at(s: &[u8], at: usize, end: usize, tag: u8) -> Framed
-    requires { Holder s.now at end }
-    ensures { Frames s.now at end (frame tag (part s.now at end)) result }
+fn frame_at(s: &[u8], holder: Part, tag: u8) -> Result<Framed, Refusal>
+    requires { HolderAt s.now holder }
+    ensures { Frames s.now holder
+        (frame tag (octets_at s.now holder)) result }
 {
-    if at == end {
-        return Framed::Refused(20);
+    let at = holder.from;
+    if at == holder.end || s[at] != tag {
+        return Err(Refusal::Element);
     }
-    if s[at] != tag {
-        return Framed::Refused(20);
-    }
-    framed_from(s, at + 1, end)
+    framed_from(
+        s,
+        Part {
+            from: at + 1,
+            end: holder.end,
+        },
+    )
 }
 
-// Whether contents pass: they are right, or the length v is indefinite.
-fn passes(right: bool, v: &[u8]) -> bool
-    ensures { result ≡ (right || indefinite v.now) }
+// An element, once it is known whether its contents are right; those of an indefinite length can't be wrong.
+fn judged(s: &[u8], element: Framed, right: bool) -> Result<(Part, Part), Refusal>
+    requires { (element.lead.from ≤ element.lead.end) × (element.lead.end ≤ length s.now)
+        × (element.contents.from ≤ element.contents.end) × (element.contents.end ≤ length s.now)
+        × (element.contents.end - element.contents.from ≤ 65535) }
+    ensures { result ≡ verdict right (octets_at s.now element.lead) element.contents element.rest }
 {
-    if right {
-        return true;
+    let lead = &s[element.lead.from..element.lead.end];
+    let contents = element.contents;
+    if !right && lead != [0x80].as_slice() {
+        return Err(Refusal::Element);
     }
-    same(v, &[0x80])
+    if !shortest(lead, contents.end - contents.from) {
+        return Err(Refusal::ElementLength);
+    }
+    Ok((contents, element.rest))
 }
 
-// The element with contents from b to e and the length v, once it is known whether its contents are right.
-fn judged(right: bool, v: &[u8], b: usize, e: usize) -> Cut
-    requires { (b ≤ e) × (e - b ≤ 65535) }
-    ensures { result ≡ verdict right v.now b e }
+// The element with a tag at the front of a holder: its contents, and the rest of the holder.
+pub fn cut_at(s: &[u8], holder: Part, tag: u8) -> Result<(Part, Part), Refusal>
+    requires { HolderAt s.now holder }
+    ensures { Cuts s.now holder
+        (cut tag any (octets_at s.now holder)) result }
 {
-    if passes(right, v) {} else {
-        return Cut::Refused(20);
-    }
-    if shortest(v, e - b) {} else {
-        return Cut::Refused(21);
-    }
-    Cut::Element(b, e)
-}
-
-// The element with a tag at the front of a holder.
-pub fn cut_at(s: &[u8], at: usize, end: usize, tag: u8) -> Cut
-    requires { Holder s.now at end }
-    ensures { Cuts s.now at end (cut tag any (part s.now at end)) result }
-{
-    match frame_at(s, at, end, tag) {
-        Framed::Refused(n) => Cut::Refused(n),
-        Framed::At(l, b, e) => judged(true, &s[l..b], b, e),
-    }
+    let element = frame_at(s, holder, tag)?;
+    judged(s, element, true)
 }
 
 // The same element, whose contents have to be the octets v.
-pub fn cut_exactly(s: &[u8], at: usize, end: usize, tag: u8, v: &[u8]) -> Cut
-    requires { Holder s.now at end }
-    ensures { Cuts s.now at end (cut tag (exactly v.now) (part s.now at end)) result }
+pub fn cut_exactly(s: &[u8], holder: Part, tag: u8, v: &[u8]) -> Result<(Part, Part), Refusal>
+    requires { HolderAt s.now holder }
+    ensures { Cuts s.now holder
+        (cut tag (exactly v.now) (octets_at s.now holder)) result }
 {
-    match frame_at(s, at, end, tag) {
-        Framed::Refused(n) => Cut::Refused(n),
-        Framed::At(l, b, e) => judged(same(&s[b..e], v), &s[l..b], b, e),
-    }
+    let element = frame_at(s, holder, tag)?;
+    let contents = element.contents;
+    judged(s, element, &s[contents.from..contents.end] == v)
 }
 
 // Whether a slice is one octet, n at the most.
 fn at_most(v: &[u8], n: u8) -> bool
     ensures { result ≡ at_most n v.now }
 {
-    if v.len() != 1 {
-        return false;
-    }
-    v[0] <= n
+    v.len() == 1 && v[0] <= n
 }
 
 // The same element, whose contents have to be one octet, n at the most.
-pub fn cut_at_most(s: &[u8], at: usize, end: usize, tag: u8, n: u8) -> Cut
-    requires { Holder s.now at end }
-    ensures { Cuts s.now at end (cut tag (at_most n) (part s.now at end)) result }
+pub fn cut_at_most(s: &[u8], holder: Part, tag: u8, n: u8) -> Result<(Part, Part), Refusal>
+    requires { HolderAt s.now holder }
+    ensures { Cuts s.now holder
+        (cut tag (at_most n) (octets_at s.now holder)) result }
 {
-    match frame_at(s, at, end, tag) {
-        Framed::Refused(k) => Cut::Refused(k),
-        Framed::At(l, b, e) => judged(at_most(&s[b..e], n), &s[l..b], b, e),
-    }
+    let element = frame_at(s, holder, tag)?;
+    let contents = element.contents;
+    judged(s, element, at_most(&s[contents.from..contents.end], n))
 }

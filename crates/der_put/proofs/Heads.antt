@@ -55,8 +55,6 @@ module _ (n : ℕ) where
 
 pub ruleset sizes = (element-one, element-two, element-three)
 
-pub ruleset heads = (size-one, size-two, size-three)
-
 pub size-bounds : (n : ℕ) → (2 ≤ head_size n) × (head_size n ≤ 4)
 size-bounds n = go (form n) where
   go : Form n → (2 ≤ head_size n) × (head_size n ≤ 4)
@@ -116,16 +114,6 @@ module _ (d : List ℕ) (at t n : ℕ) (d' : List ℕ) (r : ℕ) where
   unfolding length_of
   head_three h w = let g : 128 ≤ n = omega arith in rw (size-three n h, le-ltb n 128 g, le-ltb n 256 h) w
 
-  module _ (l : ℕ) (room : at + head_size n ≤ l) where
-    pub room-one : n < 128 → at + 2 ≤ l
-    room-one h = rw (size-one n h) at room
-
-    pub room-two : 128 ≤ n → n < 256 → at + 3 ≤ l
-    room-two h k = rw (size-two n h k) at room
-
-    pub room-three : 256 ≤ n → at + 4 ≤ l
-    room-three h = rw (size-three n h) at room
-
 pub ruleset puts = (head-one, head-two, head_three)
 
 -- octets behind octets
@@ -137,21 +125,6 @@ both {v} {w} {n} {m} x y h =
 
 pub nothing : (d : List ℕ) (at : ℕ) → Written d at 0 [] d at
 nothing d at = record { size = refl; after = omega arith; holds = sym (put-none d at) }
-
--- room for a field
-pub record Room (n a at l b : ℕ) : Type 0 where
-  pub head-room : at + head_size a ≤ l
-  pub inner-small : a ≤ 65535
-  pub inner_room : at + head_size a + element_size n ≤ l
-  pub small : n ≤ 65535
-  pub whole : b ≡ head_size a + element_size n
-
-pub field_room : (there : Bool) (n a at l : ℕ) → there ≡ true → a ≡ element_size n → at + field_size there n ≤ l → field_size there n ≤ 65535
-    → Room n a at l (field_size there n)
-field_room there n a at l e a-is room small =
-    let z : field_size there n ≡ head_size a + element_size n = rw (e, a-is) in
-    let i = size-bounds n in let j = size-bounds a in
-    record { head-room = omega arith; inner-small = omega arith; inner_room = omega arith; small = omega arith; whole = z }
 
 pub field-octets : (t u : ℕ) (there : Bool) (v : List ℕ) → there ≡ true
     → field_octets t u (given there v) ≡ head t (element_size (length v)) ++ element u v

@@ -1,5 +1,5 @@
 // Elements in DER, written into a lent slice. Each writer answers the place behind what it wrote.
-#![tactic(auto)]
+#![tactic(auto, using(crate::proofs::Heads::sizes, crate::proofs::Heads::fieldSizes))]
 
 ghost use Rattle.std.specs.Prelude.{◌≡◌, ◌+◌, ◌≤◌, length};
 ghost use Rattle.put.specs.Put.{Written};
@@ -28,20 +28,20 @@ pub fn element_size(n: usize) -> usize
 pub fn cap(n: usize) -> usize
     ensures { result ≡ capped n }
 {
-    if n < 65536 { n } else { 65536 }
+    n.min(65536)
 }
 
 // How many octets a field has, capped.
 pub fn field_size(there: bool, n: usize) -> usize
     ensures { result ≡ capped (field_size there n) }
 {
-    if there {
-        if 65535 < n {
-            return 65536;
-        }
-        return cap(element_size(element_size(n)));
+    if !there {
+        return 0;
     }
-    0
+    if 65535 < n {
+        return 65536;
+    }
+    cap(element_size(element_size(n)))
 }
 
 // A tag and a length.
@@ -50,15 +50,12 @@ pub fn put_head(d: &mut [u8], at: usize, tag: u8, n: usize) -> usize
     ensures { Written d.old at (head_size n) (head tag n) d.new result }
 {
     if n < 128 {
-        let head = [tag, n as u8];
-        return put_octets(d, at, &head);
+        return put_octets(d, at, &[tag, n as u8]);
     }
     if n < 256 {
-        let head = [tag, 0x81, n as u8];
-        return put_octets(d, at, &head);
+        return put_octets(d, at, &[tag, 0x81, n as u8]);
     }
-    let head = [tag, 0x82, (n / 256) as u8, (n % 256) as u8];
-    put_octets(d, at, &head)
+    put_octets(d, at, &[tag, 0x82, (n / 256) as u8, (n % 256) as u8])
 }
 
 // An element.
@@ -76,9 +73,9 @@ pub fn put_field(d: &mut [u8], at: usize, tag: u8, inner: u8, there: bool, v: &[
     ensures { Written d.old at (field_size there (length v.now)) (field_octets tag inner (given there v.now))
         d.new result }
 {
-    if there {
-        let element_at = put_head(d, at, tag, element_size(v.len()));
-        return put_element(d, element_at, inner, v);
+    if !there {
+        return at;
     }
-    at
+    let element_at = put_head(d, at, tag, element_size(v.len()));
+    put_element(d, element_at, inner, v)
 }

@@ -3,9 +3,20 @@
 use Prim.Native.Nat.{ℕ, zero, suc, ◌+◌, ◌-◌, ◌*◌, ◌<◌, ◌≤◌}
 use mathlib.Core.Path.{◌≡◌, refl, sym, ap, ◌∙◌}
 use mathlib.Core.List.{List}
-use native.Mathlib.Nat.{sub-zero}
 use native.Mathlib.Omega.{arith}
-use lib.ListN.{length, get_or}
+use lib.ListN.{length, get_or, take, drop, length-drop}
+use lib.Seq.{length-take-le}
+use denote.Bor.{Bor}
+use Rattle.std.specs.Prelude.{Option, Some, None}
+use Rattle.std.specs.declared.slice.Iter.{Iter}
+use Rattle.std.specs.declared.iter.Zip.{Zip}
+use Rattle.std.specs.Iterator.{Yields}
+use Rattle.std.specs.Iterator.Adapters.{zip_first, zip_second}
+use Rattle.std.specs.Slice.Iter.{iter_rest}
+use Rattle.std.proofs.iter.Yields.{fronts}
+use Rattle.std.proofs.lemmas.Iterator.{zips}
+use Rattle.std.proofs.lemmas.List.{get_or-take}
+use Rattle.std.proofs.lemmas.Slice.Zip.{Zip-so_far, Zip-more, zip_turn, zip_end}
 use Rattle.put.specs.Put.{put, joined, Written}
 use Rattle.put.proofs.Laws.{put-none, put-more, length-put}
 use Rattle.elements.specs.Elements.{element_fields, array_from, sum_from}
@@ -41,9 +52,6 @@ pub record Left (ts ns d₀ : List ℕ) (at count first : ℕ) (d : List ℕ) (i
   pub sum : offset + sum_from (count - i) i ns ≡ first + sum_from count 0 ns
 
 module _ (ts ns d₀ : List ℕ) (at count first : ℕ) where
-  pub left-start : Left ts ns d₀ at count first d₀ 0 at first
-  left-start = record { holds = simp sub-zero; size = refl; more = omega arith; there = omega arith; sum = simp sub-zero }
-
   module _ (room : at + 12 * count ≤ length d₀) (d : List ℕ) (i place offset : ℕ) (l : Left ts ns d₀ at count first d i place offset) where
     pub left-room : i < count → place + 12 ≤ length d
     left-room h = let a = l.there in let b = l.size in omega arith
@@ -71,3 +79,36 @@ module _ (ts ns d₀ : List ℕ) (at count first : ℕ) where
         let a = l.there in
         let m = l.more in
         record { size = length-array count 0 first ts ns; after = omega arith; holds = sym (l.holds ∙ array-end ts ns d place count i offset h) }
+
+-- ---- the loop over types and sizes: after xs it is at the place length xs
+module _ (ts ns : List ℕ) (n : ℕ) (few : n ≤ 8) (types : length ts ≡ 8) (sizes : length ns ≡ 8)
+    (xs : List (Bor ℕ × Bor ℕ)) (s t u : Zip (Iter ℕ) (Iter ℕ)) (r : Option (Bor ℕ × Bor ℕ))
+    (first : iter_rest (zip_first s) ≡ take n ts) (second : iter_rest (zip_second s) ≡ take n ns)
+    (y : Yields (zips fronts fronts) s xs t) (step : zips fronts fronts t r u) where
+  long-types : length (take n ts) ≡ n
+  long-types = length-take-le n ts (omega arith)
+
+  long-sizes : length (take n ns) ≡ n
+  long-sizes = length-take-le n ns (omega arith)
+
+  left-over : (length (iter_rest (zip_first t)) ≡ n - length xs) × (length xs ≤ n)
+  left-over =
+      let f = Zip-so_far xs s t y in
+      (ap length (f.0 ∙ ap (drop (length xs)) first) ∙ simp (length-drop, long-types), rw (first, long-types) at f.2)
+
+  pub reached : n - length (iter_rest (zip_first t)) ≡ length xs
+  reached = omega (arith, left-over.0, left-over.1)
+
+  pub turn-more : (p : Bor ℕ × Bor ℕ) → r ≡ Some p → (length xs < n) × (n - length (iter_rest (zip_first u)) ≡ length xs + 1)
+      × (p.0.now ≡ get_or ts (length xs) 0) × (p.1.now ≡ get_or ns (length xs) 0)
+  turn-more p is =
+      let z = zip_turn (take n ts) (take n ns) xs s t u r first second y p is step in
+      let low : length xs < n = omega (arith, z.0, long-types) in
+      let m = (Zip-more t u r p is step).0 in
+      let l : length (iter_rest (zip_first t)) ≡ suc (length (iter_rest (zip_first u))) = ap length m in
+      (low, omega (arith, left-over.0, left-over.1), z.2 0 ∙ get_or-take n ts (length xs) 0 low, z.3 0 ∙ get_or-take n ns (length xs) 0 low)
+
+  pub turn_end : r ≡ None → n ≤ length xs
+  turn_end is =
+      let z = zip_end (take n ts) (take n ns) xs s t u r first second y is step in
+      omega (arith, z, long-types, long-sizes)

@@ -2,11 +2,15 @@
 -- Assumes nothing.
 use Prim.Native.Nat.{ℕ, zero, suc, ◌+◌, ◌-◌, ◌*◌, ◌<◌, ◌≤◌}
 use mathlib.Core.Path.{◌≡◌, refl, sym, ◌∙◌}
-use mathlib.Core.Bool.{Bool, true, false, ◌&&◌}
+use mathlib.Core.Bool.{Bool, false, not, ◌&&◌}
 use mathlib.Core.List.{List}
 use native.Mathlib.Nat.{add_assoc, add-zero, zero-add, sub-zero}
+use native.Mathlib.Numerals.{add-one}
 use native.Mathlib.Omega.{arith}
-use lib.ListN.{get_or, length}
+use lib.ListN.{get_or, length, take, drop}
+use lib.Seq.{length-take-le, drop-cons}
+use Rattle.std.proofs.lemmas.List.{get_or-take}
+use Rattle.std.specs.List.{list_all}
 use lib.Dec.{eqb}
 use borrow.Author.Tests.{le-leb, lt-leb}
 use Rattle.elements.specs.declared.Elements.{Elements}
@@ -61,34 +65,37 @@ pub record Tested (n count : ℕ) (ns : List ℕ) (i total : ℕ) : Type 0 where
   pub more : i ≤ count
   pub small : total ≤ 4096 * i
 
-pub tested-turn : (n count : ℕ) (ns : List ℕ) (i total : ℕ) → Tested n count ns i total → i < count → get_or ns i 0 ≤ 4096
-    → Tested n count ns (i + 1) (total + get_or ns i 0)
-tested-turn n count ns i total t h k =
-    let m = t.small in record { same = t.same ∙ fit-turn n count ns i total h k; more = omega arith; small = omega arith }
+module _ (e : Elements) (v : List ℕ) (few : e.count ≤ 8) (whole : length e.sizes ≡ 8) (i total : ℕ) (t : Tested (length v) e.count e.sizes i total) where
+  counted : length (take e.count e.sizes) ≡ e.count
+  counted = length-take-le e.count e.sizes (omega arith)
 
-module _ (e : Elements) (v : List ℕ) (few : e.count ≤ 8) (i total : ℕ) (t : Tested (length v) e.count e.sizes i total) where
-  pub tested-stop : i < e.count → 4096 < get_or e.sizes i 0 → false ≡ elements_fit e v
-  tested-stop h k = sym (sym (fit-start e v few) ∙ t.same ∙ fit-stop (length v) e.count e.sizes i total h k)
+  module _ (h : i < length (take e.count e.sizes)) where
+    low : i < e.count
+    low = omega (arith, counted)
 
-  pub tested-end : e.count ≤ i → eqb total (length v) ≡ elements_fit e v
-  tested-end h = sym (sym (fit-start e v few) ∙ t.same ∙ fit-end (length v) e.count e.sizes i total h)
+    read : get_or (take e.count e.sizes) i 0 ≡ get_or e.sizes i 0
+    read = get_or-take e.count e.sizes i 0 low
 
--- 26, in the words of its loop
-module _ (count : ℕ) (ts : List ℕ) (i : ℕ) (same : ordinary_from count 0 ts ≡ ordinary_from (count - i) i ts) where
-  pub ordinary-turn : i < count → (b : Bool) → b ≡ negative (signed32 (get_or ts i 0)) → b ≡ false
-      → ordinary_from count 0 ts ≡ ordinary_from (count - (i + 1)) (i + 1) ts
-  unfolding ordinary_from
-  ordinary-turn h b b-is e = same ∙ rw (one_less count i h) (rw (sym b-is ∙ e))
+    pub tested-turn : get_or (take e.count e.sizes) i 0 ≤ 4096 → Tested (length v) e.count e.sizes (i + 1) (total + get_or (take e.count e.sizes) i 0)
+    tested-turn k =
+        let m = t.small in
+        let l = low in
+        let n : get_or e.sizes i 0 ≤ 4096 = rw read at k in
+        rw read (record { same = t.same ∙ fit-turn (length v) e.count e.sizes i total low n; more = omega arith; small = omega arith })
 
-  pub ordinary-stop : i < count → (b : Bool) → b ≡ negative (signed32 (get_or ts i 0)) → b ≡ true → false ≡ ordinary_from count 0 ts
-  unfolding ordinary_from
-  ordinary-stop h b b-is e = sym (same ∙ rw (one_less count i h) (rw (sym b-is ∙ e)))
+    pub tested-fits : get_or (take e.count e.sizes) i 0 ≤ 4096 → total + get_or (take e.count e.sizes) i 0 < 18446744073709551616
+    tested-fits k = let m = t.small in omega (arith, low)
 
-  pub ordinary-end : count ≤ i → true ≡ ordinary_from count 0 ts
-  unfolding ordinary_from
-  ordinary-end h = let z : count - i ≡ 0 = omega arith in sym (same ∙ rw z)
+    pub tested-stop : 4096 < get_or (take e.count e.sizes) i 0 → false ≡ elements_fit e v
+    tested-stop k = sym (sym (fit-start e v few) ∙ t.same ∙ fit-stop (length v) e.count e.sizes i total low (rw read at k))
 
-pub ordinary-start : (count : ℕ) (ts : List ℕ) → ordinary_from count 0 ts ≡ ordinary_from (count - 0) 0 ts
-ordinary-start count ts = simp sub-zero
+  pub tested-end : length (take e.count e.sizes) ≤ i → eqb total (length v) ≡ elements_fit e v
+  tested-end h = sym (sym (fit-start e v few) ∙ t.same ∙ fit-end (length v) e.count e.sizes i total (omega (arith, counted)))
 
-pub ruleset ordinaries = (ordinary-turn, ordinary-stop, ordinary-end, ordinary-start)
+-- 26, as a test of each type
+pub ordinary-all : (n i : ℕ) (ts : List ℕ) → i + n ≤ length ts
+    → list_all (λ t. not (negative (signed32 t))) (take n (drop i ts)) ≡ ordinary_from n i ts
+unfolding ordinary_from
+ordinary-all zero i ts h = refl
+ordinary-all (suc n) i ts h =
+    rw (drop-cons ts i 0 (omega arith), ← ordinary-all n (i + 1) ts (omega arith), add-one) refl

@@ -11,7 +11,8 @@ use octets::to_i32;
 use put::{put_octets, put_u32};
 use vector::MessageOffset;
 
-// How many there are, their types as 32-bit numbers, and the sizes of their values. The values come joined, in a slice of their own.
+// How many there are, their types as 32-bit numbers, and the sizes of their values. The values come joined, in a slice of their own. Hosts build it: the shape
+// of the library's interface, two arrays with one count in fixed memory.
 #[derive(Clone, Copy)]
 pub struct Elements {
     pub count: usize,
@@ -36,11 +37,10 @@ impl Elements {
     pub fn none() -> Elements
         ensures { result ≡ no_elements }
     {
-        let zeros = [0u32; 8];
         Elements {
             count: 0,
-            types: zeros,
-            sizes: zeros,
+            types: [0u32; 8],
+            sizes: [0u32; 8],
         }
     }
 
@@ -52,8 +52,8 @@ impl Elements {
         let sizes = [Elements::PULSE_LENGTH, 0, 0, 0, 0, 0, 0, 0];
         Elements {
             count: 1,
-            types: types,
-            sizes: sizes,
+            types,
+            sizes,
         }
     }
 
@@ -78,20 +78,15 @@ impl Elements {
 pub fn fits(e: Elements, values: &[u8]) -> bool
     ensures { result ≡ elements_fit e values.now }
 {
-    let count = e.count;
-    let sizes = e.sizes;
-    if Elements::MOST < count {
+    if Elements::MOST < e.count {
         return false;
     }
-    let mut i = 0;
     let mut total = 0;
-    while i < count {
-        let size = sizes[i];
-        if Elements::VALUE_MOST < size {
+    for size in &e.sizes[..e.count] {
+        if Elements::VALUE_MOST < *size {
             return false;
         }
-        total += size as usize;
-        i += 1;
+        total += *size as usize;
     }
     total == values.len()
 }
@@ -100,10 +95,10 @@ pub fn fits(e: Elements, values: &[u8]) -> bool
 pub fn size_of(e: Elements, values: &[u8]) -> usize
     ensures { result ≡ handed_size e values.now }
 {
-    if fits(e, values) {
-        return field::ELEMENT * e.count + values.len();
+    if !fits(e, values) {
+        return 0;
     }
-    0
+    field::ELEMENT * e.count + values.len()
 }
 
 // Whether a type is critical: its sign, as a signed number of 32 bits.
@@ -118,17 +113,7 @@ pub fn are_ordinary(e: Elements) -> bool
     requires { e.count ≤ 8 }
     ensures { result ≡ types_ordinary e }
 {
-    let count = e.count;
-    let types = e.types;
-    let mut i = 0;
-    while i < count {
-        let critical = is_critical(types[i]);
-        if critical {
-            return false;
-        }
-        i += 1;
-    }
-    true
+    e.types[..e.count].iter().all(|kind| !is_critical(*kind))
 }
 
 // The stored offset of what stands at an offset: 0 where it is empty.
@@ -154,18 +139,11 @@ fn put_array(d: &mut [u8], at: usize, e: Elements, first: MessageOffset) -> usiz
     requires { (e.count ≤ 8) × ((at + 12 * e.count ≤ length d.old) × (first.0 + sum_from e.count 0 e.sizes < 4294967296)) }
     ensures { Written d.old at (12 * e.count) (array_from e.count 0 first.0 e.types e.sizes) d.new result }
 {
-    let count = e.count;
-    let types = e.types;
-    let sizes = e.sizes;
-    let mut i = 0;
     let mut place = at;
     let mut offset = first.0;
-    while i < count {
-        let size = sizes[i];
-        let next = put_element(d, place, types[i], MessageOffset(offset), size);
-        place = next;
-        offset += size;
-        i += 1;
+    for (kind, size) in e.types[..e.count].iter().zip(&e.sizes[..e.count]) {
+        place = put_element(d, place, *kind, MessageOffset(offset), *size);
+        offset += *size;
     }
     place
 }

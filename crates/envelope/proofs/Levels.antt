@@ -1,90 +1,84 @@
 -- An element around a reading, in the words of the code: one law for every level.
 -- Assumes nothing.
 use Prim.Native.Nat.{ℕ, ◌-◌, ◌<◌, ◌≤◌}
-use mathlib.Core.Path.{◌≡◌, refl, sym, ◌∙◌}
+use mathlib.Core.Path.{◌≡◌, sym, ◌∙◌}
 use mathlib.Core.Bool.{Bool, true, false}
 use mathlib.Core.List.{List}
 use native.Mathlib.Omega.{arith}
 use lib.ListN.{length}
 use lib.Seq.{take-length}
-use lib.Dec.{eqb}
-use borrow.Author.Tests.{eqb-true, eqb-false, le-leb, lt-leb}
-use Rattle.der.specs.Got.{Got, ok, no, bind, check}
-use Rattle.der.specs.Element.{Part, cut, any, exactly}
-use Rattle.der.specs.Grammar.{closed, within, only, starts}
-use Rattle.der.specs.Holder.{Holder, part, Cuts}
-use Rattle.der.specs.declared.Cut.{Cut}
-use Rattle.der.specs.declared.Cut.TheVariants.{Element, Refused}
+use borrow.Author.Tests.{le-leb, lt-leb}
+use Rattle.std.specs.Prelude.{Result, Ok, Err, IsErrAnd}
+use Rattle.refusal.specs.declared.Refusal.{Refusal}
+use Rattle.refusal.specs.declared.Refusal.TheVariants as refusal
+use Rattle.der.specs.Got.{Got, check}
+use Rattle.der.specs.Element.{cut, any, exactly}
+use Rattle.der.specs.Grammar.{within, only, starts}
+use Rattle.der.specs.Holder.{HolderAt, octets_at, part, Cuts}
+use Rattle.der.specs.declared.Part.{Part as Section}
+use Rattle.der.proofs.Answers.{got-no, got-ok, got-placed, passed-on, continued}
 use Rattle.envelope.specs.Envelope.{Envelope, spnego}
 use Rattle.envelope.specs.Reading.{init_of, resp_of, wrapped_of, envelope_of}
-use Rattle.envelope.specs.Answers.{told, Placed, Reads, closed_read}
-use Rattle.envelope.specs.declared.Read.{Read}
-use Rattle.envelope.specs.declared.Read.TheVariants as reads
-use Rattle.envelope.proofs.Holders.{got-no, got-ok, holder_in, holder-behind, closed-end, closed-left}
+use Rattle.envelope.specs.Answers.{Reads}
+use Rattle.envelope.specs.declared.Envelope.{Envelope as Lent}
+use Rattle.envelope.proofs.Holders.{holder-behind, closed-end, closed-left}
 
-module _ (w : Bool) (r : Read) where
-  pub close-ends : w ≡ true → r ≡ closed_read w r
-  close-ends e = rw e
+module _ (s : List ℕ) (H : Section) (t : ℕ) (h : HolderAt s H) (body : List ℕ → Got Envelope) (c : Result (Section × Section) Refusal)
+    (says : Cuts s H (cut t any (octets_at s H)) c) where
+  abbrev Says : Result Lent Refusal → Type 0
+  Says r = Reads s H.end (only t any body (octets_at s H)) r
 
-  pub close-refused : (n : ℕ) → w ≡ false → r ≡ reads.Refused n → reads.Refused n ≡ closed_read w r
-  close-refused n e k = rw (e, k)
-
-pub ruleset closings = (close-ends, close-refused)
-
-module _ (s : List ℕ) (d end : ℕ) (h : Holder s d end) where
-  closing : (w : Bool) → w ≡ eqb d end → (r : Read) → told s (closed_read w r) ≡ bind (told s r) (closed (part s d end))
-  closing true e (reads.Init i) = sym (closed-end s d end h _ (eqb-true d end (sym e)))
-  closing true e (reads.Resp i) = sym (closed-end s d end h _ (eqb-true d end (sym e)))
-  closing true e (reads.Refused n) = refl
-  closing false e (reads.Init i) = sym (closed-left s d end h _ (eqb-false d end (sym e)))
-  closing false e (reads.Resp i) = sym (closed-left s d end h _ (eqb-false d end (sym e)))
-  closing false e (reads.Refused n) = refl
-
-  kept : (w : Bool) → w ≡ eqb d end → (r : Read) → Placed s d r → Placed s end (closed_read w r)
-  kept true e r k = rw (← eqb-true d end (sym e)) k
-  kept false e (reads.Init i) k = tt
-  kept false e (reads.Resp i) k = tt
-  kept false e (reads.Refused n) k = tt
-
-module _ (s : List ℕ) (at end t : ℕ) (h : Holder s at end) (c : Cut) (says : Cuts s at end (cut t any (part s at end)) c) where
-  pub level-no : (body : List ℕ → Got Envelope) (n : ℕ) → c ≡ Refused n → Reads s end (only t any body (part s at end)) (reads.Refused n)
+  pub level-no : (e : Refusal) → c ≡ Err e → (x : Result Lent Refusal) → IsErrAnd x (λ y. y ≡ e) → Says x
   unfolding only within
-  level-no body n e = record { same = sym (rw (got-no says n e)); placed = tt }
+  level-no e k (Ok y) x-is = absurd x-is
+  level-no e k (Err y) x-is = rw x-is (record { same = sym (rw (got-no says e k)); placed = tt })
 
-  pub level-holder : (b d : ℕ) → c ≡ Element b d → Holder s b d
-  level-holder b d e = holder_in says b d e h
+  module _ (contents rest : Section) (c-is : c ≡ Ok (contents, rest)) (r : Result Lent Refusal)
+      (r-says : Reads s contents.end (body (octets_at s contents)) r) where
+    pub level-inner-no : (e : Refusal) → r ≡ Err e → (x : Result Lent Refusal) → IsErrAnd x (λ y. y ≡ e) → Says x
+    unfolding only within
+    level-inner-no e k (Ok y) x-is = absurd x-is
+    level-inner-no e k (Err y) x-is = rw x-is (record { same = sym (rw (got-ok says _ c-is, got-no r-says e k)); placed = tt })
 
-  pub level-read : (body : List ℕ → Got Envelope) (b d : ℕ) → c ≡ Element b d → (r x : Read) → Reads s d (body (part s b d)) r
-      → x ≡ closed_read (eqb d end) r
-      → Reads s end (only t any body (part s at end)) x
-  unfolding only within
-  level-read body b d e r x r-says x-is =
-      let behind = holder-behind says b d e h in
-      rw x-is
-      (record {
-        same = closing s d end behind (eqb d end) refl r ∙ two (told s r) ∙ rw (got-ok says b d e, ← r-says.same);
-        placed = kept s d end behind (eqb d end) refl r r-says.placed;
-      }) where
-        two : (g : Got Envelope) → bind g (closed (part s d end))
-            ≡ bind (bind {B = Part Envelope} g (λ a. ok (record { value = a; rest = part s d end }))) (λ q. closed q.rest q.value)
-        two (ok a) = refl
-        two (no n) = refl
+    module _ (x : Lent) (r-is : r ≡ Ok x) where
+      behind : HolderAt s rest
+      behind = holder-behind s H says contents rest c-is h
 
-pub ruleset levels = (level-no, level-holder, level-read)
+      pub level-left : (rest.from ≡ rest.end → ⊥) → Says (Err refusal.LeftOver)
+      unfolding only within
+      level-left e = record { same = sym (rw (got-ok says _ c-is, got-ok r-says x r-is) (rw (closed-left s rest behind _ e))); placed = tt }
+
+      pub level-read : rest.from ≡ rest.end → Says (Ok x)
+      unfolding only within
+      level-read e =
+          let i = got-placed says (contents, rest) c-is in
+          let end : contents.end ≡ H.end = omega arith in
+          record {
+            same = sym (rw (got-ok says _ c-is, got-ok r-says x r-is) (rw (closed-end s rest behind _ e)));
+            placed = rw end at (got-placed r-says x r-is);
+          }
+
+pub ruleset levels = (level-no, level-inner-no, level-left, level-read)
 
 -- the wrapper's contents
-module _ (s : List ℕ) (at end : ℕ) (h : Holder s at end) (c : Cut) (says : Cuts s at end (cut 0x06 (exactly spnego) (part s at end)) c) where
-  pub wrapped-no : (n : ℕ) → c ≡ Refused n → Reads s end (wrapped_of (part s at end)) (reads.Refused n)
+module _ (s : List ℕ) (H : Section) (h : HolderAt s H) (c : Result (Section × Section) Refusal)
+    (says : Cuts s H (cut 0x06 (exactly spnego) (octets_at s H)) c) where
+  pub wrapped-no : (e : Refusal) → c ≡ Err e → (x : Result Lent Refusal) → IsErrAnd x (λ y. y ≡ e) → Reads s H.end (wrapped_of (octets_at s H)) x
   unfolding wrapped_of
-  wrapped-no n e = record { same = sym (rw (got-no says n e)); placed = tt }
+  wrapped-no e k x x-is = passed-on says e k _ x x-is
 
-  pub wrapped-behind : (b d : ℕ) → c ≡ Element b d → Holder s d end
-  wrapped-behind b d e = holder-behind says b d e h
+  module _ (contents rest : Section) (c-is : c ≡ Ok (contents, rest)) where
+    pub wrapped-behind : HolderAt s rest
+    wrapped-behind = holder-behind s H says contents rest c-is h
 
-  pub wrapped-read : (b d : ℕ) → c ≡ Element b d → (r : Read) → Reads s end (only 0xA0 any (only 0x30 any init_of) (part s d end)) r
-      → Reads s end (wrapped_of (part s at end)) r
-  unfolding wrapped_of
-  wrapped-read b d e r r-says = record { same = sym (rw (got-ok says b d e) (sym r-says.same)); placed = r-says.placed }
+    pub wrapped-read : (r : Result Lent Refusal) → Reads s rest.end (only 0xA0 any (only 0x30 any init_of) (octets_at s rest)) r
+        → Reads s H.end (wrapped_of (octets_at s H)) r
+    unfolding wrapped_of
+    wrapped-read r r-says =
+        let i = got-placed says (contents, rest) c-is in
+        continued says _ c-is _ r (to-end rest.end H.end i.last r-says) where
+          to-end : (a b : ℕ) → a ≡ b → {g : Got Envelope} → Reads s a g r → Reads s b g r
+          to-end a b e x = rw e at x
 
 pub ruleset wrappings = (wrapped-no, wrapped-behind, wrapped-read)
 
@@ -94,15 +88,15 @@ module _ (s : List ℕ) where
   unfolding part
   whole = let z : length s - 0 ≡ length s = omega arith in rw (z, take-length s)
 
-  pub envelope-long : 65535 < length s → Reads s (length s) (envelope_of s) (reads.Refused 1)
+  pub envelope-long : 65535 < length s → Reads s (length s) (envelope_of s) (Err refusal.TooLong)
   unfolding envelope_of check
   envelope-long h = record { same = sym (rw (lt-leb (length s) 65535 h)); placed = tt }
 
   module _ (short : length s ≤ 65535) where
-    pub envelope-holder : Holder s 0 (length s)
+    pub envelope-holder : HolderAt s (record { from = 0; end = length s })
     envelope-holder = record { order = omega arith; inside = omega arith; small = short }
 
-    module _ (w : Bool) (w-is : w ≡ starts 0x60 (part s 0 (length s))) (r : Read) where
+    module _ (w : Bool) (w-is : w ≡ starts 0x60 (part s 0 (length s))) (r : Result Lent Refusal) where
       pub envelope-init : w ≡ true → Reads s (length s) (only 0x60 any wrapped_of (part s 0 (length s))) r → Reads s (length s) (envelope_of s) r
       unfolding envelope_of check
       envelope-init h e =

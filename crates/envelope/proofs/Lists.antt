@@ -1,92 +1,44 @@
 -- The list of mechanisms, in the words of the code.
 -- Assumes nothing.
-use Prim.Native.Nat.{ℕ, zero, suc, ◌-◌, ◌<◌, ◌≤◌}
+use Prim.Native.Nat.{ℕ, zero, suc, ◌+◌, ◌-◌, ◌<◌, ◌≤◌}
 use mathlib.Core.Path.{◌≡◌, refl, sym, ap, ◌∙◌}
-use mathlib.Core.Bool.{Bool, true, false}
+use mathlib.Core.Bool.{Bool, true, false, cond}
 use mathlib.Core.List.{List, [], ◌∷◌}
 use mathlib.Core.Logic.{◌⊎◌, inl, inr}
 use native.Mathlib.Omega.{arith}
 use lib.ListN.{length}
-use borrow.Author.Tests.{le-leb}
+use lib.Dec.{leb}
+use borrow.Author.Tests.{le-leb, lt-leb}
+use Rattle.std.specs.Prelude.{Result, Ok, Err, IsErrAnd}
 use Rattle.octets.proofs.Bools.{which}
+use Rattle.refusal.specs.declared.Refusal.{Refusal}
+use Rattle.refusal.specs.declared.Refusal.TheVariants as refusal
+use Rattle.refusal.specs.Refusals.{number_of}
 use Rattle.der.specs.Got.{Got, ok, no, bind, check}
 use Rattle.der.specs.Element.{Part, cut, any}
 use Rattle.der.specs.Grammar.{within, only}
-use Rattle.der.specs.Holder.{Holder, part, Cuts}
-use Rattle.der.specs.declared.Cut.{Cut}
-use Rattle.der.specs.declared.Cut.TheVariants.{Element, Refused}
+use Rattle.der.specs.Holder.{HolderAt, octets_at, Cuts}
+use Rattle.der.specs.declared.Part.{Part as Section}
 use Rattle.der.proofs.Parts.{part_none, part-cons, length_part}
+use Rattle.der.proofs.Gots.{check-ok}
+use Rattle.der.proofs.Answers.{got-no, got-ok, got-placed, passed-on}
 use Rattle.envelope.specs.Reading.{filled, identifiers_of, list_of, mechanisms_of}
-use Rattle.envelope.specs.Answers.{left_of, count_of, told_count, mechanisms_in, value_of, refusal_of, told_list, ListPlaced, Lists}
-use Rattle.envelope.specs.declared.Counted.{Counted}
-use Rattle.envelope.specs.declared.Counted.TheVariants as counts
-use Rattle.envelope.specs.declared.Listed.{Listed}
-use Rattle.envelope.specs.declared.Listed.TheVariants as lists
-use Rattle.envelope.proofs.Holders.{got-no, got-ok, got-inside, holder_in, holder-behind, closed-end, closed-left}
+use Rattle.envelope.specs.Answers.{mechanisms_in, value_of, Counts, Lists}
+use Rattle.envelope.proofs.Holders.{holder_in, holder-behind, closed-end, closed-left}
 use Rattle.envelope.proofs.Identifiers.{identifiers-forth}
 
-pub refusal-no : (c : Cut) (n : ℕ) → c ≡ Refused n → no n ≡ refusal_of c
-refusal-no c n e = sym (ap refusal_of e)
+-- how many of k identifiers are still allowed behind those in v
+unfoldable pub left_of : ℕ → List ℕ → Got ℕ
+left_of zero v = cond (filled v) (bind (cut 0x06 any v) (λ q. no 23)) (ok 0)
+left_of (suc k) v = cond (filled v) (bind (cut 0x06 any v) (λ q. left_of k q.rest)) (ok (suc k))
 
-pub refusal-none : (c : Cut) (b d : ℕ) → c ≡ Element b d → no 0 ≡ refusal_of c
-refusal-none c b d e = sym (ap refusal_of e)
+-- the same of a whole list
+unfoldable left_count : List ℕ → Got ℕ
+left_count v = check (filled v) 20 (left_of 16 v)
 
-pub ruleset refusals = (refusal-no, refusal-none)
-
--- an empty list, and one with a first octet
-module _ (s : List ℕ) (at end : ℕ) (h : Holder s at end) where
-  pub count_none : at ≡ end → no 20 ≡ count_of (part s at end)
-  unfolding count_of check filled
-  count_none e = rw (← e, part_none s at)
-
-  pub count-some : (at ≡ end → ⊥) → count_of (part s at end) ≡ left_of 16 (part s at end)
-  unfolding count_of check filled
-  count-some e = let o = h.order in rw (part-cons s at end (omega arith) h.inside)
-
-pub ruleset starting = (count_none, count-some)
-
--- one turn of the loop: what is known of the whole list, x, is so of its rest
-module _ (s : List ℕ) (at end left : ℕ) (x : Got ℕ) (h : Holder s at end) (inv : x ≡ left_of left (part s at end)) where
-  pub turn_end : end ≤ at → ok left ≡ x
-  unfolding left_of filled
-  turn_end e = let o = h.order in
-      let z : at ≡ end = omega arith in
-      sym (inv ∙ rw (← z, part_none s at) (none left)) where
-        none : (k : ℕ) → left_of k [] ≡ ok k
-        none zero = refl
-        none (suc k) = refl
-
-  module _ (some : at < end) (c : Cut) (says : Cuts s at end (cut 0x06 any (part s at end)) c) where
-    is-filled : filled (part s at end) ≡ true
-    unfolding filled
-    is-filled = rw (part-cons s at end some h.inside)
-
-    pub turn-no : (n : ℕ) → c ≡ Refused n → (r : Counted) → told_count r ≡ refusal_of c → told_count r ≡ x
-    unfolding left_of
-    turn-no n e r r-is = r-is ∙ ap refusal_of e ∙ sym (inv ∙ stop left) where
-      stop : (k : ℕ) → left_of k (part s at end) ≡ no n
-      stop zero = rw (is-filled, got-no says n e)
-      stop (suc k) = rw (is-filled, got-no says n e)
-
-    module _ (b d : ℕ) (c-is : c ≡ Element b d) where
-      pub turn_many : left ≡ 0 → no 23 ≡ x
-      unfolding left_of
-      turn_many e = sym (inv ∙ rw (e, is-filled, got-ok says b d c-is))
-
-      pub turn_more : (left ≡ 0 → ⊥) → x ≡ left_of (left - 1) (part s d end)
-      unfolding left_of
-      turn_more e = inv ∙ step left e where
-        step : (k : ℕ) → (k ≡ 0 → ⊥) → left_of k (part s at end) ≡ left_of (k - 1) (part s d end)
-        step zero f = absurd (f refl)
-        step (suc k) f = let z : suc k - 1 ≡ k = omega arith in rw (is-filled, got-ok says b d c-is, z)
-
-      pub turn-holder : Holder s d end
-      turn-holder = holder-behind says b d c-is h
-
-      pub turn-less : end - d < end - at
-      turn-less = let i = got-inside says b d c-is in omega arith
-
-pub ruleset turns = (turn_end, turn-no, turn_many, turn_more, turn-holder, turn-less)
+-- the same once `count` were read; behind the sixteenth there may be none
+unfoldable pub going : ℕ → List ℕ → Got ℕ
+going count v = cond (leb count 16) (left_of (16 - count) v) (no 23)
 
 -- what the loop answers, of the list
 left_is : (k : ℕ) (v : List ℕ) → left_of k v ≡ bind (identifiers_of k v) (λ ms. ok (k - length ms))
@@ -114,15 +66,15 @@ left_is (suc k) v = go (which (filled v)) (left_is k) where
     two (no n) = refl
   go (inr e) f = let z : suc k ≡ suc k - 0 = omega arith in rw e (ap ok z)
 
-count-is : (v : List ℕ) → count_of v ≡ bind (list_of v) (λ ms. ok (16 - length ms))
-unfolding count_of list_of check
+count-is : (v : List ℕ) → left_count v ≡ bind (list_of v) (λ ms. ok (16 - length ms))
+unfolding left_count list_of check
 count-is v = go (filled v) (left_is 16 v) where
   go : (b : Bool) → left_of 16 v ≡ bind (identifiers_of 16 v) (λ ms. ok (16 - length ms))
       → check b 20 (left_of 16 v) ≡ bind (check b 20 (identifiers_of 16 v)) (λ ms. ok (16 - length ms))
   go true e = e
   go false e = refl
 
-list-no : (v : List ℕ) (n : ℕ) → count_of v ≡ no n → list_of v ≡ no n
+list-no : (v : List ℕ) (n : ℕ) → left_count v ≡ no n → list_of v ≡ no n
 list-no v n e = go (list_of v) (sym (count-is v) ∙ e) where
   go : (g : Got (List (List ℕ))) → bind g (λ ms. ok (16 - length ms)) ≡ no n → g ≡ no n
   go (ok ms) k = let z : ◌≡◌ {A = ℕ} 0 1 = cc in absurd (omega arith)
@@ -130,14 +82,14 @@ list-no v n e = go (list_of v) (sym (count-is v) ∙ e) where
 
 few : (v : List ℕ) (ms : List (List ℕ)) → list_of v ≡ ok ms → length ms ≤ 16
 unfolding list_of
-few v ms e = (identifiers-forth 16 v ms (Rattle.der.proofs.Gots.check-ok (filled v) 20 (identifiers_of 16 v) ms e).1).1
+few v ms e = (identifiers-forth 16 v ms (check-ok (filled v) 20 (identifiers_of 16 v) ms e).1).1
 
 record Listing (v : List ℕ) (n : ℕ) : Type 0 where
   is : list_of v ≡ ok (value_of (list_of v))
   left : n ≤ 16
   number : 16 - n ≡ length (value_of (list_of v))
 
-list-ok : (v : List ℕ) (n : ℕ) → count_of v ≡ ok n → Listing v n
+list-ok : (v : List ℕ) (n : ℕ) → left_count v ≡ ok n → Listing v n
 list-ok v n e = go (list_of v) refl (sym (count-is v) ∙ e) where
   go : (g : Got (List (List ℕ))) → list_of v ≡ g → bind g (λ ms. ok (16 - length ms)) ≡ ok n → Listing v n
   go (ok ms) k h =
@@ -146,92 +98,155 @@ list-ok v n e = go (list_of v) refl (sym (count-is v) ∙ e) where
       record { is = rw k; left = omega arith; number = rw k (omega arith) }
   go (no m) k h = let z : ◌≡◌ {A = ℕ} 0 1 = cc in absurd (omega arith)
 
-in-holder : (s : List ℕ) (b e : ℕ) → Holder s b e → mechanisms_in (part s b e) ≡ value_of (list_of (part s b e))
-unfolding check
-in-holder s b e h =
-    let o = h.order in let i = h.inside in let m = h.small in
-    rw (le-leb (length (part s b e)) 65535 (omega (arith, length_part s b e h.order h.inside)))
+-- what a count answers, of a list that fits
+module _ (s : List ℕ) (L : Section) (h : HolderAt s L) where
+  abbrev v : List ℕ
+  v = octets_at s L
 
-module _ (s : List ℕ) (at end : ℕ) (h : Holder s at end) (x : Cut) (says : Cuts s at end (cut 0xA0 any (part s at end)) x) where
-  abbrev Says : Listed → Type 0
-  Says r = Lists s end (mechanisms_of (part s at end)) r
+  abbrev Counted : Result ℕ Refusal → Type 0
+  Counted r = Counts v r
 
-  pub list-outer-no : (n : ℕ) → x ≡ Refused n → Says (lists.Refused n)
+  pub in-holder : mechanisms_in v ≡ value_of (list_of v)
+  unfolding check
+  in-holder =
+      let o = h.order in let i = h.inside in let m = h.small in
+      rw (le-leb (length v) 65535 (omega (arith, length_part s L.from L.end h.order h.inside)))
+
+  counted-no : (e : Refusal) → left_count v ≡ no (number_of e) → Counted (Err e)
+  counted-no e k = record { same = sym (list-no v (number_of e) k); placed = tt }
+
+  pub count_none : L.from ≡ L.end → Counted (Err refusal.Element)
+  unfolding left_count check filled
+  count_none e = counted-no refusal.Element (rw (← e, part_none s L.from))
+
+  module _ (some : L.from ≡ L.end → ⊥) where
+    is-filled : filled v ≡ true
+    unfolding filled
+    is-filled = let o = h.order in rw (part-cons s L.from L.end (omega arith) h.inside)
+
+    pub count-start : left_of 16 v ≡ going 0 v
+    unfolding going
+    count-start = refl
+
+    -- one turn of the loop: what is known of the whole list is so of its rest
+    module _ (rest : Section) (count : ℕ) (k : HolderAt s rest) (inv : left_of 16 v ≡ going count (octets_at s rest)) where
+      whole : (g : Got ℕ) → left_of 16 v ≡ g → left_count v ≡ g
+      unfolding left_count check
+      whole g e = rw (is-filled, e)
+
+      pub count-end : rest.from ≡ rest.end → count < 17 → Counted (Ok count)
+      unfolding going left_of filled
+      count-end e c =
+          let is : left_of 16 v ≡ ok (16 - count) =
+          inv ∙ rw (le-leb count 16 (omega arith), ← e, part_none s rest.from) (none (16 - count)) in
+          let l : Listing v (16 - count) = list-ok v (16 - count) (whole (ok (16 - count)) is) in
+          record { same = sym (l.is ∙ ap ok (sym in-holder)); placed = rw in-holder (sym' l) } where
+            none : (n : ℕ) → left_of n [] ≡ ok n
+            none zero = refl
+            none (suc n) = refl
+
+            sym' : Listing v (16 - count) → count ≡ length (value_of (list_of v))
+            sym' l = let z = l.number in omega arith
+
+      pub count-many : 17 ≤ count → Counted (Err refusal.Mechanisms)
+      unfolding going
+      count-many c = counted-no refusal.Mechanisms (whole (no 23) (inv ∙ rw (lt-leb count 16 (omega arith))))
+
+      module _ (more : rest.from ≡ rest.end → ⊥) (fits : count < 17) (c : Result (Section × Section) Refusal)
+          (says : Cuts s rest (cut 0x06 any (octets_at s rest)) c) where
+        rest-filled : filled (octets_at s rest) ≡ true
+        unfolding filled
+        rest-filled = let o = k.order in rw (part-cons s rest.from rest.end (omega arith) k.inside)
+
+        pub count-no : (e : Refusal) → c ≡ Err e → (x : Result ℕ Refusal) → IsErrAnd x (λ y. y ≡ e) → Counted x
+        unfolding going left_of
+        count-no e z (Ok y) x-is = absurd x-is
+        count-no e z (Err y) x-is =
+            rw x-is (counted-no e (whole (no (number_of e)) (inv ∙ rw (le-leb count 16 (omega arith)) (stop (16 - count))))) where
+              stop : (n : ℕ) → left_of n (octets_at s rest) ≡ no (number_of e)
+              stop zero = rw (rest-filled, got-no says e z)
+              stop (suc n) = rw (rest-filled, got-no says e z)
+
+        module _ (m behind : Section) (c-is : c ≡ Ok (m, behind)) where
+          pub count-behind : HolderAt s behind
+          count-behind = holder-behind s rest says m behind c-is k
+
+          pub count-more : left_of 16 v ≡ going (count + 1) (octets_at s behind)
+          unfolding going left_of
+          count-more = inv ∙ rw (le-leb count 16 (omega arith)) (step (16 - count) refl) where
+            step : (n : ℕ) → n ≡ 16 - count
+                → left_of n (octets_at s rest) ≡ cond (leb (count + 1) 16) (left_of (16 - (count + 1)) (octets_at s behind)) (no 23)
+            step zero z = rw (rest-filled, got-ok says _ c-is, lt-leb (count + 1) 16 (omega arith))
+            step (suc n) z =
+                let y : 16 - (count + 1) ≡ n = omega arith in
+                rw (rest-filled, got-ok says _ c-is, le-leb (count + 1) 16 (omega arith), y)
+
+pub ruleset counting = (count_none, count-start, count-end, count-many, count-no, count-behind, count-more)
+
+module _ (s : List ℕ) (H : Section) (h : HolderAt s H) (x : Result (Section × Section) Refusal)
+    (says : Cuts s H (cut 0xA0 any (octets_at s H)) x) where
+  abbrev Says : Result (Section × ℕ × Section) Refusal → Type 0
+  Says r = Lists s H (mechanisms_of (octets_at s H)) r
+
+  pub list-outer-no : (e : Refusal) → x ≡ Err e → (r : Result (Section × ℕ × Section) Refusal) → IsErrAnd r (λ y. y ≡ e) → Says r
   unfolding within
-  list-outer-no n e = record { same = sym (rw (got-no says n e)); placed = tt }
+  list-outer-no e k r r-is = passed-on says e k _ r r-is
 
-  module _ (b e : ℕ) (x-is : x ≡ Element b e) where
-    pub list-outer : Holder s b e
-    list-outer = holder_in says b e x-is h
+  module _ (f behind : Section) (x-is : x ≡ Ok (f, behind)) where
+    pub list-outer : HolderAt s f
+    list-outer = holder_in s H says f behind x-is h
 
-    module _ (y : Cut) (says' : Cuts s b e (cut 0x30 any (part s b e)) y) where
-      pub list-inner-no : (n : ℕ) → y ≡ Refused n → Says (lists.Refused n)
+    module _ (y : Result (Section × Section) Refusal) (says' : Cuts s f (cut 0x30 any (octets_at s f)) y) where
+      pub list-inner-no : (e : Refusal) → y ≡ Err e → (r : Result (Section × ℕ × Section) Refusal) → IsErrAnd r (λ y. y ≡ e) → Says r
       unfolding within only
-      list-inner-no n k = record { same = sym (rw (got-ok says b e x-is, got-no says' n k)); placed = tt }
+      list-inner-no e k (Ok z) r-is = absurd r-is
+      list-inner-no e k (Err z) r-is = rw r-is (record { same = sym (rw (got-ok says _ x-is, got-no says' e k)); placed = tt })
 
-      module _ (c d : ℕ) (y-is : y ≡ Element c d) where
-        pub list-inner : Holder s c d
-        list-inner = holder_in says' c d y-is list-outer
+      module _ (l rest : Section) (y-is : y ≡ Ok (l, rest)) where
+        pub list-inner : HolderAt s l
+        list-inner = holder_in s f says' l rest y-is list-outer
 
-        module _ (i : Counted) (i-is : told_count i ≡ count_of (part s c d)) where
-          pub list-refused : (n : ℕ) → i ≡ counts.Refused n → Says (lists.Refused n)
+        module _ (i : Result ℕ Refusal) (i-says : Counts (octets_at s l) i) where
+          pub list-refused : (e : Refusal) → i ≡ Err e → (r : Result (Section × ℕ × Section) Refusal) → IsErrAnd r (λ y. y ≡ e) → Says r
           unfolding within only
-          list-refused n k =
-              record {
-                same = sym (rw (got-ok says b e x-is, got-ok says' c d y-is, list-no (part s c d) n (sym i-is ∙ ap told_count k)));
-                placed = tt;
-              }
+          list-refused e k (Ok z) r-is = absurd r-is
+          list-refused e k (Err z) r-is =
+              rw r-is (record { same = sym (rw (got-ok says _ x-is, got-ok says' _ y-is, got-no i-says e k)); placed = tt })
 
-          module _ (n : ℕ) (i-ok : i ≡ counts.Left n) where
-            listing : Listing (part s c d) n
-            listing = list-ok (part s c d) n (sym i-is ∙ ap told_count i-ok)
+          module _ (n : ℕ) (i-ok : i ≡ Ok n) where
+            rest-holder : HolderAt s rest
+            rest-holder = holder-behind s f says' l rest y-is list-outer
 
-            listed : list_of (part s c d) ≡ ok (mechanisms_in (part s c d))
-            listed = listing.is ∙ ap ok (sym (in-holder s c d list-inner))
+            abbrev ms : List (List ℕ)
+            ms = mechanisms_in (octets_at s l)
 
-            behind : Holder s d e
-            behind = holder-behind says' c d y-is list-outer
+            listed : list_of (octets_at s l) ≡ ok ms
+            listed = got-ok i-says n i-ok
 
-            pub list_count : n ≤ 16
-            list_count = listing.left
-
-            pub list_left : (d ≡ e → ⊥) → Says (lists.Refused 22)
+            pub list_left : (rest.from ≡ rest.end → ⊥) → Says (Err refusal.LeftOver)
             unfolding within only
             list_left k =
                 record {
-                  same = sym
-                      (rw (got-ok says b e x-is, got-ok says' c d y-is, listed, closed-left s d e behind (mechanisms_in (part s c d)) k));
+                  same = sym (rw (got-ok says _ x-is, got-ok says' _ y-is, listed, closed-left s rest rest-holder ms k));
                   placed = tt;
                 }
 
-            found : (ms : List (List ℕ)) → list_of (part s c d) ≡ ok ms → d ≡ e
-                → mechanisms_of (part s at end) ≡ ok (record { value = ms; rest = part s e end })
+            found : (ms : List (List ℕ)) → list_of (octets_at s l) ≡ ok ms → rest.from ≡ rest.end
+                → mechanisms_of (octets_at s H) ≡ ok (record { value = ms; rest = octets_at s behind })
             unfolding within only
-            found ms is k = rw (got-ok says b e x-is, got-ok says' c d y-is, is, closed-end s d e behind ms k)
+            found ms is k = rw (got-ok says _ x-is, got-ok says' _ y-is, is, closed-end s rest rest-holder ms k)
 
-            pub list-found : d ≡ e → Says (lists.At c d (16 - n) e)
+            pub list-found : rest.from ≡ rest.end → Says (Ok (l, n, behind))
             list-found k =
                 let o = list-inner in
+                let j = got-placed says (f, behind) x-is in
                 record {
-                  same = sym (found (mechanisms_in (part s c d)) listed k);
+                  same = sym (found ms listed k);
                   placed = (
-                    record { order = o.order; inside = o.inside; counted = listing.number ∙ ap length (sym (in-holder s c d list-inner)) },
-                    holder-behind says b e x-is h,
+                    record { order = o.order; inside = o.inside; counted = got-placed i-says n i-ok },
+                    holder-behind s H says f behind x-is h,
+                    j.last,
                   );
                 }
 
-pub ruleset listings = (list-outer-no, list-outer, list-inner-no, list-inner, list-refused, list_count, list_left, list-found)
-
--- what the answer gives
-module _ {s : List ℕ} {end : ℕ} {g : Got (Part (List (List ℕ)))} {o : Listed} (says : Lists s end g o) where
-  pub list-got-no : (n : ℕ) → o ≡ lists.Refused n → g ≡ no n
-  list-got-no n e = sym says.same ∙ ap (told_list s end) e
-
-  pub list-got : (b e k a : ℕ) → o ≡ lists.At b e k a → g ≡ ok (record { value = mechanisms_in (part s b e); rest = part s a end })
-  list-got b e k a w = sym says.same ∙ ap (told_list s end) w
-
-  pub list-placed : (b e k a : ℕ) → o ≡ lists.At b e k a → ListPlaced s b e k
-  list-placed b e k a w = (rw w at says.placed).0
-
-  pub list-behind : (b e k a : ℕ) → o ≡ lists.At b e k a → Holder s a end
-  list-behind b e k a w = (rw w at says.placed).1
+pub ruleset listings = (list-outer-no, list-outer, list-inner-no, list-inner, list-refused, list_left, list-found)

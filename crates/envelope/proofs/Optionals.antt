@@ -1,125 +1,91 @@
 -- Fields that may be missing, in the words of the code.
 -- Assumes nothing.
-use Prim.Native.Nat.{ℕ}
-use mathlib.Core.Path.{◌≡◌, refl, sym, ap, ◌∙◌}
+use Prim.Native.Nat.{ℕ, ◌<◌, ◌≤◌}
+use mathlib.Core.Path.{◌≡◌, refl, sym}
 use mathlib.Core.Bool.{Bool, true, false}
 use mathlib.Core.List.{List}
-use mathlib.Core.Option.{Option, some}
-use mathlib.Core.Logic.{◌⊎◌, inl, inr}
 use native.Mathlib.Omega.{arith}
 use lib.ListN.{get_or}
-use lib.Dec.{eqb}
-use borrow.Author.Tests.{eq-eqb, ne_eqb, eqb-true, eqb-false}
-use Rattle.octets.proofs.Bools.{which}
-use Rattle.der.specs.Got.{Got, ok, no}
-use Rattle.der.specs.Element.{Part, cut, any}
-use Rattle.der.specs.Grammar.{within, only, starts, sole, field, optional}
-use Rattle.der.specs.Holder.{Holder, part, Cuts}
-use Rattle.der.specs.declared.Cut.{Cut}
-use Rattle.der.specs.declared.Cut.TheVariants.{Element, Refused}
+use lib.Dec.{eqb, ltb}
+use borrow.Author.Tests.{le-ltb}
+use Rattle.std.specs.Prelude.{Option, Some, None, Result, Ok, Err, IsErrAnd}
+use Rattle.refusal.specs.declared.Refusal.{Refusal}
+use Rattle.refusal.specs.declared.Refusal.TheVariants as refusal
+use Rattle.der.specs.Element.{cut, any}
+use Rattle.der.specs.Grammar.{within, only, starts, field, optional}
+use Rattle.der.specs.Holder.{HolderAt, octets_at, Cuts}
+use Rattle.der.specs.declared.Part.{Part as Section}
 use Rattle.der.proofs.Parts.{part_none, part-cons}
-use Rattle.envelope.specs.Answers.{shown, sole_field, told_optional, FieldTo, EndsAt, Optionals, FieldIn}
-use Rattle.envelope.specs.declared.Optional.{Optional}
-use Rattle.envelope.specs.declared.Optional.TheVariants as optionals
-use Rattle.envelope.specs.declared.Field.{Field}
-use Rattle.envelope.specs.declared.Field.TheVariants as fields
-use Rattle.envelope.proofs.Holders.{got-no, got-ok, got-inside, holder_in, holder-behind, closed-end, closed-left}
+use Rattle.der.proofs.Answers.{got-ok, got-no, got-placed, passed-on}
+use Rattle.envelope.specs.Answers.{FieldTo, Optionals, FieldIn}
+use Rattle.envelope.proofs.Holders.{holder_in, holder-behind, closed-end, closed-left}
 
 -- the front of a holder
-module _ (s : List ℕ) (at end t : ℕ) (h : Holder s at end) where
-  pub starts_none : at ≡ end → false ≡ starts t (part s at end)
+module _ (s : List ℕ) (H : Section) (t : ℕ) (h : HolderAt s H) where
+  pub starts_none : H.end ≤ H.from → ltb H.from H.end ≡ starts t (octets_at s H)
   unfolding starts
-  starts_none e = rw (← e, part_none s at)
+  starts_none e =
+      let o = h.order in
+      let k : H.from ≡ H.end = omega arith in
+      rw (le-ltb H.from H.end e, ← k, part_none s H.from)
 
-  pub starts-some : (at ≡ end → ⊥) → eqb (get_or s at 0) t ≡ starts t (part s at end)
+  pub starts-some : H.from < H.end → eqb (get_or s H.from 0) t ≡ starts t (octets_at s H)
   unfolding starts
-  starts-some e = let o = h.order in rw (part-cons s at end (omega arith) h.inside)
+  starts-some e = rw (part-cons s H.from H.end e h.inside)
 
 pub ruleset fronts = (starts_none, starts-some)
 
--- an element alone in its holder
-module _ (c : Cut) (end : ℕ) where
-  pub sole-refused : (n : ℕ) → c ≡ Refused n → optionals.Refused n ≡ sole_field c end
-  sole-refused n e = rw e
+module _ (s : List ℕ) (H : Section) (t u : ℕ) (p : List ℕ → Bool) (h : HolderAt s H) (w : Bool) (w-is : w ≡ starts t (octets_at s H)) where
+  abbrev Says : Result (Option Section × Section) Refusal → Type 0
+  Says r = Optionals s H (optional t u p (octets_at s H)) r
 
-  pub sole-left : (b d : ℕ) → c ≡ Element b d → (d ≡ end → ⊥) → optionals.Refused 22 ≡ sole_field c end
-  sole-left b d e k = rw (e, ne_eqb d end k)
-
-  pub sole-alone : (b d : ℕ) → c ≡ Element b d → d ≡ end → optionals.Field (fields.At b d) end ≡ sole_field c end
-  sole-alone b d e k = rw (e, eq-eqb d end k)
-
-pub ruleset soles = (sole-refused, sole-left, sole-alone)
-
--- the one element of a field: what it says, and that it ends where the field does
-module _ (s : List ℕ) (b e u : ℕ) (p : List ℕ → Bool) (h : Holder s b e) where
-  abbrev told_field : Optional → Got (Option (List ℕ))
-  told_field (optionals.Field f next) = ok (shown s f)
-  told_field (optionals.Refused n) = no n
-
-  abbrev Ends : Optional → Type 0
-  Ends (optionals.Field f next) = EndsAt f next × (next ≡ e)
-  Ends (optionals.Refused n) = Unit {0}
-
-  sole-is : (c : Cut) → Cuts s b e (cut u p (part s b e)) c → (told_field (sole_field c e) ≡ sole u p (part s b e)) × Ends (sole_field c e)
-  unfolding only within
-  sole-is (Refused n) says = (rw (got-no says n refl), tt)
-  sole-is (Element f g) says = go (which (eqb g e)) where
-    go : (eqb g e ≡ true) ⊎ (eqb g e ≡ false) → (told_field (sole_field (Element f g) e) ≡ sole u p (part s b e)) × Ends (sole_field (Element f g) e)
-    go (inl k) =
-        let is : g ≡ e = eqb-true g e k in
-        let i = got-inside says f g refl in
-        rw (k, got-ok says f g refl) (sym (closed-end s g e (holder-behind says f g refl h) (some (part s f g)) is), ((i.1, is), refl))
-    go (inr k) = rw (k, got-ok says f g refl) (sym (closed-left s g e (holder-behind says f g refl h) (some (part s f g)) (eqb-false g e k)), tt)
-
-module _ (s : List ℕ) (at end t u : ℕ) (h : Holder s at end) (w : Bool) (w-is : w ≡ starts t (part s at end)) where
-  pub option-absent : (p : List ℕ → Bool) → w ≡ false → Optionals s end (optional t u p (part s at end)) (optionals.Field fields.Absent at)
+  pub option-absent : w ≡ false → Says (Ok (None, H))
   unfolding optional
-  option-absent p e = record { same = rw (← w-is, e); placed = record { ends = tt; behind = h } }
+  option-absent e = record { same = rw (← w-is, e); placed = record { ends = tt; behind = h; last = refl } }
 
-  module _ (there : w ≡ true) (c : Cut) (says : Cuts s at end (cut t any (part s at end)) c) where
-    pub option-no : (p : List ℕ → Bool) (n : ℕ) → c ≡ Refused n → Optionals s end (optional t u p (part s at end)) (optionals.Refused n)
+  module _ (there : w ≡ true) (c : Result (Section × Section) Refusal) (says : Cuts s H (cut t any (octets_at s H)) c) where
+    pub option-no : (e : Refusal) → c ≡ Err e → (x : Result (Option Section × Section) Refusal) → IsErrAnd x (λ y. y ≡ e) → Says x
     unfolding optional field within
-    option-no p n e = record { same = sym (rw (← w-is, there, got-no says n e)); placed = tt }
+    option-no e k x x-is = rw (← w-is, there) (passed-on says e k _ x x-is)
 
-    module _ (b d : ℕ) (c-is : c ≡ Element b d) where
-      pub option-holder : Holder s b d
-      option-holder = holder_in says b d c-is h
+    module _ (f behind : Section) (c-is : c ≡ Ok (f, behind)) where
+      pub option-field : HolderAt s f
+      option-field = holder_in s H says f behind c-is h
 
-      pub option-found : (p : List ℕ → Bool) (x : Cut) → Cuts s b d (cut u p (part s b d)) x → (r : Optional) → r ≡ sole_field x d
-          → Optionals s end (optional t u p (part s at end)) r
-      unfolding optional field within
-      option-found p x x-says r r-is =
-          let q = sole-is s b d u p option-holder x x-says in
-          rw r-is (go (sole_field x d) q.0 q.1) where
-            go : (r : Optional) → told_field s b d u p option-holder r ≡ sole u p (part s b d) → Ends s b d u p option-holder r
-                → Optionals s end (optional t u p (part s at end)) r
-            go (optionals.Field f next) e k =
-                record {
-                  same = sym
-                      (rw (← w-is, there, got-ok says b d c-is, ← e)
-                      (ap (λ (n : ℕ). ok (record { value = shown s f; rest = part s n end })) (sym k.1)));
-                  placed = record { ends = k.0; behind = rw k.1 (holder-behind says b d c-is h) };
-                }
-            go (optionals.Refused n) e k = record { same = sym (rw (← w-is, there, got-ok says b d c-is, ← e)); placed = tt }
+      module _ (d : Result (Section × Section) Refusal) (d-says : Cuts s f (cut u p (octets_at s f)) d) where
+        pub option-inner-no : (e : Refusal) → d ≡ Err e → (x : Result (Option Section × Section) Refusal) → IsErrAnd x (λ y. y ≡ e) → Says x
+        unfolding optional field within only
+        option-inner-no e k (Ok y) x-is = absurd x-is
+        option-inner-no e k (Err y) x-is = rw x-is (record { same = sym (rw (← w-is, there, got-ok says _ c-is, got-no d-says e k)); placed = tt })
 
-pub ruleset options = (option-absent, option-no, option-holder, option-found)
+        module _ (contents rest : Section) (d-is : d ≡ Ok (contents, rest)) where
+          rest-holder : HolderAt s rest
+          rest-holder = holder-behind s f d-says contents rest d-is option-field
 
--- what a field's answer gives
-module _ {s : List ℕ} {end : ℕ} {g : Got (Part (Option (List ℕ)))} {o : Optional} (says : Optionals s end g o) where
-  pub option-got-no : (n : ℕ) → o ≡ optionals.Refused n → g ≡ no n
-  option-got-no n e = sym says.same ∙ ap (told_optional s end) e
+          pub option-left : (rest.from ≡ rest.end → ⊥) → Says (Err refusal.LeftOver)
+          unfolding optional field within only
+          option-left e =
+              record {
+                same = sym (rw (← w-is, there, got-ok says _ c-is, got-ok d-says _ d-is) (rw (closed-left s rest rest-holder _ e)));
+                placed = tt;
+              }
 
-  pub option-got : (f : Field) (a : ℕ) → o ≡ optionals.Field f a → g ≡ ok (record { value = shown s f; rest = part s a end })
-  option-got f a e = sym says.same ∙ ap (told_optional s end) e
+          pub option-found : rest.from ≡ rest.end → Says (Ok (Some contents, behind))
+          unfolding optional field within only
+          option-found e =
+              let i = got-placed says (f, behind) c-is in
+              let j = got-placed d-says (contents, rest) d-is in
+              record {
+                same = sym (rw (← w-is, there, got-ok says _ c-is, got-ok d-says _ d-is) (rw (closed-end s rest rest-holder _ e)));
+                placed = record { ends = (j.order, omega arith); behind = holder-behind s H says f behind c-is h; last = i.last };
+              }
 
-  pub option-to : (f : Field) (a : ℕ) → o ≡ optionals.Field f a → FieldTo s end f a
-  option-to f a e = rw e at says.placed
+pub ruleset options = (option-absent, option-no, option-field, option-inner-no, option-left, option-found)
 
-  pub option-behind : (f : Field) (a : ℕ) → o ≡ optionals.Field f a → Holder s a end
-  option-behind f a e = (option-to f a e).behind
-
-pub field_in : (s : List ℕ) (end : ℕ) (f : Field) (a : ℕ) → FieldTo s end f a → FieldIn s f
-field_in s end fields.Absent a w = tt
-field_in s end (fields.At b e) a w =
-    let i = w.ends in let o = w.behind.order in let j = w.behind.inside in
+pub field_in : (s : List ℕ) (H : Section) (f : Option Section) (rest : Section) → FieldTo s H f rest → FieldIn s f
+field_in s H None rest w = tt
+field_in s H (Some f) rest w =
+    let i = w.ends in
+    let o = w.behind.order in
+    let j = w.behind.inside in
     (i.0, omega arith)

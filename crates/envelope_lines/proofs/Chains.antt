@@ -2,50 +2,56 @@
 -- Assumes nothing.
 use Prim.Native.Nat.{ℕ, ◌+◌, ◌-◌, ◌≤◌, ◌<◌}
 use mathlib.Core.Path.{◌≡◌, refl, sym, ap, ◌∙◌}
-use mathlib.Core.Bool.{Bool, true, false}
+use mathlib.Core.Bool.{Bool, true, false, not}
 use mathlib.Core.List.{List, [], ◌∷◌, ◌++◌}
-use mathlib.Core.Option.{Option, some}
+use mathlib.Core.Option.{some}
+use mathlib.Core.Option.{Option as Maybe}
+use Rattle.std.specs.Prelude.{Option, Some, None, Result, Ok, Err, is_some}
+use Rattle.refusal.specs.declared.Refusal.{Refusal}
+use Rattle.refusal.specs.Refusals.{number_of}
 use native.Mathlib.Numerals.{add-one}
 use native.Mathlib.Omega.{arith}
-use lib.ListN.{length, drop, take, get_or, drop_of_length-le, length-take}
+use lib.ListN.{length, drop, take, get_or, drop_of_length-le}
 use lib.Seq.{drop-cons}
 use mathlib.Core.Logic.{◌⊎◌, inl, inr}
-use lib.Dec.{leb}
-use borrow.Author.Tests.{leb-true}
-use Rattle.octets.proofs.Same.{same-sizes}
+use lib.Dec.{leb, eqb}
+use lib.Pointwise.{pointwise}
+use Rattle.std.specs.List.{starts_with}
+use borrow.Author.Tests.{leb-true, eqb-true, eqb-false, ne_eqb}
+use Rattle.octets.specs.Octets.{same_octets}
 use Rattle.octets.proofs.Bools.{which}
 use Rattle.text.specs.Text.{quoted, decimal, decimal64, digits_of, Text, written}
 use Rattle.text.proofs.Pieces.{then}
 use Rattle.der.specs.Got.{Got, ok, no, check}
-use Rattle.der.specs.Holder.{part}
+use Rattle.der.specs.Holder.{octets_at}
+use Rattle.der.specs.declared.Part.{Part as Section}
+use Rattle.der.proofs.Answers.{got-ok, got-no, got-placed}
 use Rattle.envelope.specs.Reading.{list_of, envelope_of}
-use Rattle.envelope.specs.Answers.{shown, mechanisms_in, told, Reads}
-use Rattle.envelope.specs.declared.Field.{Field}
-use Rattle.envelope.specs.declared.Field.TheVariants as fields
+use Rattle.envelope.specs.Answers.{shown, mechanisms_in, Reads}
 use Rattle.envelope.specs.declared.Init.{Init}
 use Rattle.envelope.specs.declared.Resp.{Resp}
-use Rattle.envelope.specs.declared.Read.{Read}
-use Rattle.envelope.specs.declared.Read.TheVariants as reads
+use Rattle.envelope.specs.declared.Envelope.{Envelope as Lent}
+use Rattle.envelope.specs.declared.Envelope.TheVariants as lent
 use Rattle.envelope.proofs.Tails.{token-inside, token-size, token-place}
 use Rattle.envelope_parts.specs.Parts.{octets_in, mechanism_of, is_negoex}
 use Rattle.envelope_parts.proofs.Mechanisms.{each-mechanism}
 use Rattle.envelope_lines.specs.Lines.{octets_text, mechanism_line, mechanism_lines, octets_line, named_lines, state_line, token_line, last_lines, head_line, refused_text, text_of, envelope_text, octets_of, token_in, begun, wrote_line}
 use Rattle.envelope_lines.specs.Answers.{TokenAt, InitAt, told_init, RespAt, told_resp}
 
--- a field OCTETS
-module _ (t u : Text) (v : List ℕ) where
-  pub octets-none : length v ≡ 0 → u ≡ written (quoted "-" ∷ []) t → u ≡ written (octets_text v) t
+-- a field OCTETS; w says whether it is empty
+module _ (t u : Text) (v : List ℕ) (w : Bool) (w-is : w ≡ eqb (length v) 0) where
+  pub octets-none : w ≡ true → u ≡ written (quoted "-" ∷ []) t → u ≡ written (octets_text v) t
   unfolding octets_text
-  octets-none h e = go v h where
-    go : (v : List ℕ) → length v ≡ 0 → u ≡ written (octets_text v) t
+  octets-none h e = go v (sym w-is ∙ h) where
+    go : (v : List ℕ) → eqb (length v) 0 ≡ true → u ≡ written (octets_text v) t
     go [] h = e
-    go (x ∷ v) h = absurd (omega arith)
+    go (x ∷ v) h = let z = eqb-true (length (x ∷ v)) 0 h in absurd (omega arith)
 
-  pub octets-some : (length v ≡ 0 → ⊥) → u ≡ written (digits_of v) t → u ≡ written (octets_text v) t
+  pub octets-some : w ≡ false → u ≡ written (digits_of v) t → u ≡ written (octets_text v) t
   unfolding octets_text
-  octets-some h e = go v h e where
-    go : (v : List ℕ) → (length v ≡ 0 → ⊥) → u ≡ written (digits_of v) t → u ≡ written (octets_text v) t
-    go [] h e = absurd (h refl)
+  octets-some h e = go v (sym w-is ∙ h) e where
+    go : (v : List ℕ) → eqb (length v) 0 ≡ false → u ≡ written (digits_of v) t → u ≡ written (octets_text v) t
+    go [] h e = absurd (eqb-false 0 0 h refl)
     go (x ∷ v) h e = e
 
 pub ruleset octets = (octets-none, octets-some)
@@ -102,8 +108,16 @@ module _ (v : List ℕ) (k : ℕ) (x t : Text) (inv : x ≡ written (mechanism_l
 pub ruleset turns = (mechanisms-more, mechanisms-end)
 
 -- fields that may be missing
-module _ (t u : Text) (s : List ℕ) (f : Field) where
-  module _ (absent : f ≡ fields.Absent) where
+pub absent-is : (f : Option Section) (b : Bool) → is_some f ≡ not b → b ≡ true → f ≡ None
+absent-is None b e h = refl
+absent-is (Some p) b e h = let z : ◌≡◌ {A = Bool} true false = e ∙ ap not h in cc
+
+pub there-is : (f : Option Section) (b : Bool) → is_some f ≡ not b → b ≡ false → (s v : List ℕ) → v ≡ octets_in s f → shown s f ≡ some v
+there-is None b e h s v v-is = let z : ◌≡◌ {A = Bool} false true = e ∙ ap not h in cc
+there-is (Some p) b e h s v v-is = rw v-is
+
+module _ (t : Text) (s : List ℕ) (f : Option Section) where
+  module _ (absent : f ≡ None) where
     pub octets-absent : (w : List ℕ) → t ≡ written (octets_line w (shown s f)) t
     unfolding octets_line written
     octets-absent w = rw absent
@@ -116,14 +130,11 @@ module _ (t u : Text) (s : List ℕ) (f : Field) where
     unfolding state_line written
     state-absent = rw absent
 
-    pub token-absent : (k : Field) → t ≡ written (token_line s (shown s f) (shown s k)) t
+    pub token-absent : (k : Option Section) → t ≡ written (token_line s (shown s f) (shown s k)) t
     unfolding token_line written
     token-absent k = rw absent
 
-  module _ (b e : ℕ) (there : f ≡ fields.At b e) (v : List ℕ) (v-is : v ≡ octets_in s f) where
-    here : shown s f ≡ some v
-    here = rw (v-is, there)
-
+  module _ (u : Text) (v : List ℕ) (here : shown s f ≡ some v) where
     pub octets-there : (w : List ℕ) → u ≡ written (w ∷ (octets_text v ++ (quoted "\n" ∷ []))) t → u ≡ written (octets_line w (shown s f)) t
     unfolding octets_line
     octets-there w x = rw here x
@@ -137,24 +148,22 @@ module _ (t u : Text) (s : List ℕ) (f : Field) where
     unfolding state_line
     state-there a n n-is x y = rw (here, ← n-is) (then t a u _ _ x y)
 
-pub ruleset fields' = (octets-absent, named-absent, state-absent, octets-there, named-there, state-there)
-
 -- the token's line
-module _ (t : Text) (s : List ℕ) (f k : Field) (at : TokenAt s f k) (b e : ℕ) (there : f ≡ fields.At b e) where
-  pub token-order : b ≤ e
-  token-order = (token-inside s f k at.inside at.last b e there).0
+module _ (t : Text) (s : List ℕ) (f k : Option Section) (at : TokenAt s f k) (p : Section) (there : f ≡ Some p) where
+  pub token-order : p.from ≤ p.end
+  token-order = (token-inside s f k at.inside at.last p there).0
 
-  pub token-there : (x y u : Text) → x ≡ written (quoted "token at=" ∷ decimal64 b ∷ []) t
-      → y ≡ written (quoted " length=" ∷ decimal64 (e - b) ∷ []) x → u ≡ written (quoted "\n" ∷ []) y
+  pub token-there : (x y u : Text) → x ≡ written (quoted "token at=" ∷ decimal64 p.from ∷ []) t
+      → y ≡ written (quoted " length=" ∷ decimal64 (p.end - p.from) ∷ []) x → u ≡ written (quoted "\n" ∷ []) y
       → u ≡ written (token_line s (shown s f) (shown s k)) t
   unfolding token_line
-  token-there x y u p q r =
-      rw (there, token-place s f k at.inside at.last b e there, token-size s f k at.inside at.last b e there)
-      (then t y u _ _ (then t x y _ _ p q) r)
+  token-there x y u q r z =
+      rw (there, token-place s f k at.inside at.last p there, token-size s f k at.inside at.last p there)
+      (then t y u _ _ (then t x y _ _ q r) z)
 
 pub ruleset tokens = (token-absent, token-order, token-there)
 
-pub last-lines : (t a u : Text) (s : List ℕ) (f k : Option (List ℕ)) → a ≡ written (token_line s f k) t
+pub last-lines : (t a u : Text) (s : List ℕ) (f k : Maybe (List ℕ)) → a ≡ written (token_line s f k) t
     → u ≡ written (octets_line (quoted "checksum ") k) a → u ≡ written (last_lines s f k) t
 unfolding last_lines
 last-lines t a u s f k e g = then t a u _ _ e g
@@ -176,14 +185,14 @@ wrote-line t a u v e g = then t a u _ _ e g
 
 -- the whole text
 module _ (s : List ℕ) (i : Init) (t a b c u : Text) where
-  pub init-counted : InitAt s i → i.count ≡ length (mechanisms_in (part s i.list i.end))
+  pub init-counted : InitAt s i → i.count ≡ length (mechanisms_in (octets_at s i.list))
   init-counted p = p.0.counted
 
   pub init-token : InitAt s i → TokenAt s i.token i.checksum
   init-token p = record { inside = p.1.token_in; last = p.1.last }
 
   pub init-text : a ≡ written (head_line (quoted "envelope init length=") s) t
-      → b ≡ written (mechanism_lines 0 (mechanisms_in (part s i.list i.end))) a
+      → b ≡ written (mechanism_lines 0 (mechanisms_in (octets_at s i.list))) a
       → c ≡ written (octets_line (quoted "flags ") (shown s i.flags)) b
       → u ≡ written (last_lines s (shown s i.token) (shown s i.checksum)) c → u ≡ written (text_of s (told_init s i)) t
   unfolding text_of
@@ -199,43 +208,55 @@ module _ (s : List ℕ) (r : Resp) (t a b c u : Text) where
   unfolding text_of
   resp-text e f g h = then t a u _ _ e (then a b u _ _ f (then b c u _ _ g h))
 
-module _ (s : List ℕ) (r : Read) (says : Reads s (length s) (envelope_of s) r) where
-  pub text-refused : (t u : Text) (n : ℕ) → r ≡ reads.Refused n → u ≡ written (refused_text n) t → u ≡ written (envelope_text s) t
+field-octets : (s : List ℕ) (f : Option Section) → octets_in s f ≡ octets_of (shown s f)
+field-octets s (Some p) = refl
+field-octets s None = refl
+
+module _ (s : List ℕ) (r : Result Lent Refusal) (says : Reads s (length s) (envelope_of s) r) where
+  pub text-refused : (t u : Text) (e : Refusal) → r ≡ Err e → (n : ℕ) → n ≡ number_of e → u ≡ written (refused_text n) t → u ≡ written (envelope_text s) t
   unfolding text_of
-  text-refused t u n e h = rw (sym says.same ∙ ap (told s) e) h
+  text-refused t u e k n n-is h = rw (got-no says e k, ← n-is) h
 
-  pub text-init : (t u : Text) (i : Init) → r ≡ reads.Init i → u ≡ written (text_of s (told_init s i)) t → u ≡ written (envelope_text s) t
-  text-init t u i e h = rw (sym says.same ∙ ap (told s) e) h
+  pub token-none : (e : Refusal) → r ≡ Err e → [] ≡ token_in s
+  token-none e k = rw (got-no says e k)
 
-  pub text-resp : (t u : Text) (i : Resp) → r ≡ reads.Resp i → u ≡ written (text_of s (told_resp s i)) t → u ≡ written (envelope_text s) t
-  text-resp t u i e h = rw (sym says.same ∙ ap (told s) e) h
+  module _ (i : Init) (r-is : r ≡ Ok (lent.Init i)) where
+    pub text-init : (t u : Text) → u ≡ written (text_of s (told_init s i)) t → u ≡ written (envelope_text s) t
+    text-init t u h = rw (got-ok says (lent.Init i) r-is) h
 
-  pub init-placed : (i : Init) → r ≡ reads.Init i → InitAt s i
-  init-placed i e = rw e at says.placed
+    pub init-placed : InitAt s i
+    init-placed = got-placed says (lent.Init i) r-is
 
-  pub resp-placed : (i : Resp) → r ≡ reads.Resp i → RespAt s i
-  resp-placed i e = rw e at says.placed
+    pub token-init : (v : List ℕ) → v ≡ octets_in s i.token → v ≡ token_in s
+    token-init v h = rw (got-ok says (lent.Init i) r-is) (h ∙ field-octets s i.token)
 
-  pub token-none : (n : ℕ) → r ≡ reads.Refused n → [] ≡ token_in s
-  token-none n e = rw (sym says.same ∙ ap (told s) e)
+  module _ (i : Resp) (r-is : r ≡ Ok (lent.Resp i)) where
+    pub text-resp : (t u : Text) → u ≡ written (text_of s (told_resp s i)) t → u ≡ written (envelope_text s) t
+    text-resp t u h = rw (got-ok says (lent.Resp i) r-is) h
 
-  field-octets : (f : Field) → octets_in s f ≡ octets_of (shown s f)
-  field-octets (fields.At b e) = refl
-  field-octets fields.Absent = refl
+    pub resp-placed : RespAt s i
+    resp-placed = got-placed says (lent.Resp i) r-is
 
-  pub token-init : (i : Init) → r ≡ reads.Init i → (v : List ℕ) → v ≡ octets_in s i.token → v ≡ token_in s
-  token-init i e v h = rw (sym says.same ∙ ap (told s) e) (h ∙ field-octets i.token)
-
-  pub token-resp : (i : Resp) → r ≡ reads.Resp i → (v : List ℕ) → v ≡ octets_in s i.token → v ≡ token_in s
-  token-resp i e v h = rw (sym says.same ∙ ap (told s) e) (h ∙ field-octets i.token)
+    pub token-resp : (v : List ℕ) → v ≡ octets_in s i.token → v ≡ token_in s
+    token-resp v h = rw (got-ok says (lent.Resp i) r-is) (h ∙ field-octets s i.token)
 
 pub ruleset texts = (text-refused, text-init, text-resp, init-placed, resp-placed)
 
 pub ruleset parts = (token-none, token-init, token-resp)
 
-pub begun-short : (v : List ℕ) → length v < 8 → false ≡ begun v
-begun-short v h = same-sizes (take 8 v) (quoted "NEGOEXTS") (λ e. omega (arith, e, length-take 8 v))
+-- a prefix is compared from its own side
+eqb-flip : (x y : ℕ) → eqb x y ≡ eqb y x
+eqb-flip x y = go (which (eqb x y)) where
+  go : (eqb x y ≡ true) ⊎ (eqb x y ≡ false) → eqb x y ≡ eqb y x
+  go (inl e) = rw (eqb-true x y e)
+  go (inr e) = e ∙ sym (ne_eqb y x (λ z. eqb-false x y e (sym z)))
 
-pub first-none : (v : List ℕ) → length v ≡ 0 → 0 ≡ get_or v 0 0
-first-none [] h = refl
-first-none (x ∷ v) h = absurd (omega arith)
+flipped : (a b : List ℕ) → pointwise eqb a b ≡ same_octets b a
+unfolding same_octets
+flipped [] [] = refl
+flipped [] (y ∷ b) = refl
+flipped (x ∷ a) [] = refl
+flipped (x ∷ a) (y ∷ b) = rw (flipped a b, eqb-flip x y)
+
+pub begun-is : (v : List ℕ) (r : Bool) → r ≡ starts_with eqb v (quoted "NEGOEXTS") → r ≡ begun v
+begun-is v r e = e ∙ flipped (quoted "NEGOEXTS") (take 8 v)

@@ -1,15 +1,15 @@
 // The text of an envelope, appended in a lent slice: each writer is given the place behind what is written already, and answers the next one.
 #![tactic(auto)]
 
-ghost use Rattle.std.specs.Prelude.{◌≡◌, ◌∷◌, [], ◌++◌, length, get_or};
+ghost use Rattle.std.specs.Prelude.{◌≡◌, ◌∷◌, [], ◌++◌, length};
 ghost use Rattle.text.specs.Text.{text, written, quoted};
-ghost use Rattle.der.specs.Holder.{part};
+ghost use Rattle.der.specs.Holder.{octets_at};
 ghost use Rattle.envelope.specs.Answers.{shown, mechanisms_in};
 ghost use Rattle.envelope_lines.specs.Answers.{TokenAt, InitAt, told_init, RespAt, told_resp};
 ghost use Rattle.envelope_lines.specs.Lines.{octets_text, mechanism_line, mechanism_lines, octets_line, named_lines, state_line, token_line, last_lines, head_line, refused_text, text_of, envelope_text, token_in, begun as Lines·begun, wrote_line};
 
-use der::same;
-use envelope::{Field, Init, Read, Resp, read_envelope};
+use der::Part;
+use envelope::{Envelope, Init, Resp, read_envelope};
 use envelope_parts::{is_negoex, mechanism, octets};
 use text::{append, field, hex_all, wide_field};
 
@@ -17,7 +17,7 @@ use text::{append, field, hex_all, wide_field};
 fn octets_text(d: &mut [u8], at: usize, v: &[u8]) -> usize
     ensures { text d.new result ≡ written (octets_text v.now) (text d.old at) }
 {
-    if v.len() == 0 {
+    if v.is_empty() {
         return append(d, at, b"-");
     }
     hex_all(d, at, v)
@@ -37,23 +37,14 @@ fn mechanism_line(d: &mut [u8], at: usize, index: usize, v: &[u8]) -> usize
 }
 
 // The lines of the mechanisms of a list.
-fn mechanism_lines(
-    d: &mut [u8],
-    at: usize,
-    s: &[u8],
-    list: usize,
-    end: usize,
-    count: usize,
-) -> usize
-    requires { count ≡ length (mechanisms_in (part s.now list end)) }
-    ensures { text d.new result ≡ written (mechanism_lines 0 (mechanisms_in (part s.now list end)))
+fn mechanism_lines(d: &mut [u8], at: usize, s: &[u8], list: Part, count: usize) -> usize
+    requires { count ≡ length (mechanisms_in (octets_at s.now list)) }
+    ensures { text d.new result ≡ written (mechanism_lines 0 (mechanisms_in (octets_at s.now list)))
         (text d.old at) }
 {
     let mut next = at;
-    let mut k = 0;
-    while k < count {
-        next = mechanism_line(d, next, k, mechanism(s, list, end, k));
-        k += 1;
+    for k in 0..count {
+        next = mechanism_line(d, next, k, mechanism(s, list, k));
     }
     next
 }
@@ -69,72 +60,65 @@ fn octets_line(d: &mut [u8], at: usize, word: &[u8], v: &[u8]) -> usize
 }
 
 // A field's line, where it is there.
-fn field_line(d: &mut [u8], at: usize, word: &[u8], s: &[u8], f: Field) -> usize
+fn field_line(d: &mut [u8], at: usize, word: &[u8], s: &[u8], f: Option<Part>) -> usize
     ensures { text d.new result ≡ written (octets_line word.now (shown s.now f)) (text d.old at) }
 {
-    match f {
-        Field::Absent => at,
-        Field::At(_, _) => octets_line(d, at, word, octets(s, f)),
+    if f.is_none() {
+        return at;
     }
+    octets_line(d, at, word, octets(s, f))
 }
 
 // The line of a Resp's mechanism, where it is there.
-fn named_line(d: &mut [u8], at: usize, s: &[u8], mechanism: Field) -> usize
+fn named_line(d: &mut [u8], at: usize, s: &[u8], mechanism: Option<Part>) -> usize
     ensures { text d.new result ≡ written (named_lines (shown s.now mechanism)) (text d.old at) }
 {
-    match mechanism {
-        Field::Absent => at,
-        Field::At(_, _) => mechanism_line(d, at, 0, octets(s, mechanism)),
+    if mechanism.is_none() {
+        return at;
     }
-}
-
-fn wide(x: u8) -> u32
-    ensures { result ≡ x }
-{
-    x as u32
-}
-
-// The first octet of a slice, 0 where it has none.
-fn first(v: &[u8]) -> u32
-    ensures { result ≡ get_or v.now 0 0 }
-{
-    if v.len() == 0 {
-        return 0;
-    }
-    wide(v[0])
+    mechanism_line(d, at, 0, octets(s, mechanism))
 }
 
 // The line of a state, where it is there.
-fn state_line(d: &mut [u8], at: usize, s: &[u8], state: Field) -> usize
+fn state_line(d: &mut [u8], at: usize, s: &[u8], state: Option<Part>) -> usize
     ensures { text d.new result ≡ written (state_line (shown s.now state)) (text d.old at) }
 {
-    match state {
-        Field::Absent => at,
-        Field::At(_, _) => {
-            let state_end = field(d, at, b"state ", first(octets(s, state)));
-            append(d, state_end, b"\n")
-        }
+    if state.is_none() {
+        return at;
     }
+    let first = octets(s, state).first().copied().unwrap_or(0);
+    let state_end = field(d, at, b"state ", u32::from(first));
+    append(d, state_end, b"\n")
 }
 
 // The token's line, where it is there: its place in the buffer and its length.
-fn token_line(d: &mut [u8], at: usize, s: &[u8], token: Field, checksum: Field) -> usize
+fn token_line(
+    d: &mut [u8],
+    at: usize,
+    s: &[u8],
+    token: Option<Part>,
+    checksum: Option<Part>,
+) -> usize
     requires { TokenAt s.now token checksum }
     ensures { text d.new result ≡ written (token_line s.now (shown s.now token) (shown s.now checksum))
         (text d.old at) }
 {
-    match token {
-        Field::Absent => at,
-        Field::At(b, e) => {
-            let place_end = wide_field(d, at, b"token at=", b);
-            let length_end = wide_field(d, place_end, b" length=", e - b);
-            append(d, length_end, b"\n")
-        }
-    }
+    let Some(part) = token else {
+        return at;
+    };
+    let place_end = wide_field(d, at, b"token at=", part.from);
+    let length_end = wide_field(d, place_end, b" length=", part.end - part.from);
+    append(d, length_end, b"\n")
 }
 
 // The lines of the token and the checksum.
-fn last_lines(d: &mut [u8], at: usize, s: &[u8], token: Field, checksum: Field) -> usize
+fn last_lines(
+    d: &mut [u8],
+    at: usize,
+    s: &[u8],
+    token: Option<Part>,
+    checksum: Option<Part>,
+) -> usize
     requires { TokenAt s.now token checksum }
     ensures { text d.new result ≡ written (last_lines s.now (shown s.now token) (shown s.now checksum))
         (text d.old at) }
@@ -163,30 +147,20 @@ fn init_text(d: &mut [u8], s: &[u8], i: Init) -> usize
     requires { InitAt s.now i }
     ensures { text d.new result ≡ written (text_of s.now (told_init s.now i)) (text d.old 0) }
 {
-    let list = i.list;
-    let end = i.end;
-    let count = i.count;
-    let flags = i.flags;
-    let token = i.token;
-    let checksum = i.checksum;
     let head_end = head_line(d, b"envelope init length=", s);
-    let mechanisms_end = mechanism_lines(d, head_end, s, list, end, count);
-    let flags_end = field_line(d, mechanisms_end, b"flags ", s, flags);
-    last_lines(d, flags_end, s, token, checksum)
+    let mechanisms_end = mechanism_lines(d, head_end, s, i.list, i.count);
+    let flags_end = field_line(d, mechanisms_end, b"flags ", s, i.flags);
+    last_lines(d, flags_end, s, i.token, i.checksum)
 }
 
 fn resp_text(d: &mut [u8], s: &[u8], r: Resp) -> usize
     requires { RespAt s.now r }
     ensures { text d.new result ≡ written (text_of s.now (told_resp s.now r)) (text d.old 0) }
 {
-    let state = r.state;
-    let mechanism = r.mechanism;
-    let token = r.token;
-    let checksum = r.checksum;
     let head_end = head_line(d, b"envelope resp length=", s);
-    let state_end = state_line(d, head_end, s, state);
-    let mechanism_end = named_line(d, state_end, s, mechanism);
-    last_lines(d, mechanism_end, s, token, checksum)
+    let state_end = state_line(d, head_end, s, r.state);
+    let mechanism_end = named_line(d, state_end, s, r.mechanism);
+    last_lines(d, mechanism_end, s, r.token, r.checksum)
 }
 
 // The text of the envelope in a buffer, from the lent slice's front on.
@@ -194,9 +168,9 @@ pub fn envelope_text(d: &mut [u8], s: &[u8]) -> usize
     ensures { text d.new result ≡ written (envelope_text s.now) (text d.old 0) }
 {
     match read_envelope(s) {
-        Read::Refused(n) => refused_line(d, n),
-        Read::Init(i) => init_text(d, s, i),
-        Read::Resp(r) => resp_text(d, s, r),
+        Err(e) => refused_line(d, e.number()),
+        Ok(Envelope::Init(i)) => init_text(d, s, i),
+        Ok(Envelope::Resp(r)) => resp_text(d, s, r),
     }
 }
 
@@ -205,15 +179,9 @@ pub fn token(s: &[u8]) -> &[u8]
     ensures { result.now ≡ token_in s.now }
 {
     match read_envelope(s) {
-        Read::Refused(_) => &s[..0],
-        Read::Init(i) => {
-            let t = i.token;
-            octets(s, t)
-        }
-        Read::Resp(r) => {
-            let t = r.token;
-            octets(s, t)
-        }
+        Err(_) => &s[..0],
+        Ok(Envelope::Init(i)) => octets(s, i.token),
+        Ok(Envelope::Resp(r)) => octets(s, r.token),
     }
 }
 
@@ -221,10 +189,7 @@ pub fn token(s: &[u8]) -> &[u8]
 pub fn begun(v: &[u8]) -> bool
     ensures { result ≡ Lines·begun v.now }
 {
-    if v.len() < 8 {
-        return false;
-    }
-    same(&v[..8], b"NEGOEXTS")
+    v.starts_with(b"NEGOEXTS")
 }
 
 // The line of an envelope that was written.

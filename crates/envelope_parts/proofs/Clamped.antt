@@ -1,44 +1,46 @@
 -- A part of a buffer, wherever its ends lie, in the words of the code.
 -- Assumes nothing.
 use Prim.Native.Nat.{ℕ, ◌-◌, ◌<◌, ◌≤◌}
-use mathlib.Core.Path.{◌≡◌, refl, sym, ◌∙◌}
+use Rattle.std.specs.Prelude.{min}
+use mathlib.Core.Path.{◌≡◌, sym, ◌∙◌}
 use mathlib.Core.List.{List, []}
+use mathlib.Core.Bool.{true, false}
+use mathlib.Core.Logic.{◌⊎◌, inl, inr}
 use native.Mathlib.Omega.{arith}
 use lib.ListN.{length, take, drop, length-drop, drop_of_length-le}
 use lib.Seq.{take_all, take-nil, take-length}
-use borrow.Author.Tests.{le-leb, lt-leb}
-use Rattle.der.specs.Holder.{Holder, part}
-use Rattle.envelope.specs.declared.Field.{Field}
-use Rattle.envelope.specs.declared.Field.TheVariants as fields
-use Rattle.envelope_parts.specs.Parts.{octets_in, identifier_of, mechanism_of}
+use borrow.Author.Tests.{le-leb, lt-leb, ltb-true, ltb-false}
+use Rattle.octets.proofs.Bools.{which}
+use lib.Dec.{ltb}
+use Rattle.der.specs.Holder.{HolderAt, octets_at, part}
+use Rattle.der.specs.declared.Part.{Part as Section}
+use Rattle.envelope_parts.specs.Parts.{identifier_of, mechanism_of}
 
-module _ (s : List ℕ) (b e : ℕ) where
-  pub part-outside : length s < b → [] ≡ part s b e
+module _ (s : List ℕ) (p : Section) (n : ℕ) (n-is : n ≡ min p.end (length s)) where
+  pub part-backwards : n < p.from → [] ≡ octets_at s p
   unfolding part
-  part-outside h = let g : length s ≤ b = omega arith in rw (drop_of_length-le s g) (sym (take-nil (e - b)))
+  part-backwards h = go (which (ltb p.end p.from)) where
+    go : (ltb p.end p.from ≡ true) ⊎ (ltb p.end p.from ≡ false) → [] ≡ take (p.end - p.from) (drop p.from s)
+    go (inl a) = let l : p.end < p.from = ltb-true _ _ a in let z : p.end - p.from ≡ 0 = omega arith in rw z
+    go (inr a) =
+        let l : p.from ≤ p.end = ltb-false _ _ a in
+        let g : length s ≤ p.from = omega arith in
+        rw (drop_of_length-le s g) (sym (take-nil (p.end - p.from)))
 
-  pub part-backwards : e < b → [] ≡ part s b e
+  pub part-inside : p.from ≤ n → take (n - p.from) (drop p.from s) ≡ octets_at s p
   unfolding part
-  part-backwards h = let z : e - b ≡ 0 = omega arith in rw z
+  part-inside h = go (which (ltb (length s) p.end)) where
+    go : (ltb (length s) p.end ≡ true) ⊎ (ltb (length s) p.end ≡ false) → take (n - p.from) (drop p.from s) ≡ take (p.end - p.from) (drop p.from s)
+    go (inl a) =
+        let l : length s < p.end = ltb-true _ _ a in
+        take_all (n - p.from) (drop p.from s) (omega (arith, length-drop p.from s))
+        ∙ sym (take_all (p.end - p.from) (drop p.from s) (omega (arith, length-drop p.from s)))
+    go (inr a) =
+        let l : p.end ≤ length s = ltb-false _ _ a in
+        let z : n ≡ p.end = omega arith in
+        rw z
 
-  pub part-beyond : length s < e → take (length s - b) (drop b s) ≡ part s b e
-  unfolding part
-  part-beyond h =
-      take_all (length s - b) (drop b s) (omega (arith, length-drop b s)) ∙ sym (take_all (e - b) (drop b s) (omega (arith, length-drop b s)))
-
-  pub part-inside : take (e - b) (drop b s) ≡ part s b e
-  unfolding part
-  part-inside = refl
-
-pub ruleset parts = (part-outside, part-backwards, part-beyond, part-inside)
-
-pub field_at : (s v : List ℕ) (f : Field) (b e : ℕ) → f ≡ fields.At b e → v ≡ part s b e → v ≡ octets_in s f
-field_at s v f b e h k = rw h k
-
-pub field-absent : (s : List ℕ) (f : Field) → f ≡ fields.Absent → [] ≡ octets_in s f
-field-absent s f h = rw h
-
-pub ruleset shown = (field_at, field-absent)
+pub ruleset parts = (part-backwards, part-inside)
 
 -- a list that is not too long
 module _ (v w : List ℕ) (k : ℕ) (is : v ≡ w) where
@@ -52,7 +54,7 @@ module _ (v w : List ℕ) (k : ℕ) (is : v ≡ w) where
       let z : length v - 0 ≡ length v = omega arith in
       e ∙ rw (← is, z, take-length v, le-leb (length v) 65535 short)
 
-pub mechanism-holder : (v : List ℕ) → length v ≤ 65535 → Holder v 0 (length v)
+pub mechanism-holder : (v : List ℕ) → length v ≤ 65535 → HolderAt v (record { from = 0; end = length v })
 mechanism-holder v short = record { order = omega arith; inside = omega arith; small = short }
 
 pub ruleset mechanisms = (mechanism-long, mechanism-found, mechanism-holder)

@@ -2,76 +2,68 @@
 #![tactic(auto)]
 
 ghost use Rattle.std.specs.Prelude.{◌≡◌};
-ghost use Rattle.der.specs.Holder.{Holder, part};
+ghost use Rattle.der.specs.Holder.{HolderAt, octets_at};
 ghost use Rattle.envelope_parts.specs.Parts.{octets_in, identifier_of, mechanism_of, is_negoex};
 
-use der::{Cut, cut_at, same};
-use envelope::Field;
+use der::{Part, cut_at};
 
-// The part of a buffer from a place to a place, or as much of it as the buffer has.
-fn part_of(s: &[u8], b: usize, e: usize) -> &[u8]
-    ensures { result.now ≡ part s.now b e }
+// The octets of a part of a buffer, or as much of it as the buffer has.
+fn part_of(s: &[u8], part: Part) -> &[u8]
+    ensures { result.now ≡ octets_at s.now part }
 {
-    if s.len() < b {
+    let end = part.end.min(s.len());
+    if end < part.from {
         return &s[..0];
     }
-    if e < b {
-        return &s[..0];
-    }
-    if s.len() < e {
-        return &s[b..];
-    }
-    &s[b..e]
+    &s[part.from..end]
 }
 
 // A field's octets; none where it is absent.
-pub fn octets(s: &[u8], f: Field) -> &[u8]
+pub fn octets(s: &[u8], f: Option<Part>) -> &[u8]
     ensures { result.now ≡ octets_in s.now f }
 {
     match f {
-        Field::At(b, e) => part_of(s, b, e),
-        Field::Absent => &s[..0],
+        Some(part) => part_of(s, part),
+        None => &s[..0],
     }
 }
 
-// Identifier k of the holder from `at` to `end`.
-fn identifier(s: &[u8], at: usize, end: usize, k: usize) -> &[u8]
-    requires { Holder s.now at end }
-    ensures { result.now ≡ identifier_of k (part s.now at end) }
+// Identifier k of a list.
+fn identifier(s: &[u8], list: Part, k: usize) -> &[u8]
+    requires { HolderAt s.now list }
+    ensures { result.now ≡ identifier_of k (octets_at s.now list) }
 {
-    let mut next = at;
-    let mut left = k;
-    while next < end {
-        let cut = cut_at(s, next, end, 0x06);
-        let Cut::Element(b, e) = cut else {
+    let mut rest = list;
+    for i in 0..k {
+        let Ok((_, behind)) = cut_at(s, rest, 0x06) else {
             return &s[..0];
         };
-        if left == 0 {
-            return &s[b..e];
-        }
-        left -= 1;
-        next = e;
+        rest = behind;
     }
-    &s[..0]
+    let Ok((contents, _)) = cut_at(s, rest, 0x06) else {
+        return &s[..0];
+    };
+    &s[contents.from..contents.end]
 }
 
-// Mechanism k of the list whose contents stand from `list` to `end`; nothing where there is none.
-pub fn mechanism(s: &[u8], list: usize, end: usize, k: usize) -> &[u8]
-    ensures { result.now ≡ mechanism_of k (part s.now list end) }
+// Mechanism k of the list with these contents; nothing where there is none.
+pub fn mechanism(s: &[u8], list: Part, k: usize) -> &[u8]
+    ensures { result.now ≡ mechanism_of k (octets_at s.now list) }
 {
-    let identifiers = part_of(s, list, end);
+    let identifiers = part_of(s, list);
     if 65535 < identifiers.len() {
         return &identifiers[..0];
     }
-    identifier(identifiers, 0, identifiers.len(), k)
+    let whole = Part {
+        from: 0,
+        end: identifiers.len(),
+    };
+    identifier(identifiers, whole, k)
 }
 
 // Whether an identifier's contents are those of NEGOEX.
 pub fn is_negoex(v: &[u8]) -> bool
     ensures { result ≡ is_negoex v.now }
 {
-    same(
-        v,
-        &[0x2B, 0x06, 0x01, 0x04, 0x01, 0x82, 0x37, 0x02, 0x02, 0x1E],
-    )
+    v == [0x2B, 0x06, 0x01, 0x04, 0x01, 0x82, 0x37, 0x02, 0x02, 0x1E].as_slice()
 }

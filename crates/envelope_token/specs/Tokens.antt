@@ -7,22 +7,24 @@
 --   carried_of s   that of the envelope in s, or the envelope's refusal
 --   said           what an answer of src/ says
 --   TokenAt s f k  the token f lies in s, and behind it stands the checksum k alone
-use Rattle.std.specs.Prelude.{ℕ, ◌+◌, ◌-◌, ◌≤◌, List, length}
-use Rattle.std.proofs.Math.Option.{Option, none, some}
+use Rattle.std.specs.Prelude.{ℕ, ◌+◌, ◌-◌, ◌≤◌, List, length, Option, Result}
+use Rattle.std.proofs.Math.Option.{none, some}
+use Rattle.std.proofs.Math.Option.{Option as Maybe}
 use Rattle.der.specs.Got.{Got, ok, no, bind}
 use Rattle.der.specs.Grammar.{field_octets}
 use Rattle.envelope.specs.Envelope.{Envelope, Init, Resp}
 use Rattle.envelope.specs.Reading.{envelope_of}
 use Rattle.envelope.specs.Answers.{FieldIn, Before}
-use Rattle.envelope.specs.declared.Field.{Field}
+use Rattle.refusal.specs.declared.Refusal.{Refusal}
+use Rattle.der.specs.Holder.{got}
+use Rattle.der.specs.declared.Part.{Part as Section}
 use Rattle.envelope_token.specs.declared.Carried.{Carried}
-use Rattle.envelope_token.specs.declared.Carried.TheVariants as answer
 
 pub record Span : Type 0 where
   pub place : ℕ
   pub size : ℕ
 
-abbrev pub span_in : List ℕ → Option (List ℕ) → Option (List ℕ) → Got Span
+abbrev pub span_in : List ℕ → Maybe (List ℕ) → Maybe (List ℕ) → Got Span
 span_in s none k = no 19
 span_in s (some v) k = ok (record { place = length s - (length v + length (field_octets 0xA3 0x04 k)); size = length v })
 
@@ -33,11 +35,10 @@ span_of s (Resp state mechanism token checksum) = span_in s token checksum
 unfoldable pub carried_of : List ℕ → Got Span
 carried_of s = bind (envelope_of s) (λ e. span_of s e)
 
-abbrev pub said : Carried → Got Span
-said (answer.At place size) = ok (record { place = place; size = size })
-said (answer.Refused n) = no n
+abbrev pub said : Result Carried Refusal → Got Span
+said r = got (λ c. record { place = c.place; size = c.length }) r
 
-pub record TokenAt (s : List ℕ) (f k : Field) : Type 0 where
+pub record TokenAt (s : List ℕ) (f k : Option Section) : Type 0 where
   pub inside : FieldIn s f
   pub last : Before s (length s) f k
   pub short : length s ≤ 65535

@@ -11,7 +11,11 @@ use lib.ListN.{length, take, drop, length-append, length-drop}
 use lib.Seq.{length-take-le}
 use lib.Dec.{leb, eqb}
 use borrow.Author.Tests.{le-leb, lt-leb, leb-true, eqb-true, eq-eqb}
+use Rattle.std.specs.Prelude.{Result, Ok, Err, IsErrAnd}
 use Rattle.octets.proofs.Bools.{which}
+use Rattle.refusal.specs.declared.Refusal.{Refusal}
+use Rattle.refusal.specs.Refusals.{number_of, refusal_number}
+use Rattle.refusal.proofs.Numbers.{number_some}
 use Rattle.put.specs.Put.{Written}
 use Rattle.der.specs.Element.{element}
 use Rattle.der.specs.Grammar.{field_octets}
@@ -20,7 +24,7 @@ use Rattle.der_put.specs.Size.{head_size, element_size, given, field_size}
 use Rattle.der_put.proofs.Heads.{length-element, length-field, capped-element, size-bounds, size-one}
 use Rattle.envelope.specs.Envelope.{Envelope, spnego, identifiers, tail_octets, sequence, encoded, fine_state, fine, few}
 use Rattle.envelope_write.specs.Given.{sum_of, split_by, init_given, resp_given, identifiers_size, tail_size, init_size, resp_size, mechanisms_refusal, Mechanisms, InitSized, InitRoom, RespSized, RespRoom}
-use Rattle.envelope_write.specs.Writing.{Outcome, stored, unstored, storing, storing_init}
+use Rattle.envelope_write.specs.Writing.{Outcome, stored, unstored, told, storing, storing_init}
 use Rattle.envelope_write.proofs.Puts.{length-tail}
 
 -- Any envelope that passes 20 and 23, and whose size is known as far as it counts.
@@ -205,7 +209,7 @@ init-sized ns s list first tail t p e f g =
 pub ruleset inits = (init-long, init-crowded, init-room, init-stored, init-limit, init-sized, resp-limit)
 
 -- The mechanisms' refusals.
-pub mechanisms-pass : (ns s : List ℕ) (n : ℕ) → n ≡ mechanisms_refusal ns (length s) → n ≡ 0 → Mechanisms ns s
+mechanisms-pass : (ns s : List ℕ) (n : ℕ) → n ≡ mechanisms_refusal ns (length s) → n ≡ 0 → Mechanisms ns s
 unfolding mechanisms_refusal
 mechanisms-pass ns s n is h = go (which (eqb (length s) (sum_of ns))) (which (leb 1 (length ns))) (which (leb (length ns) 16)) (sym is ∙ h) where
   go : (eqb (length s) (sum_of ns) ≡ true) ⊎ (eqb (length s) (sum_of ns) ≡ false) → (leb 1 (length ns) ≡ true) ⊎ (leb 1 (length ns) ≡ false)
@@ -218,7 +222,7 @@ mechanisms-pass ns s n is h = go (which (eqb (length s) (sum_of ns))) (which (le
 
 module _ (ns s : List ℕ) (bf : Bool) (f : List ℕ) (bt : Bool) (t : List ℕ) (bk : Bool) (k : List ℕ) (d : List ℕ) (n : ℕ)
     (is : n ≡ mechanisms_refusal ns (length s)) where
-  pub init-refused : (n ≡ 0 → ⊥) → unstored n d ≡ storing_init d ns s bf f bt t bk k
+  init-refused : (n ≡ 0 → ⊥) → unstored n d ≡ storing_init d ns s bf f bt t bk k
   unfolding mechanisms_refusal storing_init storing fine few init_given
   init-refused h = go (which (eqb (length s) (sum_of ns))) (which (leb 1 (length ns))) (which (leb (length ns) 16)) where
     go : (eqb (length s) (sum_of ns) ≡ true) ⊎ (eqb (length s) (sum_of ns) ≡ false) → (leb 1 (length ns) ≡ true) ⊎ (leb 1 (length ns) ≡ false)
@@ -229,11 +233,28 @@ module _ (ns s : List ℕ) (bf : Bool) (f : List ℕ) (bt : Bool) (t : List ℕ)
     go (inl a) (inr b) c = let z : n ≡ 20 = is ∙ rw (a, b) in rw (z, a, length-split ns s, b)
     go (inr a) b c = let z : n ≡ 20 = is ∙ rw a in rw (z, a)
 
-  pub init-passed : n ≡ 0 → storing d (init_given ns s bf f bt t bk k) ≡ storing_init d ns s bf f bt t bk k
+  init-passed : n ≡ 0 → storing d (init_given ns s bf f bt t bk k) ≡ storing_init d ns s bf f bt t bk k
   unfolding storing_init
   init-passed h = let p = (mechanisms-pass ns s n is h).sum in rw (eq-eqb (length s) (sum_of ns) p)
 
-  pub init-written : n ≡ 0 → (o : Outcome) → o ≡ storing d (init_given ns s bf f bt t bk k) → o ≡ storing_init d ns s bf f bt t bk k
+  init-written : n ≡ 0 → (o : Outcome) → o ≡ storing d (init_given ns s bf f bt t bk k) → o ≡ storing_init d ns s bf f bt t bk k
   init-written h o e = e ∙ init-passed h
 
-pub ruleset writings = (mechanisms-pass, init-refused, init-written)
+-- what is checked of them passes, or is handed on: x is what `?` returns
+pub check-passed : (ns s : List ℕ) (r : Result Unit Refusal) → refusal_number r ≡ mechanisms_refusal ns (length s) → (u : Unit) → r ≡ Ok u → Mechanisms ns s
+check-passed ns s r is u z = mechanisms-pass ns s 0 (rw z at is) refl
+
+module _ (ns s : List ℕ) (bf : Bool) (f : List ℕ) (bt : Bool) (t : List ℕ) (bk : Bool) (k : List ℕ) (d : List ℕ) (r : Result Unit Refusal)
+    (is : refusal_number r ≡ mechanisms_refusal ns (length s)) where
+  pub check-refused : (e : Refusal) → r ≡ Err e → (x : Result ℕ Refusal) → IsErrAnd x (λ y. y ≡ e) → told x d ≡ storing_init d ns s bf f bt t bk k
+  check-refused e z (Ok y) h = absurd h
+  check-refused e z (Err y) h =
+      let some = number_some e in
+      rw h (init-refused ns s bf f bt t bk k d (number_of e) (rw z at is) (λ q. omega arith))
+
+  module _ (u : Unit) (z : r ≡ Ok u) where
+    none : 0 ≡ mechanisms_refusal ns (length s)
+    none = rw z at is
+
+    pub check-written : (o : Outcome) → o ≡ storing d (init_given ns s bf f bt t bk k) → o ≡ storing_init d ns s bf f bt t bk k
+    check-written o e = init-written ns s bf f bt t bk k d 0 none refl o e

@@ -85,11 +85,6 @@ pub state-there : (there : Bool) (x : ℕ) → there ≡ true → leb x 3 ≡ fi
 unfolding at_most
 state-there there x e = rw e
 
-pub state-none : (there : Bool) (x : ℕ) → there ≡ false → true ≡ fine_state (given there (x ∷ []))
-state-none there x e = rw e
-
-pub ruleset states = (state-there, state-none)
-
 -- what is wrong with mechanisms
 module _ (ns : List ℕ) (n : ℕ) (b : Bool) (b-is : b ≡ eqb n (sum_of ns)) where
   pub refusal-sum : b ≡ false → 20 ≡ mechanisms_refusal ns n

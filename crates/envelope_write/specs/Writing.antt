@@ -5,20 +5,20 @@
 --   storing d e   the outcome of writing e into d, from its first octet on
 --   storing_init  the same of an Init, whose mechanisms are given as sizes and joined octets
 --   told r d      of an answer of src/ that leaves the buffer d
-use Rattle.std.specs.Prelude.{ℕ, Bool, cond, List, length, leb, eqb}
+use Rattle.std.specs.Prelude.{ℕ, Bool, cond, List, length, leb, eqb, Result, Ok, Err}
+use Rattle.refusal.specs.declared.Refusal.{Refusal}
+use Rattle.refusal.specs.Refusals.{number_of}
 use Rattle.put.specs.Put.{put}
 use Rattle.envelope.specs.Envelope.{Envelope, encoded, fine, few}
 use Rattle.envelope_write.specs.Given.{sum_of, init_given}
-use Rattle.envelope_write.specs.declared.Stored.{Stored}
-use Rattle.envelope_write.specs.declared.Stored.TheVariants as answer
 
 pub data Outcome : Type 0 where
   stored : (size : ℕ) (octets : List ℕ) → Outcome
   unstored : (number : ℕ) (octets : List ℕ) → Outcome
 
-abbrev pub told : Stored → List ℕ → Outcome
-told (answer.Size n) d = stored n d
-told (answer.Refused n) d = unstored n d
+abbrev pub told : Result ℕ Refusal → List ℕ → Outcome
+told (Ok n) d = stored n d
+told (Err e) d = unstored (number_of e) d
 
 unfoldable pub storing : List ℕ → Envelope → Outcome
 storing d e =

@@ -1,8 +1,10 @@
 // The envelope written into a lent buffer, from its first octet on. A field comes with whether it is there.
+// A flag and octets stay two parameters: a promise that may not change needs it, that no parameter's type gets narrower.
 #![tactic(auto)]
 
 ghost use Rattle.std.specs.Prelude.{◌≡◌, true, ◌∷◌, [], ◌+◌, ◌≤◌, length, eqb};
 ghost use Rattle.std.proofs.Math.Option.{some};
+ghost use Rattle.refusal.specs.Refusals.{refusal_number};
 ghost use Rattle.put.specs.Put.{Written};
 ghost use Rattle.der.specs.Grammar.{field_octets};
 ghost use Rattle.der.specs.Holder.{capped};
@@ -12,27 +14,18 @@ ghost use Rattle.envelope_write.specs.Given.{sum_of, split_by, init_given, resp_
 ghost use Rattle.envelope_write.specs.Writing.{told, storing, storing_init};
 
 use der_put::{cap, element_size, field_size, put_element, put_field, put_head};
-
-// How many octets were written; or a refusal's number.
-#[derive(Clone, Copy)]
-pub enum Stored {
-    Size(usize),
-    Refused(u32),
-}
+use refusal::Refusal;
 
 // Whether sizes sum to a total.
 fn sums_to(sizes: &[usize], total: usize) -> bool
     ensures { result ≡ eqb total (sum_of sizes.now) }
 {
     let mut left = total;
-    let mut i: usize = 0;
-    while i < sizes.len() {
-        let size = sizes[i];
-        if left < size {
+    for size in sizes {
+        if left < *size {
             return false;
         }
-        left -= size;
-        i += 1;
+        left -= *size;
     }
     left == 0
 }
@@ -52,13 +45,11 @@ fn with_element(n: usize, m: usize) -> usize
 fn identifiers_size(sizes: &[usize]) -> usize
     ensures { result ≡ capped (identifiers_size sizes.now) }
 {
-    let mut size: usize = 0;
-    let mut i: usize = 0;
-    while i < sizes.len() {
-        size = with_element(size, sizes[i]);
-        i += 1;
+    let mut total: usize = 0;
+    for size in sizes {
+        total = with_element(total, *size);
     }
-    size
+    total
 }
 
 // How many octets the three fields behind the first have, capped.
@@ -173,7 +164,7 @@ fn store_init(
     token: &[u8],
     checked: bool,
     checksum: &[u8],
-) -> Stored
+) -> Result<usize, Refusal>
     requires { InitSized sizes.now octets.now list inner
         (tail_size flagged (length flags.now) carried (length token.now) checked (length checksum.now)) }
     ensures { told result d.new ≡ storing d.old
@@ -182,12 +173,12 @@ fn store_init(
 {
     let all = element_size(8 + element_size(element_size(inner)));
     if 65535 < all {
-        return Stored::Refused(1);
+        return Err(Refusal::TooLong);
     }
     if d.len() < all {
-        return Stored::Refused(16);
+        return Err(Refusal::Room);
     }
-    Stored::Size(put_init(
+    Ok(put_init(
         d, list, inner, sizes, octets, flagged, flags, carried, token, checked, checksum,
     ))
 }
@@ -203,7 +194,7 @@ fn size_init(
     token: &[u8],
     checked: bool,
     checksum: &[u8],
-) -> Stored
+) -> Result<usize, Refusal>
     requires { Mechanisms sizes.now octets.now }
     ensures { told result d.new ≡ storing d.old
         (init_given sizes.now octets.now flagged flags.now carried token.now checked
@@ -233,20 +224,20 @@ fn size_init(
     )
 }
 
-// What is wrong with mechanisms of these sizes, whose joined octets are n; 0 where nothing is.
-fn mechanisms_refusal(sizes: &[usize], n: usize) -> u32
-    ensures { result ≡ mechanisms_refusal sizes.now n }
+// Whether mechanisms of these sizes, whose joined octets are n, may be written.
+fn check_mechanisms(sizes: &[usize], n: usize) -> Result<(), Refusal>
+    ensures { refusal_number result ≡ mechanisms_refusal sizes.now n }
 {
-    if sums_to(sizes, n) {} else {
-        return 20;
+    if !sums_to(sizes, n) {
+        return Err(Refusal::Element);
     }
     if sizes.len() == 0 {
-        return 20;
+        return Err(Refusal::Element);
     }
     if 16 < sizes.len() {
-        return 23;
+        return Err(Refusal::Mechanisms);
     }
-    0
+    Ok(())
 }
 
 // Writes an Init: `sizes` cuts `octets` into its mechanisms.
@@ -260,14 +251,11 @@ pub fn write_init(
     token: &[u8],
     checked: bool,
     checksum: &[u8],
-) -> Stored
+) -> Result<usize, Refusal>
     ensures { told result d.new ≡ storing_init d.old sizes.now octets.now flagged
         flags.now carried token.now checked checksum.now }
 {
-    let number = mechanisms_refusal(sizes, octets.len());
-    if number != 0 {
-        return Stored::Refused(number);
-    }
+    check_mechanisms(sizes, octets.len())?;
     size_init(
         d, sizes, octets, flagged, flags, carried, token, checked, checksum,
     )
@@ -277,10 +265,7 @@ pub fn write_init(
 fn fine_state(there: bool, state: u8) -> bool
     ensures { result ≡ fine_state (given there (state ∷ [])) }
 {
-    if there {
-        return state <= 3;
-    }
-    true
+    !there || state <= 3
 }
 
 // A Resp that has room; `inner` are the octets of its fields.
@@ -324,7 +309,7 @@ fn store_resp(
     token: &[u8],
     checked: bool,
     checksum: &[u8],
-) -> Stored
+) -> Result<usize, Refusal>
     requires { RespSized (given stated (state ∷ [])) inner (field_size stated 1)
         (tail_size named (length mechanism.now) carried (length token.now) checked (length checksum.now)) }
     ensures { told result d.new ≡ storing d.old
@@ -332,12 +317,12 @@ fn store_resp(
 {
     let all = element_size(element_size(inner));
     if 65535 < all {
-        return Stored::Refused(1);
+        return Err(Refusal::TooLong);
     }
     if d.len() < all {
-        return Stored::Refused(16);
+        return Err(Refusal::Room);
     }
-    Stored::Size(put_resp(
+    Ok(put_resp(
         d, inner, stated, state, named, mechanism, carried, token, checked, checksum,
     ))
 }
@@ -353,12 +338,12 @@ pub fn write_resp(
     token: &[u8],
     checked: bool,
     checksum: &[u8],
-) -> Stored
+) -> Result<usize, Refusal>
     ensures { told result d.new ≡ storing d.old
         (resp_given stated state named mechanism.now carried token.now checked checksum.now) }
 {
-    if fine_state(stated, state) {} else {
-        return Stored::Refused(20);
+    if !fine_state(stated, state) {
+        return Err(Refusal::Element);
     }
     let tail = tail_size(
         named,

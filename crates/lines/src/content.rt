@@ -30,18 +30,17 @@ fn nego_line(d: &mut [u8], m: &[u8], index: usize) -> usize
     0
 }
 
-// The scheme of a message with one scheme, then its exchange.
+// The scheme of a message with one scheme, then its exchange. This and `verify_line` are no one function: with a closure for the second line, and a layout for
+// the contract, it would be longer than both.
 fn exchange_line(d: &mut [u8], m: &[u8], index: usize) -> usize
     requires { Fit exchange m.now }
     ensures { text d.new result ≡ written (get_or (lines_in exchange m.now) index []) (text d.old 0) }
 {
-    if index == 0 {
-        return line::scheme(d, 0, scheme(m));
+    match index {
+        0 => line::scheme(d, 0, scheme(m)),
+        1 => line::exchange(d, m),
+        _ => 0,
     }
-    if index == 1 {
-        return line::exchange(d, m);
-    }
-    0
 }
 
 // The scheme of a VERIFY, then its checksum.
@@ -49,13 +48,11 @@ fn verify_line(d: &mut [u8], m: &[u8], index: usize) -> usize
     requires { Fit verify m.now }
     ensures { text d.new result ≡ written (get_or (lines_in verify m.now) index []) (text d.old 0) }
 {
-    if index == 0 {
-        return line::scheme(d, 0, scheme(m));
+    match index {
+        0 => line::scheme(d, 0, scheme(m)),
+        1 => line::checksum(d, m),
+        _ => 0,
     }
-    if index == 1 {
-        return line::checksum(d, m);
-    }
-    0
 }
 
 // The scheme of an ALERT, its error code, then its alerts.

@@ -1,19 +1,24 @@
 -- The table's functions in the words of the code, and what they keep.
 -- Assumes nothing.
-use Prim.Native.Nat.{ℕ, zero, suc, ◌+◌, ◌*◌, ◌-◌, ◌≤◌, ◌<◌, ◌^◌}
-use mathlib.Core.Path.{◌≡◌, refl, sym, ◌∙◌}
-use mathlib.Core.Bool.{Bool, true, false, not, ◌||◌}
+use Prim.Native.Nat.{ℕ, suc, ◌+◌, ◌*◌, ◌-◌, ◌≤◌, ◌<◌, ◌^◌}
+use mathlib.Core.Path.{◌≡◌, refl, sym, ap, subst, ◌∙◌}
+use mir.Val.{bool_byte}
+use Rattle.std.specs.List.{list_all}
+use mathlib.Core.Bool.{Bool, true, false, not, ◌||◌, ◌&&◌}
 use mathlib.Core.Logic.{inl, inr}
 use mathlib.Core.List.{List, [], ◌∷◌}
 use native.Mathlib.Nat.{add-sub_cancel_left}
-use native.Mathlib.Numerals.{sub-one}
 use native.Mathlib.Omega.{arith}
 use lib.ListN.{length, get_or, set, take, drop}
-use lib.Seq.{drop-drop, set_out, get_or-set_same, get_or-set_other}
+use lib.Seq.{set_out, get_or-set_same, get_or-set_other}
 use lib.Dec.{leb, ltb, eqb}
 use borrow.Author.Tests.{le-leb, lt-leb, leb-false, ltb-true, ltb-false, eqb-true, eqb-false}
 use Rattle.octets.proofs.Bools.{which}
-use Rattle.message.specs.Show.{ids_at}
+use Rattle.std.specs.declared.slice.ChunksExact.{ChunksExact}
+use Rattle.std.specs.Slice.Iter.{chunks_exact_rest, chunks_exact_size, chunks_exact_steps}
+use Rattle.std.proofs.lemmas.Iterator.{YieldsList}
+use Rattle.schemes.proofs.Chunks.{ids-yielded}
+use Rattle.message.specs.Show.{ids_at, ids_of}
 use Rattle.put.specs.Put.{put, Written}
 use Rattle.schemes.specs.Lists.{Id, mem}
 use Rattle.offers.specs.declared.Table.{Table}
@@ -54,71 +59,48 @@ entered-few t s r h e = rw e (go (mem s (names_in t) || leb 64 t.count) refl) wh
   go true f = h
   go false f = let l = leb-false 64 t.count (or_no (mem s (names_in t)) _ f) in omega arith
 
-module _ (a : List ℕ) (whole t : Table) (at : ℕ) where
-  pub entries-done : (n : ℕ) → whole ≡ entered_all_in t (ids_at n (drop at a)) → n ≤ 0 → t ≡ whole
-  unfolding entered_all_in ids_at
-  entries-done zero inv h = sym inv
-  entries-done (suc n) inv h = absurd (omega arith)
+module _ (whole t : Table) where
+  pub entries-done : (ids : List Id) → ids ≡ [] → whole ≡ entered_all_in t ids → t ≡ whole
+  unfolding entered_all_in
+  entries-done ids e inv = sym (rw e at inv)
 
-  pub entries-more : (n : ℕ) (r : Table) → whole ≡ entered_all_in t (ids_at n (drop at a)) → 0 < n → r ≡ entered_in t (take (at + 16 - at) (drop at a))
-      → whole ≡ entered_all_in r (ids_at (n - 1) (drop (at + 16) a))
-  unfolding entered_all_in ids_at
-  entries-more zero r inv h e = absurd (omega arith)
-  entries-more (suc n) r inv h e = inv ∙ simp (sub-one, e, add-sub_cancel_left, drop-drop)
+  pub entries-more : (id : Id) (ids rest : List Id) (r : Table) → ids ≡ id ∷ rest → r ≡ entered_in t id → whole ≡ entered_all_in t ids
+      → whole ≡ entered_all_in r rest
+  unfolding entered_all_in
+  entries-more id ids rest r e f inv = rw e at inv ∙ rw f
 
-pub ruleset turns = (entries-done, entries-more)
-
--- ---- `one_listed`
-module _ (id : Id) (l : List Id) (b : Bool) (b-is : b ≡ mem id l) where
-  pub listed-yes : b ≡ true → 1 ≡ one (mem id l)
-  unfolding one
-  listed-yes e = rw (sym b-is ∙ e)
-
-  pub listed-no : b ≡ false → 0 ≡ one (mem id l)
-  unfolding one
-  listed-no e = rw (sym b-is ∙ e)
-
-pub ruleset listeds = (listed-yes, listed-no)
+-- ---- a truth value as a number
+pub from-bool : (b c : Bool) (x : ℕ) → b ≡ c → x ≡ bool_byte b → x ≡ one c
+unfolding one
+from-bool true c x f e = rw (← f) e
+from-bool false c x f e = rw (← f) e
 
 -- ---- `tick`
 pub below_set : (b k : ℕ) (l : List ℕ) (x : ℕ) → ((j : ℕ) → k ≤ j → get_or l j 0 < b) → (j : ℕ) → k + 1 ≤ j → get_or (set l k x) j 0 < b
 below_set b k l x h j g = rw (get_or-set_other l k j x 0 (λ e. omega arith)) (h j (omega arith))
 
-module _ (ids : List ℕ) (ss : List Id) (whole counts : List ℕ) (k : ℕ) where
-  pub ticks-done : (n : ℕ) → whole ≡ ticked_from ids ss n k counts → n ≤ 0 → counts ≡ whole
+module _ (ids : List ℕ) (ss : List Id) (whole counts : List ℕ) where
+  pub ticks-done : (n k : ℕ) → n ≤ k → whole ≡ ticked_from ids ss (n - k) k counts → counts ≡ whole
   unfolding ticked_from
-  ticks-done zero inv h = sym inv
-  ticks-done (suc n) inv h = absurd (omega arith)
+  ticks-done n k h inv = let e : n - k ≡ 0 = omega arith in sym (rw e at inv)
 
-  pub ticks-more : (n x : ℕ) → whole ≡ ticked_from ids ss n k counts → 0 < n → x ≡ one (mem (take (k * 16 + 16 - k * 16) (drop (k * 16) ids)) ss)
-      → whole ≡ ticked_from ids ss (n - 1) (k + 1) (set counts k (get_or counts k 0 + x))
+  pub ticks-more : (n k x : ℕ) → k < n → x ≡ one (mem (take (k * 16 + 16 - k * 16) (drop (k * 16) ids)) ss)
+      → whole ≡ ticked_from ids ss (n - k) k counts → whole ≡ ticked_from ids ss (n - (k + 1)) (k + 1) (set counts k (get_or counts k 0 + x))
   unfolding ticked_from
-  ticks-more zero x inv h e = absurd (omega arith)
-  ticks-more (suc n) x inv h e = inv ∙ simp (sub-one, e, add-sub_cancel_left)
-
-pub ruleset ticks = (ticks-done, ticks-more)
+  ticks-more n k x h e inv = let left : n - k ≡ suc (n - (k + 1)) = omega arith in rw left at inv ∙ simp (e, add-sub_cancel_left)
 
 -- ---- `one_beyond`
-module _ (l : List Id) (a : List ℕ) (whole : Bool) (at : ℕ) where
-  pub beyond-end : (n : ℕ) → whole ≡ all_in (ids_at n (drop at a)) l → n ≤ 0 → 0 ≡ one (not whole)
-  unfolding all_in ids_at one
-  beyond-end zero inv h = rw inv
-  beyond-end (suc n) inv h = absurd (omega arith)
+pub not-one : (b c : Bool) (x : ℕ) → b ≡ c → x ≡ bool_byte (not b) → x ≡ one (not c)
+not-one b c x f e = from-bool (not b) (not c) x (ap not f) e
 
-  module _ (b : Bool) (b-is : b ≡ mem (take (at + 16 - at) (drop at a)) l) where
-    pub beyond-hit : (n : ℕ) → whole ≡ all_in (ids_at n (drop at a)) l → 0 < n → b ≡ false → 1 ≡ one (not whole)
-    unfolding all_in ids_at one
-    beyond-hit zero inv h e = absurd (omega arith)
-    beyond-hit (suc n) inv h e = let f : mem (take 16 (drop at a)) l ≡ false = simp add-sub_cancel_left at (sym b-is ∙ e) in rw (inv, f)
+pub whole-yielded : (s : List ℕ) (c : ChunksExact ℕ) → chunks_exact_rest c ≡ s → chunks_exact_size c ≡ 16
+    → YieldsList (chunks_exact_steps {A = ℕ}) (λ x. x.now) c (ids_of s)
+whole-yielded s c r z = subst (λ (l : List ℕ). YieldsList (chunks_exact_steps {A = ℕ}) (λ x. x.now) c (ids_of l)) r (ids-yielded c z)
 
-    pub beyond-more : (n : ℕ) → whole ≡ all_in (ids_at n (drop at a)) l → 0 < n → b ≡ true → whole ≡ all_in (ids_at (n - 1) (drop (at + 16) a)) l
-    unfolding all_in ids_at
-    beyond-more zero inv h e = absurd (omega arith)
-    beyond-more (suc n) inv h e =
-        let f : mem (take 16 (drop at a)) l ≡ true = simp add-sub_cancel_left at (sym b-is ∙ e) in
-        inv ∙ simp (sub-one, f, drop-drop)
-
-pub ruleset beyonds = (beyond-end, beyond-hit, beyond-more)
+pub all_in-all : (m l : List Id) → list_all (λ s. mem s l) m ≡ all_in m l
+unfolding all_in
+all_in-all [] l = refl
+all_in-all (s ∷ m) l = ap (λ (t : Bool). mem s l && t) (all_in-all m l)
 
 -- ---- `add_offer`
 set-small : (l : List ℕ) (k j b : ℕ) → get_or l j 0 < b → get_or (set l k 0) j 0 < b

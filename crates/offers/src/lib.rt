@@ -12,7 +12,8 @@ use message::field;
 use put::put_octets;
 use schemes::list::has_id;
 
-// The table of schemes: the ids in order of their first mention, how many NEGO messages list each, and how many list any other.
+// The table of schemes: the ids in order of their first mention, how many NEGO messages list each, and how many list any other. Ids and
+// counts stand in arrays of their own, with how many beside them: fixed memory, in a public record whose fields are promised.
 #[derive(Clone, Copy)]
 pub struct Table {
     pub ids: [u8; 1024],
@@ -22,16 +23,14 @@ pub struct Table {
 }
 
 // The table with an id behind it, where it has room and does not have it yet.
+#[tactic(auto, using(crate::proofs::Entering::entries))]
 fn enter(t: Table, id: &[u8]) -> Table
     requires { (t.count ≤ 64) × (length id.now ≡ 16) }
     ensures { result ≡ entered_in t id.now }
 {
     let count = t.count as usize;
     let mut ids = t.ids;
-    if has_id(&ids, count, id) {
-        return t;
-    }
-    if 64 <= count {
+    if has_id(&ids, count, id) || 64 <= count {
         return t;
     }
     let mut counts = t.counts;
@@ -51,13 +50,8 @@ fn enter_all(t: Table, list: &[u8]) -> Table
     ensures { result ≡ entered_all_in t (ids_of list.now) }
 {
     let mut entered = t;
-    let mut at: usize = 0;
-    let mut left = list.len() / field::ID;
-    while 0 < left {
-        let end = at + field::ID;
-        entered = enter(entered, &list[at..end]);
-        at = end;
-        left -= 1;
+    for id in list.chunks_exact(field::ID) {
+        entered = enter(entered, id);
     }
     entered
 }
@@ -66,11 +60,7 @@ fn enter_all(t: Table, list: &[u8]) -> Table
 fn one_listed(list: &[u8], id: &[u8]) -> u64
     ensures { result ≡ one (mem id.now (ids_of list.now)) }
 {
-    if has_id(list, list.len() / field::ID, id) {
-        1
-    } else {
-        0
-    }
+    u64::from(has_id(list, list.len() / field::ID, id))
 }
 
 // Each count, with one more where the list has its id: a repeat inside the list counts once.
@@ -79,14 +69,9 @@ fn tick(ids: &[u8], n: usize, counts: [u64; 64], list: &[u8]) -> [u64; 64]
     ensures { result ≡ ticked_from ids.now (ids_of list.now) n 0 counts }
 {
     let mut ticked = counts;
-    let mut k: usize = 0;
-    let mut left = n;
-    while 0 < left {
+    for k in 0..n {
         let at = k * field::ID;
-        let end = at + field::ID;
-        ticked[k] += one_listed(list, &ids[at..end]);
-        k += 1;
-        left -= 1;
+        ticked[k] += one_listed(list, &ids[at..at + field::ID]);
     }
     ticked
 }
@@ -96,17 +81,8 @@ fn one_beyond(ids: &[u8], n: usize, list: &[u8]) -> u64
     requires { n * 16 ≤ length ids.now }
     ensures { result ≡ one (not (all_in (ids_of list.now) (ids_at n ids.now))) }
 {
-    let mut at: usize = 0;
-    let mut left = list.len() / field::ID;
-    while 0 < left {
-        let end = at + field::ID;
-        if has_id(ids, n, &list[at..end]) {} else {
-            return 1;
-        }
-        at = end;
-        left -= 1;
-    }
-    0
+    let all = list.chunks_exact(field::ID).all(|id| has_id(ids, n, id));
+    u64::from(!all)
 }
 
 // The table with a message more, whose schemes stand in a list.
@@ -117,8 +93,7 @@ pub fn add_offer(t: Table, list: &[u8]) -> Table
     let entered = enter_all(t, list);
     let count = entered.count as usize;
     let ids = entered.ids;
-    let before = entered.counts;
-    let counts = tick(&ids, count, before, list);
+    let counts = tick(&ids, count, entered.counts, list);
     let beyond = one_beyond(&ids, count, list);
     Table {
         ids,

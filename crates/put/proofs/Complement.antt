@@ -44,12 +44,3 @@ module _ (z : ℤ) (f : SFits w32 z) where
 
   pub is-above : lt_z (to_z w32 (of_z w32 z)) (pos 0) ≡ false → Above z
   is-above t = above z f.sfits (ap (λ (y : ℤ). lt_z y (pos 0)) (sym (to_z-of_z f)) ∙ t)
-
-  pub differs : Below z → negsuc 0 -ℤ to_z w32 (of_z w32 z) ≡ pos (mag z)
-  differs b = ap (λ (y : ℤ). negsuc 0 -ℤ y) (to_z-of_z f) ∙ b.minus_is
-
-  pub differs-here : Below z → to_z w32 (of_z w32 (negsuc 0 -ℤ to_z w32 (of_z w32 z))) ≡ pos (mag z)
-  differs-here b = ap (λ (y : ℤ). to_z w32 (of_z w32 y)) (differs b) ∙ to_z-of_z {w = w32} {z = pos (mag z)} (record { sfits = b.small })
-
-  pub stays : Above z → to_z w32 (of_z w32 z) ≡ pos (mag z)
-  stays a = to_z-of_z f ∙ a.is

@@ -1,25 +1,19 @@
 -- The digits that the kit's `io` writes are the decimal text: once over the width.
 -- Assumes nothing.
 use Prim.Native.Nat.{ℕ, zero, suc, ◌+◌, ◌-◌, ◌*◌, ◌/◌, ◌%◌, ◌^◌, ◌<◌, ◌≤◌}
-use mathlib.Core.Path.{◌≡◌, refl, sym, ap, ◌∙◌}
-use mathlib.Core.Bool.{true, false}
+use mathlib.Core.Path.{◌≡◌, refl, ap, ◌∙◌}
 use mathlib.Core.Logic.{inl, inr}
 use mathlib.Core.List.{List, [], ◌∷◌, ◌++◌}
 use native.Mathlib.Nat.{suc-add, pow-suc, mod-lt, mod-eq_of_lt, pow-le-pow_right}
 use native.Mathlib.Omega.{arith}
 use lib.Dec.{ltb}
-use lib.IntN.{ℤ, pos, negsuc, nat_abs}
-use lib.Signed.{lt_z}
-use mir.Syntax.{w32}
-use mir.Val.{SFits, to_z, of_z}
-use mir.Facts.{to_z-of_z}
+use lib.IntN.{ℤ, pos, negsuc}
 use lib.ListN.{length, take, length-append}
 use borrow.Author.Tests.{lt-ltb, le-ltb, ltb-true, ltb-false}
 use Rattle.octets.proofs.Bools.{which}
 use Rattle.io.specs.Digits.{last_digits, IsDigitCount}
-use Rattle.text.specs.Text.{quoted, decimal_to, decimal, decimal64, signed, Text, written}
+use Rattle.text.specs.Text.{decimal_to, decimal, decimal64, signed, Text, written}
 use Rattle.put.specs.Put.{joined}
-use Rattle.put.proofs.Complement.{is_below, is-above}
 
 -- k + 1 digits, none of them needless
 decimal-digits : (f k n : ℕ) → k < f → n < 10 ^ suc k → (0 < k → 10 ^ k ≤ n) → last_digits 10 (suc k) n ≡ decimal_to f n
@@ -87,20 +81,5 @@ length-decimal (suc w) n = elim (which (ltb n 10)) [ inl e ↦ rw e (omega arith
 pub length-signed : (z : ℤ) → length (joined (signed z)) ≤ 11
 length-signed (pos n) = simp length-append (omega (arith, length-decimal 10 n))
 length-signed (negsuc n) = simp length-append (omega (arith, length-decimal 10 (n + 1)))
-
--- both signs, by the test of the code
-module _ (z : ℤ) (f : SFits w32 z) (m : ℕ) (m-is : m ≡ nat_abs (to_z w32 (of_z w32 z))) (t u : Text) where
-  abs : m ≡ nat_abs z
-  abs = m-is ∙ ap nat_abs (to_z-of_z f)
-
-  pub signed-plain : lt_z (to_z w32 (of_z w32 z)) (pos 0) ≡ false → u ≡ written (decimal m ∷ []) t → u ≡ written (signed z) t
-  signed-plain h e =
-      let a = is-above z f h in e ∙ ap (λ (n : ℕ). written (decimal n ∷ []) t) (abs ∙ a.abs_is) ∙ ap (λ (y : ℤ). written (signed y) t) (sym a.is)
-
-  pub signed-minus : lt_z (to_z w32 (of_z w32 z)) (pos 0) ≡ true → u ≡ written (quoted "-" ∷ decimal m ∷ []) t → u ≡ written (signed z) t
-  signed-minus h e =
-      let b =
-      is_below z f h in
-      e ∙ ap (λ (n : ℕ). written (quoted "-" ∷ decimal n ∷ []) t) (abs ∙ b.abs_is) ∙ ap (λ (y : ℤ). written (signed y) t) (sym b.is)
 
 pub ruleset numbers = (number-written, field-written, wide-written)

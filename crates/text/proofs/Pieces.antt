@@ -1,6 +1,6 @@
 -- Pieces of text written one behind the other.
 -- Assumes nothing.
-use Prim.Native.Nat.{ℕ, suc, ◌+◌, ◌/◌, ◌%◌, ◌<◌, ◌≤◌}
+use Prim.Native.Nat.{ℕ, suc, ◌+◌, ◌<◌, ◌≤◌}
 use mathlib.Core.Path.{◌≡◌, refl, sym, ap, ◌∙◌}
 use mathlib.Core.Bool.{Bool, true, false, cond}
 use mathlib.Core.Logic.{inl, inr}
@@ -9,11 +9,11 @@ use native.Mathlib.Nat.{add-zero}
 use native.Mathlib.Numerals.{add-one}
 use native.Mathlib.Omega.{arith}
 use lib.ListN.{length, drop, take, get_or, length-append, drop_of_length-le}
-use lib.Seq.{drop-cons, take-suc, take-length, take_at, length-take-le}
+use lib.Seq.{drop-cons, take-suc, take_at, length-take-le}
 use lib.Dec.{leb, eqb}
-use borrow.Author.Tests.{le-leb, eq-eqb, ne_eqb, leb-true}
+use borrow.Author.Tests.{le-leb, leb-true}
 use Rattle.octets.proofs.Bools.{which}
-use Rattle.text.specs.Text.{quoted, hex_digit, hex_of, digits_of, glyph_of, glyphs, Text, text, appended, written}
+use Rattle.text.specs.Text.{quoted, hex_of, digits_of, glyph_of, glyphs, Text, text, appended, written}
 use Rattle.put.specs.Put.{put, joined, Written}
 use Rattle.put.proofs.Laws.{put-none, length-put, put-more, joined-append}
 
@@ -112,18 +112,6 @@ module _ (d v : List ℕ) (at : ℕ) where
   unfolding written
   append-put h d' next w = rw (w.holds, w.after) (sym (fits (text d at) v h))
 
--- an octet's two digits, and an id's glyph
-module _ (t x : Text) where
-  pub hex-written : (a b o : ℕ) → a ≡ hex_digit (o / 16) → b ≡ hex_digit (o % 16) → x ≡ written ((a ∷ b ∷ []) ∷ []) t → x ≡ written (hex_of o ∷ []) t
-  hex-written a b o p q e = rw (← p, ← q) e
-
-  module _ (i : List ℕ) (k : ℕ) where
-    pub glyph-dash : k ≡ 16 → x ≡ written (quoted "-" ∷ []) t → x ≡ written (glyph_of i k ∷ []) t
-    glyph-dash h e = rw (eq-eqb k 16 h) e
-
-    pub glyph-octet : (k ≡ 16 → ⊥) → x ≡ written (hex_of (get_or i k 0) ∷ []) t → x ≡ written (glyph_of i k ∷ []) t
-    glyph-octet octet e = rw (ne_eqb k 16 octet) e
-
 -- one turn of the loop over the places of an id's text
 glyphs-append : (i ks ls : List ℕ) → glyphs i (ks ++ ls) ≡ glyphs i ks ++ glyphs i ls
 unfolding glyphs
@@ -151,12 +139,7 @@ module _ (t : Text) (i order : List ℕ) where
       let g : take (k + 1) order ≡ take k order ++ (get_or order k 0 ∷ []) = rw add-one (take-suc order k 0 h) in
       then t u x _ _ e f ∙ ap (λ (ps : List (List ℕ)). written ps t) (sym (ap (glyphs i) g ∙ glyphs-append i (take k order) (get_or order k 0 ∷ [])))
 
-  pub glyphs-end : (u : Text) (k : ℕ) → k ≤ length order → length order ≤ k → u ≡ written (glyphs i (take k order)) t → u ≡ written (glyphs i order) t
-  glyphs-end u k h g e =
-      let z : k ≡ length order = omega arith in
-      e ∙ ap (λ (ks : List ℕ). written (glyphs i ks) t) (ap (λ (n : ℕ). take n order) z ∙ take-length order)
-
-pub ruleset pieces = (append-put, hex-written, glyph-dash, glyph-octet, glyphs-start, glyphs-more, glyphs-end)
+pub ruleset pieces = (glyphs-start, glyphs-more)
 
 -- the length of pieces behind pieces
 pub length-joined : (ps qs : List (List ℕ)) → length (joined (ps ++ qs)) ≡ length (joined ps) + length (joined qs)

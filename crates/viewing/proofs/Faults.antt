@@ -20,7 +20,9 @@ use Rattle.entries.specs.declared.Entry.{Entry}
 use Rattle.entries.specs.Entries.{entry_octets}
 use Rattle.entries.proofs.Walked.{octets-length}
 use Rattle.envelope_token.specs.declared.Carried.{Carried}
-use Rattle.envelope_token.specs.declared.Carried.TheVariants as carried
+use Rattle.std.specs.Prelude.{Result, Ok, Err}
+use Rattle.refusal.specs.declared.Refusal.{Refusal}
+use Rattle.refusal.specs.Refusals.{number_of}
 use Rattle.envelope_token.specs.Tokens.{Span, carried_of, said}
 use Rattle.faults.specs.Faults.{fault_of}
 use Rattle.replies.specs.Replies.{Reply, given, refused, and_then, fits, answer_of, lent, written_in}
@@ -69,20 +71,20 @@ module _ (s : List ℕ) (r : Answer) (r-is : told r ≡ outcome_of (token_of s))
 pub ruleset fault-answers = (fault-none, fault-some)
 
 -- ---- the words of `envelope_place` and `envelope_length`
-module _ (s : List ℕ) (r : Carried) (r-is : said r ≡ carried_of s) where
-  module _ (p l : ℕ) (here : r ≡ carried.At p l) where
-    span-is : given (record { place = p; size = l }) ≡ span_reply (carried_of s)
+module _ (s : List ℕ) (r : Result Carried Refusal) (r-is : said r ≡ carried_of s) where
+  module _ (c : Carried) (here : r ≡ Ok c) where
+    span-is : given (record { place = c.place; size = c.length }) ≡ span_reply (carried_of s)
     span-is = ap span_reply (sym (ap said here) ∙ r-is)
 
-    pub place-given : (z : ℤ) → SFits w64 z → z ≡ pos p → to_z w64 (of_z w64 z) ≡ envelope_place_answer s
-    place-given z f e = same z f (pos p) e ∙ ap (λ (x : Reply Span). answer_of (and_then x (λ y. given y.place))) span-is
+    pub place-given : (z : ℤ) → SFits w64 z → z ≡ pos c.place → to_z w64 (of_z w64 z) ≡ envelope_place_answer s
+    place-given z f e = same z f (pos c.place) e ∙ ap (λ (x : Reply Span). answer_of (and_then x (λ y. given y.place))) span-is
 
-    pub length-given : (z : ℤ) → SFits w64 z → z ≡ pos l → to_z w64 (of_z w64 z) ≡ envelope_length_answer s
-    length-given z f e = same z f (pos l) e ∙ ap (λ (x : Reply Span). answer_of (and_then x (λ y. given y.size))) span-is
+    pub length-given : (z : ℤ) → SFits w64 z → z ≡ pos c.length → to_z w64 (of_z w64 z) ≡ envelope_length_answer s
+    length-given z f e = same z f (pos c.length) e ∙ ap (λ (x : Reply Span). answer_of (and_then x (λ y. given y.size))) span-is
 
-  module _ (n : ℕ) (here : r ≡ carried.Refused n) (z : ℤ) (f : SFits w64 z) (e : z ≡ neg_ℤ (pos n)) where
+  module _ (refusal : Refusal) (here : r ≡ Err refusal) (n : ℕ) (n-is : n ≡ number_of refusal) (z : ℤ) (f : SFits w64 z) (e : z ≡ neg_ℤ (pos n)) where
     none_is : ◌≡◌ {A = Reply Span} (refused n) (span_reply (carried_of s))
-    none_is = ap span_reply (sym (ap said here) ∙ r-is)
+    none_is = rw n-is (ap span_reply (sym (ap said here) ∙ r-is))
 
     pub place-refused : to_z w64 (of_z w64 z) ≡ envelope_place_answer s
     place-refused = same z f (neg_ℤ (pos n)) e ∙ ap (λ (x : Reply Span). answer_of (and_then x (λ y. given y.place))) none_is

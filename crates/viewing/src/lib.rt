@@ -11,7 +11,7 @@ ghost use Rattle.viewing.specs.Viewing.{entry_count_answer, entries_answer, faul
 
 use blanking::covering::cover;
 use entries::{SIZE, count_entries, put_entries, put_entry};
-use envelope_token::{Carried, find_token};
+use envelope_token::find_token;
 use faults::fault;
 use replies::{number, refusal, wide_number};
 use token::{Answer, read_token};
@@ -122,10 +122,9 @@ pub fn write_coverage(token: &[u8], buffer: &mut [u8]) -> i64
 pub fn envelope_place(envelope: &[u8]) -> i64
     ensures { result ≡ envelope_place_answer envelope.now }
 {
-    let carried = find_token(envelope);
-    match carried {
-        Carried::At(place, _) => number(place),
-        Carried::Refused(n) => refusal(n),
+    match find_token(envelope) {
+        Ok(carried) => number(carried.place),
+        Err(e) => refusal(e.number()),
     }
 }
 
@@ -133,9 +132,8 @@ pub fn envelope_place(envelope: &[u8]) -> i64
 pub fn envelope_length(envelope: &[u8]) -> i64
     ensures { result ≡ envelope_length_answer envelope.now }
 {
-    let carried = find_token(envelope);
-    match carried {
-        Carried::At(_, length) => number(length),
-        Carried::Refused(n) => refusal(n),
+    match find_token(envelope) {
+        Ok(carried) => number(carried.length),
+        Err(e) => refusal(e.number()),
     }
 }

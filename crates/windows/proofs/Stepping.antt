@@ -31,19 +31,20 @@ module _ (p : Progress) (d l : List ℕ) where
     put-skip e = simp (ne_eqb _ _ more, ne_eqb _ _ e)
 
     module _ (here : p.skip ≡ 0) (going : Going p (length d)) where
-      pub put_full : length d - p.octets < length l → state 0 0 p.lines p.octets d ≡ step (within p d) l
+      pub put_full : length d - p.octets < length l → state p.skip 0 p.lines p.octets d ≡ step (within p d) l
       unfolding step_from
       put_full h =
           let g : length d < p.octets + length l = omega (arith, going.within) in
-          simp (ne_eqb _ _ more, eq-eqb _ _ here, lt-leb _ _ g)
+          ap (λ (k : ℕ). state k 0 p.lines p.octets d) here ∙ simp (ne_eqb _ _ more, eq-eqb _ _ here, lt-leb _ _ g)
 
       pub put-fits : length l ≤ length d - p.octets → (d' : List ℕ) (next : ℕ) → text d' next ≡ written (l ∷ []) (text d p.octets)
-          → state 0 (p.left - 1) (p.lines + 1) next d' ≡ step (within p d) l
+          → state p.skip (p.left - 1) (p.lines + 1) next d' ≡ step (within p d) l
       unfolding step_from written appended
       put-fits h d' next e =
           let g : p.octets + length l ≤ length d = omega (arith, going.within) in
           let w : text d' next ≡ text (put d p.octets l) (p.octets + length l) = simp (le-leb _ _ g) at e in
-          ap (λ (t : Text). state 0 (p.left - 1) (p.lines + 1) t.next t.octets) w
+          ap (λ (k : ℕ). state k (p.left - 1) (p.lines + 1) next d') here
+          ∙ ap (λ (t : Text). state 0 (p.left - 1) (p.lines + 1) t.next t.octets) w
           ∙ simp (ne_eqb _ _ more, eq-eqb _ _ here, le-leb _ _ g)
 
 pub ruleset puts = (put-done, put-skip, put_full, put-fits)

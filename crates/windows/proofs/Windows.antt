@@ -114,8 +114,5 @@ window-is ls first end d p t d' p-is t-is r r-is =
     ∙ ap window_at (t-is ∙ ap (λ (u : Progress). steps ls (within u d)) p-is)
     ∙ steps-shown ls first end d
 
-pub start-empty : (first end : ℕ) → end ≤ first → record { skip = first; left = 0; lines = 0; octets = 0 } ≡ start_of first end
-start-empty first end h = let e : 0 ≡ end - first = omega arith in ap (λ (k : ℕ). record { skip = first; left = k; lines = 0; octets = 0 }) e
-
 pub start-going : (first end room : ℕ) (p : Progress) → p ≡ start_of first end → end < 18446744073709551616 → Going p room
 start-going first end room p e h = subst (λ (q : Progress). Going q room) (sym e) (record { within = omega arith; few = omega arith })

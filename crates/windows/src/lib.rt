@@ -26,17 +26,9 @@ pub struct Progress {
 pub fn start(first: usize, end: usize) -> Progress
     ensures { result ≡ start_of first end }
 {
-    if end <= first {
-        return Progress {
-            skip: first,
-            left: 0,
-            lines: 0,
-            octets: 0,
-        };
-    }
     Progress {
         skip: first,
-        left: end - first,
+        left: end.saturating_sub(first),
         lines: 0,
         octets: 0,
     }
@@ -53,25 +45,17 @@ pub fn put_line(p: Progress, d: &mut [u8], line: &[u8]) -> Progress
     if p.skip != 0 {
         return Progress {
             skip: p.skip - 1,
-            left: p.left,
-            lines: p.lines,
-            octets: p.octets,
+            ..p
         };
     }
     if d.len() - p.octets < line.len() {
-        return Progress {
-            skip: 0,
-            left: 0,
-            lines: p.lines,
-            octets: p.octets,
-        };
+        return Progress { left: 0, ..p };
     }
-    let next = append(d, p.octets, line);
     Progress {
-        skip: 0,
         left: p.left - 1,
         lines: p.lines + 1,
-        octets: next,
+        octets: append(d, p.octets, line),
+        ..p
     }
 }
 

@@ -5,8 +5,9 @@ use super::draft::{Draft, bad, empty, started, with_octets, with_state};
 use console::{STDOUT, load};
 use envelope_lines::{refused_line, wrote_line};
 use envelope_script::{Line, read_line};
-use envelope_write::{Stored, write_init, write_resp};
+use envelope_write::{write_init, write_resp};
 use fields::part;
+use refusal::Refusal;
 use scan::find;
 use std::rt::Files;
 
@@ -54,7 +55,12 @@ fn first_sizes(sizes: &[usize], n: usize) -> &[usize] {
     &sizes[..n]
 }
 
-fn write_draft(out: &mut [u8], draft: Draft, store: &[u8], sizes: &[usize]) -> Stored {
+fn write_draft(
+    out: &mut [u8],
+    draft: Draft,
+    store: &[u8],
+    sizes: &[usize],
+) -> Result<usize, Refusal> {
     let second = draft.second;
     let token = draft.token;
     let checksum = draft.checksum;
@@ -88,15 +94,15 @@ fn write_draft(out: &mut [u8], draft: Draft, store: &[u8], sizes: &[usize]) -> S
 }
 
 // Writes the answer of the writer.
-fn report(stored: Stored, out: &[u8]) {
+fn report(stored: Result<usize, Refusal>, out: &[u8]) {
     let mut text = [0u8; 131328];
     match stored {
-        Stored::Size(n) => {
+        Ok(n) => {
             let end = wrote_line(&mut text, part(out, 0, n));
             io::write_all(STDOUT, part(&text, 0, end));
         }
-        Stored::Refused(n) => {
-            let end = refused_line(&mut text, n);
+        Err(e) => {
+            let end = refused_line(&mut text, e.number());
             io::write_all(STDOUT, part(&text, 0, end));
         }
     }

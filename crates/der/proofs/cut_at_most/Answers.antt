@@ -1,30 +1,13 @@
-use Rattle.der.proofs.Framing.{cutting}
-use borrow.Author.Rules.{rules}
+use Rattle.der.specs.Element.{cut, at_most}
+use Rattle.der.specs.Holder.{part}
+use Rattle.der.proofs.Answers.{passed-on}
+use Rattle.der.proofs.Framing.{cut_by_lem}
 use Rattle.der.proofs.cut_at_most.Goals as goal
 
-pub slice_bounds-at_most-count : goal.slice_bounds-at_most-count
-slice_bounds-at_most-count c = search (rules, cutting)
+pub returns-in_err-element : goal.returns-in_err-element
+unfolding cut
+returns-in_err-element c = passed-on c.frame_at.ensures _ c.in_err-element.was _ _ c.from_residual.ensures.1
 
-pub slice_bounds-at_most-start : goal.slice_bounds-at_most-start
-slice_bounds-at_most-start c = search (rules, cutting)
-
-pub slice_bounds-at_most-end : goal.slice_bounds-at_most-end
-slice_bounds-at_most-end c = search (rules, cutting)
-
-pub slice_bounds-judged-count : goal.slice_bounds-judged-count
-slice_bounds-judged-count c = search (rules, cutting)
-
-pub slice_bounds-judged-start : goal.slice_bounds-judged-start
-slice_bounds-judged-start c = search (rules, cutting)
-
-pub slice_bounds-judged-end : goal.slice_bounds-judged-end
-slice_bounds-judged-end c = search (rules, cutting)
-
-pub judged-requires : goal.judged-requires
-judged-requires c = (search (rules, cutting), search (rules, cutting))
-
-pub returns-in-Refused : goal.returns-in-Refused
-returns-in-Refused c = search (rules, cutting)
-
-pub returns-in-At : goal.returns-in-At
-returns-in-At c = search (rules, cutting)
+pub returns : goal.returns
+unfolding part
+returns c = cut_by_lem _ _ _ c.requires _ _ c.frame_at.ensures c.in_ok-element.was (at_most c.args.n) _ c.at_most.ensures _ c.judged.ensures

@@ -1,5 +1,5 @@
+use Rattle.std.proofs.Common.{rules}
 use Rattle.der.proofs.Sizes.{shortening}
-use borrow.Author.Rules.{rules}
 use Rattle.der.proofs.shortest.Goals as goal
 
 pub returns-then-n-lt128 : goal.returns-then-n-lt128

@@ -1,5 +1,5 @@
+use Rattle.std.proofs.Common.{rules}
 use Rattle.der.proofs.Sizes.{sizing}
-use borrow.Author.Rules.{rules}
 use Rattle.der.proofs.size.Goals as goal
 
 pub returns-then-v-eq0 : goal.returns-then-v-eq0

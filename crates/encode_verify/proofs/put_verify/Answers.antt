@@ -5,35 +5,12 @@ use mir.Syntax.{w32}
 use mir.Val.{SFits}
 use mir.Facts.{to_z-of_z}
 use Rattle.put.specs.Put.{unsigned32}
-use native.Mathlib.Omega.{arith}
 use lib.ListN.{length}
-use Rattle.put.proofs.Laws.{wrote, room-behind, step, group, done, as_number}
+use Rattle.put.proofs.Laws.{wrote, step, group, done, as_number}
 use Rattle.encode.specs.Encode.{encoded, Checksum, of_verify, head_fields, octet_vector_fields}
 use Rattle.encode.proofs.Sizes.{length-encoded}
 use borrow.Author.Rules.{rules}
 use Rattle.encode_verify.proofs.put_verify.Goals as goal
-
-pub put_u32-value_at-requires : goal.put_u32-value_at-requires
-put_u32-value_at-requires c =
-    let whole : length c.args.scheme ≡ 16 = search rules in
-    room-behind 4 c.put_octet_vector-pad_at.ensures
-    (room-behind 12 c.put_i32-vector_at.ensures
-    (room-behind 16 c.put_u32-type_at.ensures
-    (room-behind 20 c.put_u32-checksum_scheme_at.ensures
-    (room-behind 24 c.put_octets-header_length_at.ensures (room-behind 40 c.put_head-scheme_at.ensures c.requires.0 (omega arith)) (omega (arith, whole)))
-    (omega arith)) (omega arith)) (omega arith)) (omega arith)
-
-pub put_octets-requires : goal.put_octets-requires
-put_octets-requires c =
-    let whole : length c.args.scheme ≡ 16 = search rules in
-    let n = length c.args.value.now in
-    room-behind n c.put_u32-value_at.ensures
-    (room-behind (4 + n) c.put_octet_vector-pad_at.ensures
-    (room-behind (12 + n) c.put_i32-vector_at.ensures
-    (room-behind (16 + n) c.put_u32-type_at.ensures
-    (room-behind (20 + n) c.put_u32-checksum_scheme_at.ensures
-    (room-behind (24 + n) c.put_octets-header_length_at.ensures (room-behind (40 + n) c.put_head-scheme_at.ensures c.requires.0 (omega arith))
-    (omega (arith, whole))) (omega arith)) (omega arith)) (omega arith)) (omega arith)) (omega arith)
 
 pub returns : goal.returns
 unfolding encoded

@@ -1,11 +1,10 @@
-use Prim.Native.Nat.{◌-◌, ◌≤◌}
-use mathlib.Core.Path.{◌≡◌}
-use Rattle.der.specs.Holder.{Holder, part}
-use Rattle.envelope.specs.Answers.{left_of, count_of}
+use Rattle.std.proofs.Common.{◌≡◌}
+use Rattle.der.specs.Holder.{HolderAt, octets_at}
+use Rattle.envelope.proofs.Lists.{left_of, going}
 use Rattle.envelope.proofs.identifiers_at.Given as goal
 
-abbrev pub invariant-loop-next : goal.invariant-loop-next
-invariant-loop-next l = (Holder l.s l.next l.end) × (l.left ≤ 16) × (count_of (part l.s l.at l.end) ≡ left_of l.left (part l.s l.next l.end))
-
-abbrev pub decreases-loop-next : goal.decreases-loop-next
-decreases-loop-next l = l.end - l.next
+abbrev pub invariant-loop-count : goal.invariant-loop-count
+invariant-loop-count l = record {
+  held : HolderAt l.s l.rest;
+  going : left_of 16 (octets_at l.s l.fn.list) ≡ going l.count (octets_at l.s l.rest);
+}

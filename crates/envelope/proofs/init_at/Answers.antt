@@ -1,18 +1,6 @@
-use borrow.Author.Rules.{rules}
-use Rattle.envelope.proofs.Sequences.{inits}
+use Rattle.std.proofs.Common.{rules}
+use Rattle.envelope.specs.Reading.{init_of}
 use Rattle.envelope.proofs.init_at.Goals as goal
 
-pub mechanisms_at-requires : goal.mechanisms_at-requires
-mechanisms_at-requires c = search (rules, inits)
-
-pub tail_at-requires : goal.tail_at-requires
-tail_at-requires c = search (rules, inits)
-
-pub returns-in-Refused : goal.returns-in-Refused
-returns-in-Refused c = search (rules, inits)
-
-pub returns-in-Refused-tail_at : goal.returns-in-Refused-tail_at
-returns-in-Refused-tail_at c = search (rules, inits)
-
-pub returns-in-Fields : goal.returns-in-Fields
-returns-in-Fields c = search (rules, inits)
+pub returns : goal.returns
+returns c = c.only_at.ensures init_of (λ h r k q. search rules)

@@ -1,9 +1,9 @@
+use Rattle.std.proofs.Common.{rules}
 use Rattle.envelope.proofs.Optionals.{fronts}
-use borrow.Author.Rules.{rules}
 use Rattle.envelope.proofs.starts_at.Goals as goal
 
-pub returns-then-at-end : goal.returns-then-at-end
-returns-then-at-end c = search (rules, fronts)
+pub returns-then-holder : goal.returns-then-holder
+returns-then-holder c = search (rules, fronts)
 
-pub returns : goal.returns
-returns c = search (rules, fronts)
+pub returns-else-holder : goal.returns-else-holder
+returns-else-holder c = search (rules, fronts)

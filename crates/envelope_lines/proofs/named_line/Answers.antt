@@ -1,9 +1,8 @@
-use Rattle.envelope_lines.proofs.Chains.{fields'}
-use borrow.Author.Rules.{rules}
+use Rattle.envelope_lines.proofs.Chains.{absent-is, there-is, named-absent, named-there}
 use Rattle.envelope_lines.proofs.named_line.Goals as goal
 
-pub returns-in-Absent : goal.returns-in-Absent
-returns-in-Absent c = search (rules, fields')
+pub returns-then-is_none : goal.returns-then-is_none
+returns-then-is_none c = named-absent _ _ _ (absent-is _ _ c.is_none.ensures c.if-is_none.true)
 
-pub returns-in-At : goal.returns-in-At
-returns-in-At c = search (rules, fields')
+pub returns : goal.returns
+returns c = named-there _ _ _ _ _ (there-is _ _ c.is_none.ensures c.if-is_none.false _ _ c.octets.ensures) c.mechanism_line.ensures

@@ -1,12 +1,9 @@
-use Rattle.envelope_lines.proofs.Chains.{tokens}
-use borrow.Author.Rules.{rules}
+use Rattle.std.proofs.Common.{rules}
+use Rattle.envelope_lines.proofs.Chains.{token-absent, tokens}
 use Rattle.envelope_lines.proofs.token_line.Goals as goal
 
-pub overflow_sub-e : goal.overflow_sub-e
-overflow_sub-e c = search (rules, tokens)
+pub returns-in_default : goal.returns-in_default
+returns-in_default c = token-absent _ _ _ c.in_default.is _
 
-pub returns-in-Absent : goal.returns-in-Absent
-returns-in-Absent c = search (rules, tokens)
-
-pub returns-in-At : goal.returns-in-At
-returns-in-At c = search (rules, tokens)
+pub returns : goal.returns
+returns c = search (rules, tokens)

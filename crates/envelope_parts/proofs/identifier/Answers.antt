@@ -1,31 +1,17 @@
-use mathlib.Core.Path.{refl}
-use borrow.Author.Rules.{rules}
-use Rattle.envelope_parts.proofs.Nths.{nths}
+use Rattle.envelope_parts.proofs.Nths.{nth-no, nth_here, nth-more, nth-behind}
 use Rattle.envelope_parts.proofs.identifier.Goals as goal
 
-pub loop-next-init : goal.loop-next-init
-loop-next-init c = (search rules, refl)
-
 pub returns-in_default : goal.returns-in_default
-returns-in_default c = search nths
+returns-in_default c = nth-no _ _ c.args.k c.loop-i.i _ c.loop-i.invariant.held c.loop-i.invariant.same _ c.cut_at.ensures _ c.in_default.is
 
-pub slice_bounds-result-count : goal.slice_bounds-result-count
-slice_bounds-result-count c = search (rules, nths)
+pub loop-i-preserved : goal.loop-i-preserved
+loop-i-preserved c = record {
+  held = nth-behind _ _ c.args.k c.loop-i.i _ c.loop-i.invariant.held c.loop-i.invariant.same _ c.cut_at.ensures _ _ c.in-Ok.is;
+  same = nth-more _ _ c.args.k c.loop-i.i _ c.loop-i.invariant.held c.loop-i.invariant.same _ c.cut_at.ensures _ _ c.in-Ok.is c.loop-i-test.true;
+}
 
-pub slice_bounds-result-start : goal.slice_bounds-result-start
-slice_bounds-result-start c = search (rules, nths)
-
-pub slice_bounds-result-end-then-left-eq0 : goal.slice_bounds-result-end-then-left-eq0
-slice_bounds-result-end-then-left-eq0 c = search (rules, nths)
-
-pub returns-then-left-eq0 : goal.returns-then-left-eq0
-returns-then-left-eq0 c = search nths
-
-pub loop-next-smaller : goal.loop-next-smaller
-loop-next-smaller c = search nths
-
-pub loop-next-preserved : goal.loop-next-preserved
-loop-next-preserved c = (search nths, search nths)
+pub returns-in_default-cut_at : goal.returns-in_default-cut_at
+returns-in_default-cut_at c = nth-no _ _ c.args.k c.loop-i.i _ c.loop-i.invariant.held c.loop-i.invariant.same _ c.cut_at-2.ensures _ c.in_default-cut_at.is
 
 pub returns : goal.returns
-returns c = search nths
+returns c = nth_here _ _ c.args.k c.loop-i.i _ c.loop-i.invariant.held c.loop-i.invariant.same _ c.cut_at-2.ensures _ _ c.in-Ok-cut_at.is c.loop-i-test.false

@@ -1,11 +1,10 @@
-use Prim.Native.Nat.{◌-◌}
-use mathlib.Core.Path.{◌≡◌}
-use Rattle.der.specs.Holder.{Holder, part}
+use Rattle.std.proofs.Common.{◌≡◌, ◌-◌}
+use Rattle.der.specs.Holder.{HolderAt, octets_at}
 use Rattle.envelope_parts.specs.Parts.{identifier_of}
 use Rattle.envelope_parts.proofs.identifier.Given as goal
 
-abbrev pub invariant-loop-next : goal.invariant-loop-next
-invariant-loop-next l = (Holder l.s l.next l.end) × (identifier_of l.k (part l.s l.at l.end) ≡ identifier_of l.left (part l.s l.next l.end))
-
-abbrev pub decreases-loop-next : goal.decreases-loop-next
-decreases-loop-next l = l.end - l.next
+abbrev pub invariant-loop-i : goal.invariant-loop-i
+invariant-loop-i l = record {
+  held : HolderAt l.s l.rest;
+  same : identifier_of l.fn.k (octets_at l.s l.fn.list) ≡ identifier_of (l.fn.k - l.i) (octets_at l.s l.rest);
+}

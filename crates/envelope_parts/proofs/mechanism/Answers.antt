@@ -1,5 +1,5 @@
+use Rattle.std.proofs.Common.{rules}
 use Rattle.envelope_parts.proofs.Clamped.{mechanisms}
-use borrow.Author.Rules.{rules}
 use Rattle.envelope_parts.proofs.mechanism.Goals as goal
 
 pub returns-then-identifiers-gt65535 : goal.returns-then-identifiers-gt65535

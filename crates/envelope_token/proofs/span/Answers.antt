@@ -1,14 +1,5 @@
-use Rattle.envelope_token.proofs.Spans.{spans}
+use Rattle.envelope_token.proofs.Spans.{span-there, token-there}
 use Rattle.envelope_token.proofs.span.Goals as goal
 
-pub overflow_cast-result : goal.overflow_cast-result
-overflow_cast-result c = record { fits = search spans }
-
-pub overflow_sub-result : goal.overflow_sub-result
-overflow_sub-result c = search spans
-
-pub overflow_cast-result-in-At : goal.overflow_cast-result-in-At
-overflow_cast-result-in-At c = record { fits = search spans }
-
-pub returns-in-At : goal.returns-in-At
-returns-in-At c = search spans
+pub returns : goal.returns
+returns c = span-there _ _ _ c.requires _ (token-there _ _ _ _ c.ok_or.ensures.value c.in_ok-part.was)

@@ -1,12 +1,11 @@
-use Rattle.envelope_write.proofs.Stores.{writings}
-use borrow.Author.Rules.{rules}
+use Rattle.envelope_write.proofs.Stores.{check-refused, check-passed, check-written}
 use Rattle.envelope_write.proofs.write_init.Goals as goal
 
-pub returns-then-number-ne0 : goal.returns-then-number-ne0
-returns-then-number-ne0 c = search (rules, writings)
+pub returns-in_err-check_mechanisms : goal.returns-in_err-check_mechanisms
+returns-in_err-check_mechanisms c = check-refused _ _ _ _ _ _ _ _ _ _ c.check_mechanisms.ensures _ c.in_err-check_mechanisms.was _ c.from_residual.ensures.1
 
 pub size_init-requires : goal.size_init-requires
-size_init-requires c = search (rules, writings)
+size_init-requires c = check-passed _ _ _ c.check_mechanisms.ensures _ c.in_ok-check_mechanisms.was
 
 pub returns : goal.returns
-returns c = search (rules, writings)
+returns c = check-written _ _ _ _ _ _ _ _ _ _ c.check_mechanisms.ensures _ c.in_ok-check_mechanisms.was _ c.size_init.ensures

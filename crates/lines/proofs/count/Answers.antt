@@ -1,9 +1,6 @@
 use Rattle.lines.proofs.Contents.{kinds}
 use Rattle.lines.proofs.count.Goals as goal
 
-pub le_u32-kind-requires : goal.le_u32-kind-requires
-le_u32-kind-requires c = search kinds
-
 pub returns-then-kind-le-ACCEPTOR_NEGO : goal.returns-then-kind-le-ACCEPTOR_NEGO
 returns-then-kind-le-ACCEPTOR_NEGO c = search kinds
 

@@ -1,14 +1,11 @@
-use Prim.Native.Nat.{◌+◌, ◌*◌, ◌≤◌}
-use mathlib.Core.Path.{◌≡◌}
-use lib.ListN.{length, drop}
-use Rattle.message.specs.Show.{ids_at, ids_of}
+use Rattle.std.proofs.Common.{◌≡◌, ◌≤◌}
+use Rattle.std.specs.Slice.Iter.{chunks_exact_rest, chunks_exact_size}
+use Rattle.message.specs.Show.{ids_of}
 use Rattle.offers.specs.Table.{entered_all_in}
 use Rattle.offers.proofs.enter_all.Given as goal
 
-abbrev pub invariant-loop-left : goal.invariant-loop-left
-invariant-loop-left l =
-    (l.at + l.left * 16 ≤ length l.list) × (l.entered.count ≤ 64)
-    × (entered_all_in l.initial.entered (ids_of l.list) ≡ entered_all_in l.entered (ids_at l.left (drop l.at l.list)))
-
-abbrev pub decreases-loop-left : goal.decreases-loop-left
-decreases-loop-left l = l.left
+abbrev pub invariant-loop-id : goal.invariant-loop-id
+invariant-loop-id l =
+    (goal.iterator-loop-id).can_next l.id-iterator × (goal.iterator-loop-id).is_finite l.id-iterator × (chunks_exact_size l.id-iterator ≡ 16)
+    × (l.entered.count ≤ 64)
+    × (entered_all_in l.initial.entered (ids_of l.list) ≡ entered_all_in l.entered (ids_of (chunks_exact_rest l.id-iterator)))

@@ -8,6 +8,3 @@ loop-k-init c = (refl, search pieces)
 
 pub loop-k-preserved : goal.loop-k-preserved
 loop-k-preserved c = (search rules, search pieces)
-
-pub returns : goal.returns
-returns c = search pieces

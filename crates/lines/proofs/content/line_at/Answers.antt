@@ -1,14 +1,8 @@
 use Rattle.lines.proofs.Contents.{kinds}
 use Rattle.lines.proofs.content.line_at.Goals as goal
 
-pub message-requires : goal.message-requires
-message-requires c = search kinds
-
 pub returns-then-index-eq0 : goal.returns-then-index-eq0
 returns-then-index-eq0 c = search kinds
-
-pub le_u32-kind-requires : goal.le_u32-kind-requires
-le_u32-kind-requires c = search kinds
 
 pub nego_line-requires : goal.nego_line-requires
 nego_line-requires c = search kinds

@@ -1,9 +1,9 @@
+use Rattle.std.proofs.Common.{rules}
 use Rattle.envelope_write.proofs.Sums.{refusals}
-use borrow.Author.Rules.{rules}
-use Rattle.envelope_write.proofs.mechanisms_refusal.Goals as goal
+use Rattle.envelope_write.proofs.check_mechanisms.Goals as goal
 
-pub returns-else-sums_to : goal.returns-else-sums_to
-returns-else-sums_to c = search (rules, refusals)
+pub returns-then-not-sums_to : goal.returns-then-not-sums_to
+returns-then-not-sums_to c = search (rules, refusals)
 
 pub returns-then-sizes-eq0 : goal.returns-then-sizes-eq0
 returns-then-sizes-eq0 c = search (rules, refusals)
