@@ -2,10 +2,8 @@
 #![tactic(auto)]
 
 use blanking::blank;
-use console::{STDERR, STDIN, STDOUT, load};
+use console::{STDERR, STDOUT, load, read_name};
 use lines::refused_text;
-use scan::find;
-use std::rt::Files;
 use token::Answer;
 use vector::TokenPlace;
 
@@ -18,35 +16,23 @@ fn write_refusal(n: u32, place: TokenPlace) {
 
 // A token, blanked; of a refused one only what it is refused with.
 fn write_blanked(token: &mut [u8]) {
-    let answer = blank(token);
-    match answer {
+    match blank(token) {
         Answer::Messages(_) => {
-            io::write_all(STDOUT, &token[..]);
+            io::write_all(STDOUT, token);
         }
-        Answer::Refused(n, place) => {
-            write_refusal(n, place);
-        }
-    }
-}
-
-// The token in the file with a name, by way of a buffer.
-fn blank_file<R: Files>(rt: &R, name: &[u8], buf: &mut [u8]) {
-    let loaded = load(rt, name, buf);
-    match loaded {
-        Some(n) => {
-            write_blanked(&mut buf[..n]);
-        }
-        None => {
-            io::write_all(STDERR, b"no file\n");
-        }
+        Answer::Refused(n, place) => write_refusal(n, place),
     }
 }
 
 fn main(rt: HostRuntime) {
     let mut input = io::buffer();
-    let length = io::read_full(STDIN, &mut input);
-    let end = find(&input, 0, length, b'\n');
+    let name = read_name(&mut input);
     // A file of 65,536 octets or more fills the array, which is one octet too many for a token.
     let mut token = [0u8; 65536];
-    blank_file(&rt, &input[..end], &mut token);
+    match load(&rt, name, &mut token) {
+        Some(n) => write_blanked(&mut token[..n]),
+        None => {
+            io::write_all(STDERR, b"no file\n");
+        }
+    }
 }
