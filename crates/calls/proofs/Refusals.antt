@@ -68,6 +68,20 @@ module _ (r : Record) (rows : List Row) where
     call-passed d action = decide-passed (limit_rows r ++ rows) r d action call-given
 
 -- ---- 18
+-- a place in the turn, as the code has it
+module _ (n : ℕ) (p : Option ℕ) (p-is : p ≡ allowed n) where
+  pub place-none : is_some p ≡ false → eqb n 0 ≡ true
+  place-none e = go (eqb n 0) (ap is_some (sym p-is) ∙ e) where
+    go : (b : Bool) → is_some (cond b None (Some n)) ≡ false → b ≡ true
+    go true q = refl
+    go false q = no_true (sym q)
+
+  pub place-some : is_some p ≡ true → eqb n 0 ≡ false
+  place-some e = go (eqb n 0) (ap is_some (sym p-is) ∙ e) where
+    go : (b : Bool) → is_some (cond b None (Some n)) ≡ true → b ≡ false
+    go true q = no_true q
+    go false q = refl
+
 module _ (r : Record) (kind : ℕ) where
   pub stage-limits : (e : Refusal) → number_of e ≡ first_failing (limit_rows r) → number_of e ≡ stage_refusal r kind
   unfolding stage_refusal
@@ -76,19 +90,11 @@ module _ (r : Record) (kind : ℕ) where
   module _ (z : 0 ≡ first_failing (limit_rows r)) (p : Option ℕ) (p-is : p ≡ allowed (place_after r kind)) where
     pub stage-kind : is_some p ≡ false → 18 ≡ stage_refusal r kind
     unfolding stage_refusal
-    stage-kind e =
-        limits-on r (row 18 (may_write r kind) ∷ []) z 18 (go (eqb (place_after r kind) 0) (ap is_some (sym p-is) ∙ e)) where
-          go : (b : Bool) → is_some (cond b None (Some (place_after r kind))) ≡ false → ◌≡◌ {A = ℕ} 18 (cond (not b) 0 18)
-          go true q = refl
-          go false q = no_true (sym q)
+    stage-kind e = limits-on r (row 18 (may_write r kind) ∷ []) z 18 (rw (place-none (place_after r kind) p p-is e))
 
     pub stage-ok : is_some p ≡ true → 0 ≡ stage_refusal r kind
     unfolding stage_refusal
-    stage-ok e =
-        limits-on r (row 18 (may_write r kind) ∷ []) z 0 (go (eqb (place_after r kind) 0) (ap is_some (sym p-is) ∙ e)) where
-          go : (b : Bool) → is_some (cond b None (Some (place_after r kind))) ≡ true → ◌≡◌ {A = ℕ} 0 (cond (not b) 0 18)
-          go true q = no_true q
-          go false q = refl
+    stage-ok e = limits-on r (row 18 (may_write r kind) ∷ []) z 0 (rw (place-some (place_after r kind) p p-is e))
 
 module _ (r : Record) (kind : ℕ) (z : 0 ≡ stage_refusal r kind) where
   stage-given : AllTrue (stage_rows r kind)
