@@ -1,4 +1,3 @@
 pub mod Lists
 pub mod Allowed
-pub mod Spent
 pub mod Admits

@@ -6,12 +6,11 @@ use mathlib.Core.Bool.{Bool, true, false}
 use mathlib.Core.List.{List, [], ◌∷◌, map}
 use native.Mathlib.Numerals.{sub-one}
 use native.Mathlib.Omega.{arith}
-use lib.ListN.{length, take, drop, length-take, length-drop, drop_of_length-le}
-use lib.Seq.{take_all, length-take-le, ext_get_or, get_or-take, get_or-drop}
+use lib.ListN.{length, take, drop, length-take, length-drop}
+use lib.Seq.{length-take-le, ext_get_or, get_or-take, get_or-drop}
 use Rattle.octets.proofs.Slices.{tail_all}
 use Rattle.octets.specs.Octets.{octets, same_octets, same_id}
 use Rattle.octets.proofs.Same.{same-sizes}
-use Rattle.vector.specs.Vector.{shown}
 use Rattle.message.specs.Layout.{size, front, scheme_vector}
 use Rattle.message.specs.Show.{ids_at, ids_of, schemes_in}
 use Rattle.parts.proofs.Shows.{shown-short}
@@ -25,23 +24,6 @@ use Rattle.admitting.specs.Admissions.{listed_in}
 module _ (t : List ℕ) where
   pub listed-short : length t < 96 → [] ≡ listed_in t
   listed-short h = shown-short 96 (front t) (scheme_vector (front t)) (simp length-take (omega arith))
-
-  module _ (n : ℕ) (n-is : n ≡ size t) where
-    pub listed-beyond : length t < n → (x : List ℕ) → x ≡ shown 96 t (scheme_vector t) → x ≡ listed_in t
-    listed-beyond h x e =
-        let w : length t ≤ size t = omega (arith, n-is) in
-        e ∙ ap (λ (m : List ℕ). shown 96 m (scheme_vector m)) (sym (take_all (size t) t w))
-
-    pub listed-front : (x : List ℕ) → x ≡ shown 96 (take n t) (scheme_vector (take n t)) → x ≡ listed_in t
-    listed-front x e = e ∙ ap (λ (k : ℕ). shown 96 (take k t) (scheme_vector (take k t))) n-is
-
-    pub behind-none : length t < n → take (length t - length t) (drop (length t) t) ≡ drop (size t) t
-    behind-none h =
-        let w : length t ≤ size t = omega (arith, n-is) in
-        tail_all t (length t) ∙ drop_of_length-le t {i = length t} (omega arith) ∙ sym (drop_of_length-le t {i = size t} w)
-
-    pub behind-some : take (length t - n) (drop n t) ≡ drop (size t) t
-    behind-some = tail_all t n ∙ ap (λ (k : ℕ). drop k t) n-is
 
 pub listed_by_lem : (t l : List ℕ) → l ≡ listed_in t → ids_of l ≡ listed_by t
 unfolding schemes_in
@@ -64,13 +46,10 @@ scheme-length n s = simp (length-take, length-drop)
 
 -- the first n octets of s, as a message
 module _ (s : List ℕ) (n : ℕ) (id : List ℕ) (sixteen : length id ≡ 16) where
-  pub names-short : length s < 56 → false ≡ same_octets id (scheme_in (take n s))
+  pub names-short : min n (length s) < 56 → false ≡ same_octets id (scheme_in (take n s))
   names-short h = same-sizes id (scheme_in (take n s)) (λ e. omega (arith, scheme-length n s))
 
-  pub names-early : n < 56 → false ≡ same_octets id (scheme_in (take n s))
-  names-early h = same-sizes id (scheme_in (take n s)) (λ e. omega (arith, scheme-length n s))
-
-  module _ (long : 56 ≤ length s) (late : 56 ≤ n) where
+  module _ (long : 56 ≤ min n (length s)) where
     scheme-there : octets 16 s 40 ≡ scheme_in (take n s)
     scheme-there =
         ext_get_or 0 _ _ (simp (length-take, length-drop) (omega arith))
@@ -90,7 +69,7 @@ named_in n s = map scheme_in (messages_at n s)
 nobody : (id : List ℕ) → length id ≡ 16 → (n : ℕ) (s : List ℕ) → length s < 56 → false ≡ mem id (named_in n s)
 unfolding mem messages_at
 nobody id e zero s h = refl
-nobody id e (suc n) s h = simp (← names-short s (size s) id e h) (nobody id e n (drop (size s) s) (omega (arith, length-drop (size s) s)))
+nobody id e (suc n) s h = simp (← names-short s (size s) id e (omega arith)) (nobody id e n (drop (size s) s) (omega (arith, length-drop (size s) s)))
 
 first_of : (n : ℕ) (s : List ℕ) → 0 < n → named_in n s ≡ scheme_in (front s) ∷ named_in (n - 1) (drop (size s) s)
 unfolding messages_at
@@ -150,8 +129,6 @@ module _ (t : List ℕ) (named : ℕ) (id : List ℕ) where
       pub metadata-new : b ≡ false → true ≡ metadata_fits t named id
       metadata-new e = rw (listed-test, has, named-test, e)
 
-pub ruleset lists = (listed-short, listed-beyond, listed-front, behind-none, behind-some, starts-short, starts-same)
-
-pub ruleset namings = (names-short, names-early, names_same, named_end, named-short, named-hit, named_past, named-on)
+pub ruleset lists = (listed-short, starts-short, starts-same)
 
 pub ruleset metadatas = (metadata-short, metadata-unlisted, metadata-again, metadata-new)

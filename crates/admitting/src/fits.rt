@@ -26,25 +26,17 @@ pub(crate) fn is_at(r: Record, k: usize, id: &[u8]) -> bool
     requires { Inside r }
     ensures { result ≡ is_at r k id.now }
 {
-    if r.count <= k {
-        return false;
-    }
-    same_at(&r.list, k, id)
+    k < r.count && same_at(&r.list, k, id)
 }
 
 // 15 for an exchange of the first token or of the reply.
+#[tactic(auto, using(crate::proofs::Allowed::exchange_is))]
 fn exchange_fits(r: Record, t: &[u8], id: &[u8]) -> bool
     requires { Inside r }
     ensures { result ≡ exchange_fits r t.now id.now }
 {
-    if starts_with(listed(t), id) {} else {
-        return false;
-    }
     let token = reading_token(r.acceptor, r.stage);
-    if token == Turn::FIRST {
-        return true;
-    }
-    is_at(r, r.requested, id)
+    starts_with(listed(t), id) && (token == Turn::FIRST || is_at(r, r.requested, id))
 }
 
 // 15 for a message of a later token, where `chosen` is the own place of the chosen scheme, or none.
@@ -53,28 +45,22 @@ fn further_fits(r: Record, chosen: usize, id: &[u8]) -> bool
     ensures { result ≡ further_fits r chosen id.now }
 {
     if chosen == Record::NONE {
-        if r.acceptor {
-            return in_reply(r, id);
-        }
-        return false;
+        return r.acceptor && in_reply(r, id);
     }
     is_at(r, chosen, id)
 }
 
 // 15 by the class.
+#[tactic(auto, unfolding(conversation::specs::Admitting::scheme_fits))]
 pub(crate) fn scheme_fits(r: Record, t: &[u8], c: Scan, class: u8, id: &[u8]) -> bool
     requires { Inside r × (length id.now ≡ 16) }
     ensures { result ≡ scheme_fits r t.now c class id.now }
 {
-    if class == Class::NEGO {
-        return true;
-    }
-    if class == Class::METADATA {
-        return metadata_fits(t, c.named, id);
-    }
     let token = reading_token(r.acceptor, r.stage);
-    if token == Turn::FURTHER {
-        return further_fits(r, c.chosen, id);
+    match class {
+        Class::NEGO => true,
+        Class::METADATA => metadata_fits(t, c.named, id),
+        _ if token == Turn::FURTHER => further_fits(r, c.chosen, id),
+        _ => exchange_fits(r, t, id),
     }
-    exchange_fits(r, t, id)
 }

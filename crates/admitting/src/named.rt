@@ -21,27 +21,23 @@ const HEADER: usize = Kind::NEGO_HEADER as usize;
 const SCHEME_END: usize = field::SCHEME + field::ID;
 
 // The octets of the schemes that the NEGO at the front of a token lists, 16 a scheme.
+#[tactic(auto, using(crate::proofs::Lists::lists))]
 pub fn listed(t: &[u8]) -> &[u8]
     ensures { result.now ≡ listed_in t.now }
 {
     if t.len() < HEADER {
         return &t[..0];
     }
-    let end = message_length(t);
-    if t.len() < end {
-        return schemes(t);
-    }
+    let end = message_length(t).min(t.len());
     schemes(&t[..end])
 }
 
 // Whether the first id of a list is this one.
+#[tactic(auto, using(crate::proofs::Lists::lists))]
 pub(crate) fn starts_with(list: &[u8], id: &[u8]) -> bool
     ensures { result ≡ starts_with (ids_of list.now) id.now }
 {
-    if list.len() < field::ID {
-        return false;
-    }
-    same_id(id, &list[..field::ID])
+    field::ID <= list.len() && same_id(id, &list[..field::ID])
 }
 
 // What is behind the message at the front of s.
@@ -49,11 +45,7 @@ fn behind(s: &[u8]) -> &[u8]
     requires { 24 ≤ length s.now }
     ensures { result.now ≡ drop (size s.now) s.now }
 {
-    let from = message_length(s);
-    if s.len() < from {
-        let end = s.len();
-        return &s[end..];
-    }
+    let from = message_length(s).min(s.len());
     &s[from..]
 }
 
@@ -62,13 +54,7 @@ fn names(s: &[u8], n: usize, id: &[u8]) -> bool
     requires { length id.now ≡ 16 }
     ensures { result ≡ same_octets id.now (scheme_in (take n s.now)) }
 {
-    if s.len() < SCHEME_END {
-        return false;
-    }
-    if n < SCHEME_END {
-        return false;
-    }
-    same_id(id, &s[field::SCHEME..SCHEME_END])
+    SCHEME_END <= n.min(s.len()) && same_id(id, &s[field::SCHEME..SCHEME_END])
 }
 
 // Whether one of the `count` messages at the front of s names the scheme.
@@ -77,8 +63,7 @@ fn is_named(s: &[u8], count: u32, id: &[u8]) -> bool
     ensures { result ≡ mem id.now (map scheme_in (messages_at count s.now)) }
 {
     let mut rest = s;
-    let mut left = count;
-    while 0 < left {
+    for _ in 0..count {
         if rest.len() < SCHEME_END {
             return false;
         }
@@ -90,25 +75,16 @@ fn is_named(s: &[u8], count: u32, id: &[u8]) -> bool
             return false;
         }
         rest = &rest[length..];
-        left -= 1;
     }
     false
 }
 
 // 15 for metadata: its scheme is listed by the token's NEGO, and none of the `named` messages behind it names it.
+#[tactic(auto, using(crate::proofs::Lists::metadatas))]
 pub(crate) fn metadata_fits(t: &[u8], named: u32, id: &[u8]) -> bool
     requires { length id.now ≡ 16 }
     ensures { result ≡ metadata_fits t.now named id.now }
 {
-    if t.len() < HEADER {
-        return false;
-    }
     let list = listed(t);
-    if has_id(list, list.len() / field::ID, id) {} else {
-        return false;
-    }
-    if is_named(behind(t), named, id) {
-        return false;
-    }
-    true
+    HEADER <= t.len() && has_id(list, list.len() / field::ID, id) && !is_named(behind(t), named, id)
 }

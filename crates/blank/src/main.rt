@@ -2,10 +2,8 @@
 #![tactic(auto)]
 
 use blanking::blank;
-use console::{STDERR, STDIN, STDOUT, load};
+use console::{STDERR, STDOUT, load, read_name};
 use lines::refused_text;
-use scan::find;
-use std::rt::Files;
 use token::Refused;
 
 // The only line of a refused token.
@@ -19,30 +17,21 @@ fn write_refusal(refused: Refused) {
 fn write_blanked(token: &mut [u8]) {
     match blank(token) {
         Ok(_) => {
-            io::write_all(STDOUT, &token[..]);
+            io::write_all(STDOUT, token);
         }
         Err(refused) => write_refusal(refused),
     }
 }
 
-// The token in the file with a name, by way of a buffer.
-fn blank_file<R: Files>(rt: &R, name: &[u8], buf: &mut [u8]) {
-    let loaded = load(rt, name, buf);
-    match loaded {
-        Some(n) => {
-            write_blanked(&mut buf[..n]);
-        }
+fn main(rt: HostRuntime) {
+    let mut input = io::buffer();
+    let name = read_name(&mut input);
+    // A file of 65,536 octets or more fills the array, which is one octet too many for a token.
+    let mut token = [0u8; 65536];
+    match load(&rt, name, &mut token) {
+        Some(n) => write_blanked(&mut token[..n]),
         None => {
             io::write_all(STDERR, b"no file\n");
         }
     }
-}
-
-fn main(rt: HostRuntime) {
-    let mut input = io::buffer();
-    let length = io::read_full(STDIN, &mut input);
-    let end = find(&input, 0, length, b'\n');
-    // A file of 65,536 octets or more fills the array, which is one octet too many for a token.
-    let mut token = [0u8; 65536];
-    blank_file(&rt, &input[..end], &mut token);
 }

@@ -3,4 +3,3 @@ pub mod Sizes
 pub mod Writes
 pub mod Lefts
 pub mod Replies
-pub mod Types

@@ -1,18 +1,17 @@
 -- Whether the reply lists a scheme, in the words of the code.
 -- Assumes nothing.
 use Prim.Native.Nat.compare
-use Prim.Native.Nat.{ℕ, suc, ◌/◌, ◌<◌, ◌≤◌}
+use Prim.Native.Nat.{ℕ, suc, ◌/◌}
 use mathlib.Core.Path.{◌≡◌, refl, sym, ap, ◌∙◌}
 use mathlib.Core.Bool.{Bool, true, false, cond, not, ◌&&◌}
 use mathlib.Core.List.{List, [], ◌∷◌}
 use native.Mathlib.Omega.{arith}
 use lib.ListN.{length}
 use lib.Dec.{ltb}
-use borrow.Author.Tests.{lt-ltb, le-ltb, not-true}
+use borrow.Author.Tests.{lt-ltb, not-true}
 use Rattle.octets.proofs.Bools.{both}
 use Rattle.octets.specs.Octets.{same_octets}
 use Rattle.octets.proofs.Same.{same-eq}
-use Rattle.message.specs.Show.{ids_at}
 use Rattle.message.proofs.Ids.{length_ids}
 use Rattle.schemes.specs.Lists.{Id, mem, place, distinct, bit}
 use Rattle.schemes.specs.Sets.{left}
@@ -43,22 +42,6 @@ mem-left (x ∷ l) c m s d = go (same_octets s x) (bit c 0 && not (bit m 0)) ref
   go false true e f ih = rw (f, e) (rw compare.suc-suc ih)
   go false false e f ih = rw (f, e) (rw compare.suc-suc ih)
 
-module _ (r : Record) (id : List ℕ) (i : Inside r) (k : ℕ) (k-is : k ≡ place (ids_at r.count r.list) id) where
-  reply-is : mem id (replied r) ≡ (ltb k r.count && (bit r.common k && not (bit r.marks k)))
-  reply-is = mem-left (own_of r) r.common r.marks id i.different ∙ rw (← k-is, length_ids r.count r.list)
-
-  pub reply-beyond : r.count ≤ k → false ≡ mem id (replied r)
-  reply-beyond h = sym (reply-is ∙ rw (le-ltb _ _ h))
-
-  module _ (own : k < r.count) (a : Bool) (a-is : a ≡ bit r.common k) where
-    pub reply-uncommon : a ≡ false → false ≡ mem id (replied r)
-    reply-uncommon e = sym (reply-is ∙ rw (lt-ltb _ _ own, ← a-is, e))
-
-    module _ (common : a ≡ true) (b : Bool) (b-is : b ≡ bit r.marks k) where
-      pub reply-marked : b ≡ true → false ≡ mem id (replied r)
-      reply-marked e = sym (reply-is ∙ rw (lt-ltb _ _ own, ← a-is, common, ← b-is, e))
-
-      pub reply-left : b ≡ false → true ≡ mem id (replied r)
-      reply-left e = sym (reply-is ∙ rw (lt-ltb _ _ own, ← a-is, common, ← b-is, e))
-
-pub ruleset replies = (reply-beyond, reply-uncommon, reply-marked, reply-left)
+pub reply_is : (r : Record) (id : List ℕ) (i : Inside r) (k : ℕ) → k ≡ place (own_of r) id
+    → mem id (replied r) ≡ (ltb k r.count && (bit r.common k && not (bit r.marks k)))
+reply_is r id i k k-is = mem-left (own_of r) r.common r.marks id i.different ∙ rw (← k-is, length_ids r.count r.list)

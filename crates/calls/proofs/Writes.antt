@@ -15,6 +15,8 @@ use Rattle.encode.specs.declared.Heading.{Heading}
 use Rattle.std.specs.Prelude.{Option, Some, None}
 use Rattle.encode.specs.Encode.{Whole, Contents, size_of, has_kind, encodable, written, told, storing, storing_handed}
 use Rattle.encode.proofs.Sizes.{length-encoded}
+use Rattle.refusal.specs.declared.Refusal.{Refusal}
+use Rattle.refusal.specs.Refusals.{number_of}
 use Rattle.conversation.specs.declared.Record.{Record}
 use Rattle.conversation.specs.declared.Answer.{Answer}
 use Rattle.conversation.specs.Turns.{type_of, place_after, may_write}
@@ -47,14 +49,14 @@ changed n w = record {
 }
 
 -- a message of a kind that both ends write, and of the size that has passed 16
-pub write-ready : (r : Record) (d : List ℕ) (kind : ℕ) (rows : List Row) (size n : ℕ) → n ≡ write_refusal r kind rows size (length d) → n ≡ 0
+pub write-ready : (r : Record) (d : List ℕ) (kind : ℕ) (rows : List Row) (size : ℕ) → 0 ≡ write_refusal r kind rows size (length d)
     → without 0 (rows ++ (fits r d size ∷ [])) ≡ true
     → (c : Contents) → size_of c ≡ size → WholeIds c → has_kind c (type_of false kind) ≡ true → has_kind c (type_of true kind) ≡ true → Ready r d kind c
 unfolding encodable
-write-ready r d kind rows size n n-is z sure c s ids e f =
-    let l : r.used + size ≤ min (length d) 65535 = passed-room r kind rows size (length d) n n-is z sure in
+write-ready r d kind rows size z sure c s ids e f =
+    let l : r.used + size ≤ min (length d) 65535 = passed-room r kind rows size (length d) z sure in
     record {
-      inside = passed-inside r kind rows size (length d) n n-is z sure;
+      inside = passed-inside r kind rows size (length d) z sure;
       can = rw (either r.acceptor) (fields_fit c ids (omega arith));
       room = omega arith;
       fits = omega arith;
@@ -69,22 +71,23 @@ abbrev pub called : Record → List ℕ → ℕ → List Row → Contents → Ou
 called r d kind rows c action = decide (stage_rows r kind ++ then_fits rows r d (message_of r kind c)) r d action
 
 module _ (r : Record) (arrays : Arrays r) (d : List ℕ) (kind : ℕ) (rows : List Row) (c : Contents) (size : ℕ)
-    (whole : Inside r → AllTrue rows → Whole c × (size_of c ≡ size)) (n : ℕ) (n-is : n ≡ write_refusal r kind rows size (length d)) where
+    (whole : Inside r → AllTrue rows → Whole c × (size_of c ≡ size)) where
   by_length : (action : Outcome) → decide (stage_rows r kind ++ (rows ++ (fits r d size ∷ []))) r d action ≡ called r d kind rows c action
   by_length =
       measured r d kind rows size (length (message_of r kind c))
       (λ i t. let w = whole i t in length-encoded (heading r kind) arrays.conversation c w.0 ∙ w.1)
 
-  pub write-refused : (n ≡ 0 → ⊥) → (a : Answer) → a ≡ answered n 0 r → (action : Outcome)
+  pub write-refused : (e : Refusal) → number_of e ≡ write_refusal r kind rows size (length d) → (a : Answer) → a ≡ answered (number_of e) 0 r
+      → (action : Outcome)
       → ◌≡◌ {A = Outcome} (record { answer = a; transcript = d }) (called r d kind rows c action)
   unfolding write_refusal
-  write-refused h a a-is action =
-      rw a-is (call-refused r (row 18 (may_write r kind) ∷ (rows ++ (fits r d size ∷ []))) n n-is d action h ∙ by_length action)
+  write-refused e e-is a a-is action =
+      rw a-is (call-refused r (row 18 (may_write r kind) ∷ (rows ++ (fits r d size ∷ []))) e e-is d action ∙ by_length action)
 
-  module _ (z : n ≡ 0) (sure : without 0 (rows ++ (fits r d size ∷ [])) ≡ true) where
+  module _ (z : 0 ≡ write_refusal r kind rows size (length d)) (sure : without 0 (rows ++ (fits r d size ∷ [])) ≡ true) where
     pub write-passed : (action : Outcome) → action ≡ called r d kind rows c action
     unfolding write_refusal
-    write-passed action = call-passed r (row 18 (may_write r kind) ∷ (rows ++ (fits r d size ∷ []))) n n-is sure z d action ∙ by_length action
+    write-passed action = call-passed r (row 18 (may_write r kind) ∷ (rows ++ (fits r d size ∷ []))) sure z d action ∙ by_length action
 
     -- w says what the call changes in the record after the message
     pub write-written : (w : Record → WrittenAs) (v : Contents) → v ≡ c → (d' : List ℕ) (next : Record) → Appended r d kind v d' next → (a : Answer)

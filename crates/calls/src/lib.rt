@@ -1,15 +1,17 @@
 // What the calls of an end share: answers, the room, the stage, whether the reply lists a scheme, and the next message.
 #![tactic(auto)]
 
-ghost use Rattle.std.specs.Prelude.{◌≡◌, ◌+◌, min};
+ghost use Rattle.std.specs.Prelude.{◌≡◌, ◌+◌};
+ghost use Rattle.refusal.specs.Refusals.{number_of, refusal_number};
 ghost use Rattle.schemes.specs.Lists.{mem, place};
 ghost use Rattle.conversation.specs.State.{own_of, replied};
 ghost use Rattle.conversation.specs.Outcomes.{answered};
 ghost use Rattle.calls.specs.Calls.{room_for, stage_refusal, Inside};
 
-use conversation::limits::outside;
+use conversation::limits::check_limits;
 use conversation::turns::own_place;
 use conversation::{Answer, Record};
+use refusal::Refusal;
 use schemes::list::find;
 use schemes::set::bit_of;
 use vector::TokenPlace;
@@ -30,54 +32,48 @@ pub fn answer(number: u32, place: TokenPlace, next: Record) -> Answer
     }
 }
 
+// An answer that refuses nothing: the record to go on with.
+pub fn accepted(next: Record) -> Answer
+    ensures { result ≡ answered 0 0 next }
+{
+    answer(0, TokenPlace(0), next)
+}
+
+// An answer that refuses a call as a whole, with the record as it was.
+pub fn refused(refusal: Refusal, r: Record) -> Answer
+    ensures { result ≡ answered (number_of refusal) 0 r }
+{
+    answer(refusal.number(), TokenPlace(0), r)
+}
+
 // An answer that names a choice and how many were left.
 pub fn naming(next: Record, choice: [u8; 16], left: u32) -> Answer
     ensures { result ≡ record { refusal = 0; place = record { 0 = 0 }; messages = 0; choice = choice; left = left; next = next } }
 {
     Answer {
-        refusal: 0,
-        place: TokenPlace(0),
-        messages: 0,
         choice,
         left,
-        next,
+        ..accepted(next)
     }
-}
-
-// The room of a transcript of a length.
-fn room_of(len: usize) -> usize
-    ensures { result ≡ min len 65535 }
-{
-    if len < 65535 { len } else { 65535 }
 }
 
 // 16: whether n octets behind a header have room. Header and octets are not added, since their sum may be too large a number.
 pub fn has_room(used: usize, header: usize, n: usize, len: usize) -> bool
     ensures { result ≡ room_for used (header + n) len }
 {
-    let room = room_of(len);
-    if room < used {
-        return false;
-    }
-    let free = room - used;
-    if free < header {
-        return false;
-    }
-    n <= free - header
+    let room = len.min(65535);
+    used <= room && header <= room - used && n <= room - used - header
 }
 
-// 18 where a record is outside its limits or may not write this class, else 0.
-pub fn stage_refusal(r: Record, class: u8) -> u32
-    ensures { result ≡ stage_refusal r class }
+// 18 where a record is outside its limits or may not write this class.
+pub fn check_stage(r: Record, class: u8) -> Result<(), Refusal>
+    ensures { refusal_number result ≡ stage_refusal r class }
 {
-    let number = outside(r);
-    if number != 0 {
-        return number;
+    check_limits(r)?;
+    if own_place(r, class).is_none() {
+        return Err(Refusal::Stage);
     }
-    if own_place(r, class) == 0 {
-        return 18;
-    }
-    0
+    Ok(())
 }
 
 // The own place of a scheme, or the list's length where it is not one of the list. It asks for a record inside its limits, as the next function does: 18
@@ -90,19 +86,11 @@ pub fn find_own(r: Record, id: &[u8]) -> usize
 }
 
 // Whether the reply lists a scheme.
+#[tactic(auto, using(crate::proofs::Replies::reply_is))]
 pub fn in_reply(r: Record, id: &[u8]) -> bool
     requires { Inside r }
     ensures { result ≡ mem id.now (replied r) }
 {
     let place = find_own(r, id);
-    if r.count <= place {
-        return false;
-    }
-    if bit_of(r.common, place as u32) {} else {
-        return false;
-    }
-    if bit_of(r.marks, place as u32) {
-        return false;
-    }
-    true
+    place < r.count && bit_of(r.common, place as u32) && !bit_of(r.marks, place as u32)
 }

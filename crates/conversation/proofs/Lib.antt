@@ -1,6 +1,3 @@
-pub mod Tests
-pub mod Bounds
-pub mod Places
 pub mod Rows
 pub mod Chosen
 pub mod Decides

@@ -58,8 +58,6 @@ module _ (s : List ℕ) (H : Section) (t : ℕ) (h : HolderAt s H) (body : List 
             placed = rw end at (got-placed r-says x r-is);
           }
 
-pub ruleset levels = (level-no, level-inner-no, level-left, level-read)
-
 -- the wrapper's contents
 module _ (s : List ℕ) (H : Section) (h : HolderAt s H) (c : Result (Section × Section) Refusal)
     (says : Cuts s H (cut 0x06 (exactly spnego) (octets_at s H)) c) where
@@ -79,8 +77,6 @@ module _ (s : List ℕ) (H : Section) (h : HolderAt s H) (c : Result (Section ×
         continued says _ c-is _ r (to-end rest.end H.end i.last r-says) where
           to-end : (a b : ℕ) → a ≡ b → {g : Got Envelope} → Reads s a g r → Reads s b g r
           to-end a b e x = rw e at x
-
-pub ruleset wrappings = (wrapped-no, wrapped-behind, wrapped-read)
 
 -- the whole buffer
 module _ (s : List ℕ) where

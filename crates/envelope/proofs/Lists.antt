@@ -248,5 +248,3 @@ module _ (s : List ℕ) (H : Section) (h : HolderAt s H) (x : Result (Section ×
                     j.last,
                   );
                 }
-
-pub ruleset listings = (list-outer-no, list-outer, list-inner-no, list-inner, list-refused, list_left, list-found)

@@ -52,8 +52,6 @@ module _ (s : List ℕ) (H : Section) (m : Result (Section × ℕ × Section) Re
             placed = (p.0, rw p.2 at (got-placed t-says x e));
           }
 
-pub ruleset inits = (init-no, init-behind, init-tail-no, init-found)
-
 module _ (s : List ℕ) (H : Section) (h : HolderAt s H) where
   pub begins-none : H.from ≡ H.end → eqb H.from H.end ≡ begins (octets_at s H)
   unfolding begins
@@ -105,5 +103,3 @@ module _ (s : List ℕ) (H : Section) (w : Bool) (w-is : w ≡ begins (octets_at
               same = sym (rw (← w-is, begun, got-ok x-says _ x-is, got-ok t-says y e));
               placed = (field_in s H X a p, rw p.last at (got-placed t-says y e));
             }
-
-pub ruleset resps = (resp-other, resp-no, resp-behind, resp-tail-no, resp-found)

@@ -100,5 +100,3 @@ module _ (s : List ℕ) (H : Section) (u : ℕ) (y : Result (Option Section × S
                         last = rw end at (before s a b c T K tt' (got-ok k-says _ k-is) e);
                       };
                 }
-
-pub ruleset tailing = (tail-no, tail-second, tail-token-no, tail-third, tail-checksum-no, tail-left, tail-found)

@@ -185,12 +185,6 @@ wrote-line t a u v e g = then t a u _ _ e g
 
 -- the whole text
 module _ (s : List ℕ) (i : Init) (t a b c u : Text) where
-  pub init-counted : InitAt s i → i.count ≡ length (mechanisms_in (octets_at s i.list))
-  init-counted p = p.0.counted
-
-  pub init-token : InitAt s i → TokenAt s i.token i.checksum
-  init-token p = record { inside = p.1.token_in; last = p.1.last }
-
   pub init-text : a ≡ written (head_line (quoted "envelope init length=") s) t
       → b ≡ written (mechanism_lines 0 (mechanisms_in (octets_at s i.list))) a
       → c ≡ written (octets_line (quoted "flags ") (shown s i.flags)) b
@@ -199,9 +193,6 @@ module _ (s : List ℕ) (i : Init) (t a b c u : Text) where
   init-text e f g h = then t a u _ _ e (then a b u _ _ f (then b c u _ _ g h))
 
 module _ (s : List ℕ) (r : Resp) (t a b c u : Text) where
-  pub resp-token : RespAt s r → TokenAt s r.token r.checksum
-  resp-token p = record { inside = p.1.token_in; last = p.1.last }
-
   pub resp-text : a ≡ written (head_line (quoted "envelope resp length=") s) t → b ≡ written (state_line (shown s r.state)) a
       → c ≡ written (named_lines (shown s r.mechanism)) b
       → u ≡ written (last_lines s (shown s r.token) (shown s r.checksum)) c → u ≡ written (text_of s (told_resp s r)) t

@@ -44,5 +44,3 @@ module _ (s : List ℕ) (rest : Section) (k i : ℕ) (x : List ℕ) (h : HolderA
 
     pub nth-within : m.end ≤ length s
     nth-within = let j = inside in let o = h.inside in omega arith
-
-pub ruleset nths = (nth-no, nth_here, nth-more, nth-behind, nth-order, nth-within)

@@ -164,8 +164,6 @@ module _ (bx : Bool) (x : ℕ) (bm : Bool) (m : List ℕ) (bt : Bool) (t : List 
         rw resp-octets at
         (wrote (resp_size inner) (step w1 (step w2 (step w3 (step w4 done)))) (ap length resp-octets ∙ length-resp) (let o = r.room in omega arith))
 
-pub ruleset resps = (resp-tail-room, resp-put)
-
 -- An Init.
 pub record InitFits (wrapped sequence inner list tail l : ℕ) : Type 0 where
   pub room : head_size wrapped + (8 + (head_size sequence + (head_size inner + (list + tail)))) ≤ l
@@ -278,5 +276,3 @@ module _ (ns s : List ℕ) (bf : Bool) (f : List ℕ) (bt : Bool) (t : List ℕ)
           rw init-octets at
           (wrote (init_size inner) (step w1 (step w2 (step w3 (step w4 (step w5 (step w6 done)))))) (ap length init-octets ∙ length-init)
           (let o = r.room in omega arith))
-
-pub ruleset inits = (init-list-room, init-tail-room, init-put)

@@ -46,16 +46,8 @@ module _ (ns : List ℕ) (n i left : ℕ) (inv : eqb n (sum_of ns) ≡ eqb left 
 pub ruleset sums = (sum-end, sum_past, sum_more)
 
 -- identifiers, one element more
-pub with-long : (n m : ℕ) → 65535 < m → 65536 ≡ capped (n + element_size m)
-with-long n m h = omega arith
-
-pub with-short : (n m a r : ℕ) → a ≡ element_size m → r ≡ capped (n + a) → r ≡ capped (n + element_size m)
-with-short n m a r e k = k ∙ rw e
-
 pub with-limit : (m a : ℕ) → m ≤ 65535 → a ≡ element_size m → a ≤ 65539
 with-limit m a h e = let b = size-bounds m in omega arith
-
-pub ruleset withs = (with-long, with-short)
 
 module _ (ns : List ℕ) (n i : ℕ) (inv : capped (identifiers_size ns) ≡ capped (n + identifiers_size (drop i ns))) where
   pub sizes-end : length ns ≤ i → n ≤ 65536 → n ≡ capped (identifiers_size ns)

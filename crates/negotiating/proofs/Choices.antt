@@ -1,6 +1,6 @@
 -- The initiator's choice, in the words of the code.
 -- Assumes nothing.
-use Prim.Native.Nat.{ℕ, ◌+◌, ◌*◌, ◌≤◌, ◌<◌}
+use Prim.Native.Nat.{ℕ, ◌+◌, ◌*◌, ◌<◌}
 use mathlib.Core.Path.{◌≡◌, refl, sym, ap, ◌∙◌}
 use mathlib.Core.Bool.{Bool, true, false, cond, not, ◌&&◌, ◌||◌}
 use mathlib.Core.List.{List, [], ◌∷◌, ◌++◌}
@@ -8,7 +8,14 @@ use native.Mathlib.Omega.{arith}
 use lib.ListN.{length}
 use lib.Dec.{eqb, leb}
 use borrow.Author.Tests.{eq-eqb, ne_eqb, not-true}
+use mathlib.Core.Logic.{◌⊎◌, inl, inr}
+use Rattle.std.proofs.Common.{Option}
+use Rattle.std.specs.Option.{is_some}
 use Rattle.octets.proofs.Bools.{no_true, and_l}
+use Rattle.refusal.specs.declared.Refusal.{Refusal}
+use Rattle.refusal.specs.Refusals.{number_of}
+use Rattle.refusal.proofs.Numbers.{number_some}
+use Rattle.conversation.specs.Places.{allowed}
 use Rattle.octets.specs.Octets.{octets}
 use Rattle.message.specs.Check.{Row, first_failing}
 use Rattle.message.proofs.Tables.{AllTrue}
@@ -26,18 +33,9 @@ use Rattle.conversation.proofs.Rows.{front-true, back-true}
 use Rattle.conversation.proofs.Decides.{decide-refused, first-stop}
 use Rattle.conversation.proofs.Inside.{limits-chose, chosen-allowed}
 use Rattle.calls.specs.Calls.{call_refusal}
-use Rattle.calls.proofs.Refusals.{limits-inside, limits-stop, limits-within, limits-on, call-given}
+use Rattle.calls.proofs.Refusals.{limits-inside, limits-stop, limits-on, call-given, place-none, place-some}
 use Rattle.calls.proofs.Lefts.{kept-inside, open_none, open-some, open-count, open-first}
 use Rattle.negotiating.specs.Ready.{ChoiceReady, named_choice}
-
--- ---- an early VERIFY counts for the AP_REQUEST's scheme
-pub counts-early : (v : Bool) (place requested : ℕ) → v ≡ true → eqb place requested ≡ (v && eqb place requested)
-counts-early v place requested e = rw e
-
-pub counts-none : (v : Bool) (place requested : ℕ) → v ≡ false → false ≡ (v && eqb place requested)
-counts-none v place requested e = rw e
-
-pub ruleset countings = (counts-early, counts-none)
 
 first-place : (ks : List ℕ) (l : Left) → l ≡ left_of ks → (l.left ≡ 0 → ⊥) → first_place ks ≡ l.place
 unfolding left_of
@@ -45,52 +43,53 @@ first-place [] l e h = absurd (h (ap (λ (x : Left). x.left) e))
 first-place (k ∷ ks) l e h = sym (ap (λ (x : Left). x.place) e)
 
 -- ---- 18, 19, 25, 17 and 18
-module _ (r : Record) (m : ℕ) (fit : Bool) (kind n : ℕ) (n-is : n ≡ first_failing (limit_rows r)) where
-  module _ (z : n ≡ 0) where
-    pub choice-few : r.count ≤ 16
-    choice-few = (limits-within r (choice_rows r m fit kind) n n-is z).few
+module _ (r : Record) (m : ℕ) (fit : Bool) (kind : ℕ) where
+  pub choice-limits : (e : Refusal) → number_of e ≡ first_failing (limit_rows r) → number_of e ≡ call_refusal r (choice_rows r m fit kind)
+  choice-limits = limits-stop r (choice_rows r m fit kind)
 
+  module _ (z : 0 ≡ first_failing (limit_rows r)) where
     behind : (x : ℕ) → x ≡ first_failing (choice_rows r m fit kind) → x ≡ call_refusal r (choice_rows r m fit kind)
-    behind = limits-on r (choice_rows r m fit kind) n n-is z
+    behind = limits-on r (choice_rows r m fit kind) z
 
-    pub choice-role : r.acceptor ≡ true → 18 ≡ call_refusal r (choice_rows r m fit kind)
-    choice-role e = behind 18 (rw e)
+    pub choice-stage : (r.acceptor ≡ true) ⊎ ((r.acceptor ≡ false) × (r.stage ≡ 2 → ⊥)) → 18 ≡ call_refusal r (choice_rows r m fit kind)
+    choice-stage (inl e) = behind 18 (rw e)
+    choice-stage (inr h) = behind 18 (rw (h.0, ne_eqb r.stage 2 h.1))
 
-    module _ (i : r.acceptor ≡ false) where
-      pub choice-stage : (r.stage ≡ 2 → ⊥) → 18 ≡ call_refusal r (choice_rows r m fit kind)
-      choice-stage h = behind 18 (rw (i, ne_eqb r.stage 2 h))
+    module _ (i : r.acceptor ≡ false) (s : r.stage ≡ 2) (b : Bool) (b-is : b ≡ below r.count m) where
+      may : may_choose r ≡ true
+      may = rw (i, eq-eqb r.stage 2 s)
 
-      module _ (s : r.stage ≡ 2) (b : Bool) (b-is : b ≡ below r.count m) where
-        may : may_choose r ≡ true
-        may = rw (i, eq-eqb r.stage 2 s)
+      pub choice-marks : b ≡ false → 19 ≡ call_refusal r (choice_rows r m fit kind)
+      choice-marks e = behind 19 (rw (may, ← b-is, e))
 
-        pub choice-marks : b ≡ false → 19 ≡ call_refusal r (choice_rows r m fit kind)
-        choice-marks e = behind 19 (rw (may, ← b-is, e))
+      module _ (t : b ≡ true) where
+        pub choice-unfit : fit ≡ false → 25 ≡ call_refusal r (choice_rows r m fit kind)
+        choice-unfit e = behind 25 (rw (may, ← b-is, t, e))
 
-        module _ (t : b ≡ true) where
-          pub choice-unfit : fit ≡ false → 25 ≡ call_refusal r (choice_rows r m fit kind)
-          choice-unfit e = behind 25 (rw (may, ← b-is, t, e))
+        module _ (keeps : fit ≡ true) (l : Left) (l-is : l ≡ left_of (open_places r.kept r.common m)) where
+          pub choice-none : l.left ≡ 0 → 17 ≡ call_refusal r (choice_rows r m fit kind)
+          choice-none e = behind 17 (rw (may, ← b-is, t, keeps, ← open_none r.list r.count l (open_to r m) l-is e))
 
-          module _ (keeps : fit ≡ true) (l : Left) (l-is : l ≡ left_of (open_places r.kept r.common m)) where
-            pub choice-none : l.left ≡ 0 → 17 ≡ call_refusal r (choice_rows r m fit kind)
-            choice-none e = behind 17 (rw (may, ← b-is, t, keeps, ← open_none r.list r.count l (open_to r m) l-is e))
+          module _ (some : l.left ≡ 0 → ⊥) (v : Bool) (v-is : v ≡ (r.attested && eqb l.place r.requested)) (p : Option ℕ)
+              (p-is : p ≡ allowed (after 2 0 v kind)) where
+            place : place_after (chose r m) kind ≡ after 2 0 v kind
+            unfolding writing
+            place =
+                ap (λ (a : Bool). after (writing a 3) 0 (r.attested && eqb (first_place (open_to r m)) r.requested) kind) i
+                ∙ ap (λ (k : ℕ). after 2 0 (r.attested && eqb k r.requested) kind) (first-place (open_to r m) l l-is some)
+                ∙ ap (λ (x : Bool). after 2 0 x kind) (sym v-is)
 
-            module _ (some : l.left ≡ 0 → ⊥) (v : Bool) (v-is : v ≡ (r.attested && eqb l.place r.requested)) (p : ℕ)
-                (p-is : p ≡ after 2 0 v kind) where
-              place : place_after (chose r m) kind ≡ p
-              unfolding writing
-              place =
-                  ap (λ (a : Bool). after (writing a 3) 0 (r.attested && eqb (first_place (open_to r m)) r.requested) kind) i
-                  ∙ ap (λ (k : ℕ). after 2 0 (r.attested && eqb k r.requested) kind) (first-place (open_to r m) l l-is some)
-                  ∙ ap (λ (x : Bool). after 2 0 x kind) (sym v-is) ∙ sym p-is
+            pub choice-kind : is_some p ≡ false → 18 ≡ call_refusal r (choice_rows r m fit kind)
+            choice-kind e =
+                behind 18
+                (rw (may, ← b-is, t, keeps, ← open-some r.list r.count l (open_to r m) l-is some, place, place-none (after 2 0 v kind) p p-is e))
 
-              pub choice-kind : p ≡ 0 → 18 ≡ call_refusal r (choice_rows r m fit kind)
-              choice-kind e = behind 18 (rw (may, ← b-is, t, keeps, ← open-some r.list r.count l (open_to r m) l-is some, place, eq-eqb p 0 e))
+            pub choice-some : is_some p ≡ true → 0 ≡ call_refusal r (choice_rows r m fit kind)
+            choice-some e =
+                behind 0
+                (rw (may, ← b-is, t, keeps, ← open-some r.list r.count l (open_to r m) l-is some, place, place-some (after 2 0 v kind) p p-is e))
 
-              pub choice-some : (p ≡ 0 → ⊥) → 0 ≡ call_refusal r (choice_rows r m fit kind)
-              choice-some e = behind 0 (rw (may, ← b-is, t, keeps, ← open-some r.list r.count l (open_to r m) l-is some, place, ne_eqb p 0 e))
-
-pub ruleset choice-refusals = (limits-stop, choice-role, choice-stage, choice-kind, choice-marks, choice-unfit, choice-none, choice-some)
+pub ruleset choice-refusals = (choice-marks, choice-unfit, choice-none, choice-kind, choice-some)
 
 -- ---- the record after the choice, and the answer
 module _ (r : Record) (m : ℕ) (y : ChoiceReady r m) (l : Left) (l-is : l ≡ left_of (open_places r.kept r.common m)) where
@@ -140,9 +139,9 @@ decide-last : (xs : List Row) (x : Row) (r : Record) (d : List ℕ) (action : Ou
 decide-last [] x r d action h = refl
 decide-last (y ∷ xs) x r d action h = rw h.0 (decide-last xs x r d action h.1)
 
-module _ (r : Record) (m : ℕ) (fit : Bool) (kind n : ℕ) (n-is : n ≡ call_refusal r (choice_rows r m fit kind)) (z : n ≡ 0) where
+module _ (r : Record) (m : ℕ) (fit : Bool) (kind : ℕ) (z : 0 ≡ call_refusal r (choice_rows r m fit kind)) where
   given : AllTrue (limit_rows r ++ choice_rows r m fit kind)
-  given = call-given r (choice_rows r m fit kind) n n-is refl z
+  given = call-given r (choice_rows r m fit kind) refl z
 
   role : r.acceptor ≡ false
   role = let (may, rest) =
@@ -167,7 +166,7 @@ module _ (r : Record) (m : ℕ) (fit : Bool) (kind n : ℕ) (n-is : n ≡ call_r
       limits-chose r (front-true (limit_rows r) (choice_rows r m fit kind) given) m role marks in
       (l1, (l2, (l3, (l4, (l5, (l6, (l7, (l8, (l9, (l10, (l11, (speaks, (keeps, (chosen-allowed r m kept some, tt))))))))))))))
 
-module _ (r : Record) (d : List ℕ) (m : ℕ) (s : Speech) (n : ℕ) (n-is : n ≡ call_refusal r (choice_rows r m (speech_fits s) (class_in s))) where
+module _ (r : Record) (d : List ℕ) (m : ℕ) (s : Speech) where
   abbrev rows : List Row
   rows = limit_rows r ++ choice_rows r m (speech_fits s) (class_in s)
 
@@ -177,29 +176,31 @@ module _ (r : Record) (d : List ℕ) (m : ℕ) (s : Speech) (n : ℕ) (n-is : n 
   abbrev message : Outcome
   message = appended (chose r m) d (place_after (chose r m) (class_in s)) (spoken (chose r m) s) (spoken_as (chose r m) s)
 
-  pub choose-refused : (n ≡ 0 → ⊥) → (a : Answer) → a ≡ answered n 0 r → ◌≡◌ {A = Outcome} (record { answer = a; transcript = d }) (choosing r d m s)
+  pub choose-refused : (e : Refusal) → number_of e ≡ call_refusal r (choice_rows r m (speech_fits s) (class_in s)) → (a : Answer)
+      → a ≡ answered (number_of e) 0 r → ◌≡◌ {A = Outcome} (record { answer = a; transcript = d }) (choosing r d m s)
   unfolding choosing call_refusal
-  choose-refused h a a-is =
-      let is : n ≡ first_failing (rows ++ (last ∷ [])) = n-is ∙ first-stop rows (last ∷ []) (λ e. h (n-is ∙ e)) in
-      rw (a-is, is) (decide-refused (rows ++ (last ∷ [])) r d (naming (named (own_of r) (open_to r m)) message) (λ e. h (is ∙ e)))
+  choose-refused e e-is a a-is =
+      let some : number_of e ≡ 0 → ⊥ = λ z. omega (arith, number_some e) in
+      let is : number_of e ≡ first_failing (rows ++ (last ∷ [])) = e-is ∙ first-stop rows (last ∷ []) (λ z. some (e-is ∙ z)) in
+      rw (a-is, is) (decide-refused (rows ++ (last ∷ [])) r d (naming (named (own_of r) (open_to r m)) message) (λ z. some (is ∙ z)))
 
-  module _ (z : n ≡ 0) where
+  module _ (z : 0 ≡ call_refusal r (choice_rows r m (speech_fits s) (class_in s))) where
     said : speaking (chose r m) d s ≡ cond (leb (r.used + length (spoken (chose r m) s)) (room d)) message (refused (chose r m) d 16 0)
     unfolding speaking
     said = decide-last (stage_rows (chose r m) (class_in s) ++ named_rows (chose r m) (speech_fits s)) last (chose r m) d message
-        (passed r m (speech_fits s) (class_in s) n n-is z)
+        (passed r m (speech_fits s) (class_in s) z)
 
     chosen : choosing r d m s ≡ cond (leb (r.used + length (spoken (chose r m) s)) (room d)) (naming (named (own_of r) (open_to r m)) message)
         (refused r d 16 0)
     unfolding choosing
-    chosen = decide-last rows last r d (naming (named (own_of r) (open_to r m)) message) (given r m (speech_fits s) (class_in s) n n-is z)
+    chosen = decide-last rows last r d (naming (named (own_of r) (open_to r m)) message) (given r m (speech_fits s) (class_in s) z)
 
-    pub choose-made : (q : Record) → q ≡ chose r m → (v : Speech) → v ≡ s → (o : Answer) (d' : List ℕ)
-        → ◌≡◌ {A = Outcome} (record { answer = o; transcript = d' }) (speaking q d v) → (a : Answer) → a ≡ named_choice r m o
+    pub choose-made : (q : Record) → q ≡ chose r m → (o : Answer) (d' : List ℕ)
+        → ◌≡◌ {A = Outcome} (record { answer = o; transcript = d' }) (speaking q d s) → (a : Answer) → a ≡ named_choice r m o
         → ◌≡◌ {A = Outcome} (record { answer = a; transcript = d' }) (choosing r d m s)
-    choose-made q q-is v v-is o d' o_is a a-is =
+    choose-made q q-is o d' o_is a a-is =
         let w : ◌≡◌ {A = Outcome} (record { answer = o; transcript = d' }) (speaking (chose r m) d s) =
-        o_is ∙ ap (speaking q d) v-is ∙ ap (λ (x : Record). speaking x d s) q-is in
+        o_is ∙ ap (λ (x : Record). speaking x d s) q-is in
         let e : ◌≡◌ {A = Outcome} (record { answer = a; transcript = d' }) (record { answer = named_choice r m o; transcript = d' }) =
         ap (λ (x : Answer). record { answer = x; transcript = d' }) a-is in
         e ∙ ap then (w ∙ said) ∙ (by-room (leb (r.used + length (spoken (chose r m) s)) (room d)) ∙ sym chosen) where
@@ -210,5 +211,3 @@ module _ (r : Record) (d : List ℕ) (m : ℕ) (s : Speech) (n : ℕ) (n-is : n 
               → then (cond b message (refused (chose r m) d 16 0)) ≡ cond b (naming (named (own_of r) (open_to r m)) message) (refused r d 16 0)
           by-room true = refl
           by-room false = refl
-
-pub ruleset choosings = (choose-refused, choose-ready, choose-made)

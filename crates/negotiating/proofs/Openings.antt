@@ -13,7 +13,6 @@ use borrow.Author.Tests.{eqb-true, leb-true}
 use Rattle.octets.proofs.Bools.{and_l, and_r}
 use Rattle.message.specs.Show.{ids_of}
 use Rattle.message.proofs.Ids.{length_ids}
-use Rattle.put.specs.Put.{put, Written}
 use Rattle.schemes.specs.Lists.{distinct, one_to16, list_ok}
 use Rattle.schemes.specs.Sets.{pad_to}
 use Rattle.schemes.proofs.Offers.{paste-pad}
@@ -23,20 +22,20 @@ use Rattle.conversation.specs.State.{fresh}
 use Rattle.conversation.specs.Outcomes.{zero_id, answered}
 use Rattle.conversation.specs.Writing.{opening}
 
--- a list put into zeros has zeros after it
-pub put-zeros : (n : ℕ) (own : List ℕ) → length own ≤ n → put (replicate n 0) 0 own ≡ pad_to n own
-unfolding put
-put-zeros n own h =
-    ap (λ (v : List ℕ). v ++ drop (0 + length own) (replicate n 0)) (sym (take-length own))
-    ∙ simp sub-zero at (paste-pad n [] own 0 (length own) refl refl (omega arith))
+-- a list in front of zeros
+pub in-zeros : (n : ℕ) (own : List ℕ) → length own ≤ n → own ++ drop (length own) (replicate n 0) ≡ pad_to n own
+in-zeros n own h =
+    let e : 0 + length own ≡ length own = omega arith in
+    ap (λ (v : List ℕ). v ++ drop (length own) (replicate n 0)) (sym (take-length own))
+    ∙ rw e at (simp sub-zero at (paste-pad n [] own 0 (length own) refl refl (omega arith)))
 
-pub freshly : (acceptor : Bool) (own conversation list : List ℕ) (k : ℕ) → length own ≤ 256 → Written (replicate 256 0) 0 (length own) own list k
+pub freshly : (acceptor : Bool) (own conversation v : List ℕ) → length own ≤ 256 → v ≡ own
     → ◌≡◌ {A = Record}
     (record {
       acceptor = acceptor;
       stage = 0;
       position = 0;
-      list = list;
+      list = v ++ drop (length own) (replicate 256 0);
       count = length own / 16;
       conversation = conversation;
       marks = 0;
@@ -51,7 +50,7 @@ pub freshly : (acceptor : Bool) (own conversation list : List ℕ) (k : ℕ) →
       used = 0;
     })
     (fresh acceptor own conversation)
-freshly acceptor own conversation list k h w = let e : list ≡ pad_to 256 own = w.holds ∙ put-zeros 256 own h in rw e
+freshly acceptor own conversation v h v-is = rw (v-is, in-zeros 256 own h)
 
 -- an own list fits the record's array
 pub own-fits : (own : List ℕ) → list_ok own ≡ true → length own ≤ 256
@@ -76,5 +75,3 @@ module _ (acceptor : Bool) (own conversation : List ℕ) (b : Bool) (b-is : b �
 
 pub list-fits : (own : List ℕ) (b : Bool) → b ≡ list_ok own → b ≡ true → length own ≤ 256
 list-fits own b e t = own-fits own (sym e ∙ t)
-
-pub ruleset openings = (freshly, opens, opens_not, list-fits)

@@ -4,21 +4,17 @@ ghost use Rattle.conversation.specs.State.{fresh};
 ghost use Rattle.conversation.specs.Outcomes.{zero_id};
 ghost use Rattle.conversation.specs.Writing.{opening};
 
-use calls::answer;
+use calls::{accepted, refused};
 use conversation::{Answer, Record};
 use message::field;
-use put::put_octets;
+use refusal::Refusal;
 use schemes::list::list_ok;
-use vector::TokenPlace;
 
 // The conversation that a fresh record has: an acceptor has none yet.
 fn conversation_for(acceptor: bool, conversation: [u8; 16]) -> [u8; 16]
     ensures { result ≡ cond acceptor zero_id conversation }
 {
-    if acceptor {
-        return [0u8; 16];
-    }
-    conversation
+    if acceptor { [0u8; 16] } else { conversation }
 }
 
 // A record with nothing used.
@@ -27,8 +23,7 @@ fn fresh_record(acceptor: bool, own: &[u8], conversation: [u8; 16]) -> Record
     ensures { result ≡ fresh acceptor own.now conversation }
 {
     let mut list = [0u8; 256];
-    put_octets(&mut list, 0, own);
-    let kept = [0u8; 16];
+    list[..own.len()].copy_from_slice(own);
     Record {
         acceptor,
         stage: Record::OPENING,
@@ -38,7 +33,7 @@ fn fresh_record(acceptor: bool, own: &[u8], conversation: [u8; 16]) -> Record
         conversation,
         marks: 0,
         common: 0,
-        kept,
+        kept: [0u8; 16],
         metadata: 0,
         requested: Record::NONE,
         chosen: Record::NONE,
@@ -53,11 +48,10 @@ fn fresh_record(acceptor: bool, own: &[u8], conversation: [u8; 16]) -> Record
 pub fn open(acceptor: bool, own: &[u8], conversation: [u8; 16]) -> Answer
     ensures { result ≡ opening acceptor own.now conversation }
 {
-    if list_ok(own) {
-        let id = conversation_for(acceptor, conversation);
-        let next = fresh_record(acceptor, own, id);
-        return answer(0, TokenPlace(0), next);
+    if !list_ok(own) {
+        let none = fresh_record(acceptor, &own[..0], [0u8; 16]);
+        return refused(Refusal::Argument, none);
     }
-    let none = fresh_record(acceptor, &own[..0], [0u8; 16]);
-    answer(19, TokenPlace(0), none)
+    let id = conversation_for(acceptor, conversation);
+    accepted(fresh_record(acceptor, own, id))
 }

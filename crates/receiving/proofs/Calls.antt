@@ -14,6 +14,8 @@ use Rattle.message.specs.Check.{first_failing}
 use Rattle.message.proofs.Tables.{AllTrue}
 use Rattle.token.specs.Token.{refused as cut_at, chain_of, passes}
 use Rattle.put.specs.Put.{Written}
+use Rattle.refusal.specs.declared.Refusal.{Refusal}
+use Rattle.refusal.specs.Refusals.{number_of}
 use Rattle.conversation.specs.declared.Record.{Record}
 use Rattle.conversation.specs.declared.Scan.{Scan}
 use Rattle.conversation.specs.declared.Answer.{Answer}
@@ -31,9 +33,12 @@ use Rattle.calls.proofs.Refusals.{limits-inside, limits-stop, limits-on, call-re
 use Rattle.receiving.specs.Receiving.{judged_as, Taking, Judging, halted_as}
 
 -- 18 and 1
-module _ (r : Record) (size n : ℕ) (n-is : n ≡ first_failing (limit_rows r)) (z : n ≡ 0) (a : Bool) (a-is : a ≡ may_read r) where
+pub before-limits : (r : Record) (size : ℕ) (e : Refusal) → number_of e ≡ first_failing (limit_rows r) → number_of e ≡ call_refusal r (token_rows r size)
+before-limits r size = limits-stop r (token_rows r size)
+
+module _ (r : Record) (size : ℕ) (z : 0 ≡ first_failing (limit_rows r)) (a : Bool) (a-is : a ≡ may_read r) where
   behind : (x : ℕ) → x ≡ first_failing (token_rows r size) → x ≡ call_refusal r (token_rows r size)
-  behind = limits-on r (token_rows r size) n n-is z
+  behind = limits-on r (token_rows r size) z
 
   pub before-turn : a ≡ false → 18 ≡ call_refusal r (token_rows r size)
   before-turn e = behind 18 (rw (← a-is, e))
@@ -44,7 +49,7 @@ module _ (r : Record) (size n : ℕ) (n-is : n ≡ first_failing (limit_rows r))
   pub before-none : a ≡ true → size ≤ 65535 → 0 ≡ call_refusal r (token_rows r size)
   before-none e h = behind 0 (rw (← a-is, e, le-leb _ _ h))
 
-pub ruleset befores = (limits-stop, before-turn, before-long, before-none)
+pub ruleset befores = (before-turn, before-long, before-none)
 
 -- a token's messages are no more than its octets
 few : (r : Record) (t s : List ℕ) (k at q : ℕ) (v : List ℕ) (n : ℕ) (c : Scan) (m : ℕ) (d : Scan) → judge r t n c (chain_of s k at q v) ≡ whole m d
@@ -131,14 +136,15 @@ module _ (r : Record) (d t : List ℕ) (j : Judgement) where
 pub ruleset finishes = (halted-answer, whole-answer, accept-is, finish-halted, finish-taking, finish-16, finish-room, finish-accepted)
 
 -- the whole call
-module _ (r : Record) (d t : List ℕ) (n : ℕ) (n-is : n ≡ call_refusal r (token_rows r (length t))) where
-  pub read-refused : (n ≡ 0 → ⊥) → (a : Answer) → a ≡ answered n 0 r → ◌≡◌ {A = Outcome} (record { answer = a; transcript = d }) (reading_token r d t)
+module _ (r : Record) (d t : List ℕ) where
+  pub read-refused : (e : Refusal) → number_of e ≡ call_refusal r (token_rows r (length t)) → (a : Answer) → a ≡ answered (number_of e) 0 r
+      → ◌≡◌ {A = Outcome} (record { answer = a; transcript = d }) (reading_token r d t)
   unfolding reading_token
-  read-refused e a a-is = rw a-is (call-refused r (token_rows r (length t)) n n-is d (finish r d t (judged r t)) e)
+  read-refused e e-is a a-is = rw a-is (call-refused r (token_rows r (length t)) e e-is d (finish r d t (judged r t)))
 
-  module _ (z : n ≡ 0) where
+  module _ (z : 0 ≡ call_refusal r (token_rows r (length t))) where
     given : AllTrue (limit_rows r ++ token_rows r (length t))
-    given = call-given r (token_rows r (length t)) n n-is refl z
+    given = call-given r (token_rows r (length t)) refl z
 
     pub read-inside : Inside r
     read-inside = limits-inside r (token_rows r (length t)) given
@@ -152,6 +158,6 @@ module _ (r : Record) (d t : List ℕ) (n : ℕ) (n-is : n ≡ call_refusal r (t
 
       pub read-on : (x : Outcome) → x ≡ finish r d t (judged_as j) → x ≡ reading_token r d t
       unfolding reading_token
-      read-on x x-is = x-is ∙ ap (finish r d t) j-is ∙ call-passed r (token_rows r (length t)) n n-is refl z d (finish r d t (judged r t))
+      read-on x x-is = x-is ∙ ap (finish r d t) j-is ∙ call-passed r (token_rows r (length t)) refl z d (finish r d t (judged r t))
 
 pub ruleset calls = (read-refused, read-inside, read_short, read-judging, read-on)

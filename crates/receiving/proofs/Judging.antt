@@ -28,8 +28,8 @@ use Rattle.conversation.specs.declared.Scan.{Scan}
 use Rattle.conversation.specs.Turns.{reads}
 use Rattle.conversation.specs.Admitting.{Admitted, admit}
 use Rattle.conversation.specs.Reading.{conversation_of, start_of, Judged, whole, halted, then_judge, judge, judged}
-use Rattle.admitting.specs.declared.Admission.{Admission}
-use Rattle.admitting.specs.declared.Admission.TheVariants as admission
+use Rattle.std.proofs.Common.{Result, Ok, Err}
+use Rattle.refusal.specs.declared.Refusal.{Refusal}
 use Rattle.admitting.specs.Admissions.{admitted}
 use Rattle.admitting.proofs.Admits.{admitted-named}
 use Rattle.receiving.specs.declared.Judgement.{Judgement}
@@ -42,12 +42,6 @@ module _ (place : ℕ) where
 
   pub cut-not : (m : Result Header Refusal) (h : Header) → m ≡ Ok h → halted 0 place ≡ cut_by (said m) place
   cut-not m h e = sym (ap (λ (z : Result Header Refusal). cut_by (said z) place) e)
-
-  pub halted-here : (a : Admission) (n : ℕ) → a ≡ admission.Stop n → halted n place ≡ halted_by (admitted a) place
-  halted-here a n e = sym (ap (λ (z : Admission). halted_by (admitted z) place) e)
-
-  pub halted-not : (a : Admission) (c : Scan) → a ≡ admission.On c → halted 0 place ≡ halted_by (admitted a) place
-  halted-not a c e = sym (ap (λ (z : Admission). halted_by (admitted z) place) e)
 
 -- what is carried into the first message
 module _ (r : Record) (c : Scan) (c-is : c ≡ start_of r) where
@@ -71,7 +65,7 @@ module _ (rest : List ℕ) (q : ℕ) (v : List ℕ) (m : Result Header Refusal) 
   pub place-fits : (at L : ℕ) → at + length rest ≡ L → L ≤ 65535 → at + h.length < 18446744073709551616
   place-fits at L e w = omega (arith, here)
 
-  module _ (r : Record) (t : List ℕ) (c : Scan) (a : Admission) (a-is : admitted a ≡ admit r t c (take h.length rest)) where
+  module _ (r : Record) (t : List ℕ) (c : Scan) (a : Result Scan Refusal) (a-is : admitted a ≡ admit r t c (take h.length rest)) where
     judged-here : (at n : ℕ) → judge r t n c (chain_of rest 0 at q v)
         ≡ then_judge (admitted a) at (λ d. judge r t (n + 1) d (chain_of (drop h.length rest) 0 (at + h.length) (q + 1) v))
     unfolding judge
@@ -81,15 +75,15 @@ module _ (rest : List ℕ) (q : ℕ) (v : List ℕ) (m : Result Header Refusal) 
         (size_is rest q v m m-is h m-reads)
         ∙ ap (λ (z : Admitted). then_judge z at (λ d. judge r t (n + 1) d (chain_of (drop h.length rest) 0 (at + h.length) (q + 1) v))) (sym a-is)
 
-    pub judge-stopped : (at n : ℕ) (x : Judged) → x ≡ judge r t n c (chain_of rest 0 at q v) → (k : ℕ) → a ≡ admission.Stop k → (y : Judgement)
+    pub judge-stopped : (at n : ℕ) (x : Judged) → x ≡ judge r t n c (chain_of rest 0 at q v) → (k : Refusal) → a ≡ Err k → (y : Judgement)
         → judged_as y ≡ halted_by (admitted a) at → judged_as y ≡ x
     judge-stopped at n x inv k e y y-is =
-        y-is ∙ ap (λ (z : Admission). halted_by (admitted z) at) e
+        y-is ∙ ap (λ (z : Result Scan Refusal). halted_by (admitted z) at) e
         ∙ sym (inv ∙ judged-here at n
-        ∙ ap (λ (z : Admission). then_judge (admitted z) at
+        ∙ ap (λ (z : Result Scan Refusal). then_judge (admitted z) at
         (λ d. judge r t (n + 1) d (chain_of (drop h.length rest) 0 (at + h.length) (q + 1) v))) e)
 
-    module _ (d : Scan) (a-on : a ≡ admission.On d) where
+    module _ (d : Scan) (a-on : a ≡ Ok d) where
       pub judge-named : (n : ℕ) → c.named ≤ n → d.named ≤ n + 1
       judge-named n w = let u = admitted-named r t c (take h.length rest) d (sym a-is ∙ ap admitted a-on) in omega arith
 
@@ -97,7 +91,7 @@ module _ (rest : List ℕ) (q : ℕ) (v : List ℕ) (m : Result Header Refusal) 
           → x ≡ judge r t (n + 1) d (chain_of (take (length rest - h.length) (drop h.length rest)) 0 next (q + 1) v)
       judge-on at n x inv next next-is =
           inv ∙ judged-here at n
-          ∙ ap (λ (z : Admission). then_judge (admitted z) at
+          ∙ ap (λ (z : Result Scan Refusal). then_judge (admitted z) at
           (λ e. judge r t (n + 1) e (chain_of (drop h.length rest) 0 (at + h.length) (q + 1) v))) a-on
           ∙ ap (λ (l : List ℕ). judge r t (n + 1) d (chain_of l 0 (at + h.length) (q + 1) v)) (sym (tail_all rest h.length))
           ∙ ap (λ (k : ℕ). judge r t (n + 1) d (chain_of (take (length rest - h.length) (drop h.length rest)) 0 k (q + 1) v)) (sym next-is)
@@ -124,7 +118,7 @@ module _ (r : Record) (t rest : List ℕ) (at q : ℕ) (v : List ℕ) (n : ℕ) 
         failed : (passes rest q v ≡ false) × (first_failing (next_rows rest q v) ≡ number_of f)
         failed = unfold next_verdict in verdict-refused (next_rows rest q v) (fields_of (head_of rest)) (number_of f) (sym m-is ∙ ap said e)
 
-pub ruleset refusals = (cut-here, cut-not, halted-here, halted-not)
+pub ruleset refusals = (cut-here, cut-not)
 
 pub ruleset judgings = (
   start-named,

@@ -9,7 +9,6 @@ ghost use Rattle.admitting.specs.Admissions.{admitted};
 ghost use Rattle.receiving.specs.Receiving.{judged_as, cut_by, halted_by};
 
 use super::Judgement;
-use admitting::Admission;
 use admitting::admit::admit_message;
 use conversation::turns::reading_token;
 use conversation::{Record, Scan, Turn};
@@ -30,12 +29,12 @@ fn cut_at(reading: Result<Header, Refusal>, place: TokenPlace) -> Judgement
 }
 
 // A message that 14 or 15 stop, at its place.
-fn halted_at(admission: Admission, place: TokenPlace) -> Judgement
+fn halted_at(admission: Result<Scan, Refusal>, place: TokenPlace) -> Judgement
     ensures { judged_as result ≡ halted_by (admitted admission) place.0 }
 {
     match admission {
-        Admission::Stop(n) => Judgement::Halted(n, place),
-        Admission::On(_) => Judgement::Halted(0, place),
+        Err(refusal) => Judgement::Halted(refusal.number(), place),
+        Ok(_) => Judgement::Halted(0, place),
     }
 }
 
@@ -69,7 +68,7 @@ fn judge_messages(r: Record, t: &[u8], conversation: &[u8]) -> Judgement
         };
         let length = h.length as usize;
         let admission = admit_message(r, t, scan, &rest[..length]);
-        let Admission::On(next) = admission else {
+        let Ok(next) = admission else {
             return halted_at(admission, place);
         };
         rest = &rest[length..];

@@ -2,17 +2,19 @@
 #![tactic(auto)]
 
 ghost use Rattle.std.specs.Prelude.{◌≡◌, ◌+◌, ◌≤◌, length};
+ghost use Rattle.refusal.specs.Refusals.{refusal_number};
 ghost use Rattle.conversation.specs.Outcomes.{leaving, closed_by};
 ghost use Rattle.conversation.specs.Reading.{accepted, finish, token_rows, reading_token};
 ghost use Rattle.calls.specs.Calls.{call_refusal};
 ghost use Rattle.receiving.specs.Receiving.{Taking, Judging, judged_as, halted_as};
 
-use calls::{answer, has_room};
-use conversation::limits::outside;
+use calls::{answer, has_room, refused};
+use conversation::limits::check_limits;
 use conversation::turns::may_read;
 use conversation::{Answer, Record, Scan};
 use judge::judge_token;
 use put::put_octets;
+use refusal::Refusal;
 use taken::taken_record;
 use vector::TokenPlace;
 
@@ -26,21 +28,18 @@ pub enum Judgement {
     Halted(u32, TokenPlace),
 }
 
-// 18 and 1: the first that refuses before any message is looked at, or 0.
-fn refusal_before(r: Record, size: usize) -> u32
-    ensures { result ≡ call_refusal r (token_rows r size) }
+// 18 and 1, before any message is looked at.
+fn check_before(r: Record, size: usize) -> Result<(), Refusal>
+    ensures { refusal_number result ≡ call_refusal r (token_rows r size) }
 {
-    let number = outside(r);
-    if number != 0 {
-        return number;
-    }
-    if may_read(r) {} else {
-        return 18;
+    check_limits(r)?;
+    if !may_read(r) {
+        return Err(Refusal::Stage);
     }
     if 65535 < size {
-        return 1;
+        return Err(Refusal::TooLong);
     }
-    0
+    Ok(())
 }
 
 // The record after a token's refusal: 12 closes it.
@@ -100,9 +99,8 @@ fn finish_token(r: Record, transcript: &mut [u8], t: &[u8], judgement: Judgement
 pub fn read(r: Record, transcript: &mut [u8], token: &[u8]) -> Answer
     ensures { leaving result transcript.new ≡ reading_token r transcript.old token.now }
 {
-    let number = refusal_before(r, token.len());
-    if number != 0 {
-        return answer(number, TokenPlace(0), r);
+    if let Err(refusal) = check_before(r, token.len()) {
+        return refused(refusal, r);
     }
     let judgement = judge_token(r, token);
     finish_token(r, transcript, token, judgement)

@@ -1,38 +1,30 @@
 -- The kept places inside the own list: one turn of the test, in the words of the code, and what runs keep.
 -- Assumes nothing.
-use Prim.Native.Nat.{ℕ, suc, ◌+◌, ◌*◌, ◌/◌, ◌^◌, ◌≤◌, ◌<◌}
-use mathlib.Core.Path.{◌≡◌, refl, sym, ◌∙◌}
+use Prim.Native.Nat.{ℕ, suc, ◌+◌, ◌*◌, ◌/◌, ◌^◌, ◌<◌}
+use mathlib.Core.Path.{◌≡◌, refl, sym}
 use mathlib.Core.Bool.{Bool, true, false, cond, not, ◌&&◌, ◌||◌}
 use mathlib.Core.List.{List, [], ◌∷◌, ◌++◌}
 use native.Mathlib.Nat.{pow-suc}
-use native.Mathlib.Numerals.{add-one}
 use native.Mathlib.Omega.{arith}
-use lib.ListN.{length, get_or, drop, drop_of_length-le}
-use lib.Seq.{drop-cons}
+use lib.ListN.{length, get_or}
 use lib.Dec.{ltb}
+use lib.Pow.{shr-shr}
+use Rattle.std.specs.List.{list_all, enumerate_from}
+use Rattle.schemes.proofs.Digits.{bit-shift}
 use borrow.Author.Tests.{lt-ltb, ltb-true}
 use Rattle.octets.proofs.Bools.{both}
 use Rattle.schemes.specs.Lists.{Id, place, bit}
 use Rattle.schemes.specs.Sets.{has, noted, mentions, kept_places, open_places, kept_below, pad_to}
 use Rattle.schemes.specs.Answers.{left_of}
 
-module _ (ks : List ℕ) (sized : length ks ≡ 16) (n k m : ℕ) (x : Bool) (inv : x ≡ kept_below n (drop k ks) m) where
-  pub below_end : 16 ≤ k → true ≡ x
-  unfolding kept_below
-  below_end h = let g : length ks ≤ k = omega arith in sym (inv ∙ rw (drop_of_length-le ks g))
-
-  module _ (more : k < 16) (b : Bool) (b-is : b ≡ (not (bit m 0) || ltb (get_or ks k 0) n)) where
-    step : x ≡ b && kept_below n (drop (k + 1) ks) (m / 2)
-    unfolding kept_below
-    step = let g : k < length ks = omega arith in inv ∙ rw (drop-cons ks k 0 g, ← b-is, add-one)
-
-    pub below-stop : b ≡ false → false ≡ x
-    below-stop t = sym (step ∙ rw t)
-
-    pub below-pass : b ≡ true → x ≡ kept_below n (drop (k + 1) ks) (m / 2)
-    below-pass t = step ∙ rw t
-
-pub ruleset limits = (below_end, below-stop, below-pass)
+-- the test of each place, beside its number
+pub kept-all : (n j c : ℕ) (ks : List ℕ) → list_all (λ (p : ℕ × ℕ). not (bit c p.0) || ltb p.1 n) (enumerate_from j ks) ≡ kept_below n ks (c / 2 ^ j)
+unfolding kept_below
+kept-all n j c [] = refl
+kept-all n j c (k ∷ ks) =
+    let b : bit (c / 2 ^ j) 0 ≡ bit c j = bit-shift c j in
+    let h : c / 2 ^ (j + 1) ≡ c / 2 ^ j / 2 = sym (shr-shr c j 1) in
+    rw (b, ← h, ← kept-all n (j + 1) c ks) refl
 
 -- ---- for callers: the places that an end keeps lie inside its list
 abbrev pub AllBelow : ℕ → List ℕ → Type 0

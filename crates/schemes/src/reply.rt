@@ -1,12 +1,12 @@
 // The own places that the initiator keeps of a reply.
-ghost use Rattle.std.specs.Prelude.{◌≡◌, not, ◌||◌, ◌*◌, ◌≤◌, length, ltb};
+ghost use Rattle.std.specs.Prelude.{◌≡◌, ◌*◌, ◌≤◌, length};
 ghost use Rattle.message.specs.Show.{ids_at, ids_of};
-ghost use Rattle.schemes.specs.Lists.{bit};
 ghost use Rattle.schemes.specs.Sets.{noted, kept_places, kept_below};
 ghost use Rattle.schemes.specs.Answers.{kept_of, places_in, Noting};
 
 use super::Kept;
 use super::list::find;
+use super::set::bit_of;
 use message::field;
 
 // The kept places with p behind them, where p is one of n places and not there yet.
@@ -43,23 +43,9 @@ pub fn kept_places(own: &[u8], n: usize, peer: &[u8]) -> Kept
     kept
 }
 
-// Whether a place is one of n, where the set's lowest bit asks for it.
-fn place_within(p: u8, set: u16, n: u32) -> bool
-    ensures { result ≡ (not (bit set 0) || ltb p n) }
-{
-    set % 2 == 0 || (p as u32) < n
-}
-
 // Whether every kept place at a bit of the set is one of n.
 pub fn kept_within(kept: [u8; 16], common: u16, n: u32) -> bool
     ensures { result ≡ kept_below n kept common }
 {
-    let mut set = common;
-    for place in &kept {
-        if !place_within(*place, set, n) {
-            return false;
-        }
-        set /= 2;
-    }
-    true
+    kept.iter().enumerate().all(|(k, place)| !bit_of(common, k as u32) || (*place as u32) < n)
 }

@@ -8,7 +8,7 @@ use mathlib.Core.List.{List, [], ◌∷◌}
 use native.Mathlib.Omega.{arith}
 use lib.ListN.{length, get_or}
 use lib.Dec.{eqb, ltb}
-use borrow.Author.Tests.{eq-eqb, ne_eqb, lt-ltb, ltb-true, eqb-true, eqb-false, not-true}
+use borrow.Author.Tests.{lt-ltb, ltb-true, eqb-true, eqb-false, not-true}
 use Rattle.message.proofs.Ids.{length_ids, id-at}
 use Rattle.octets.proofs.Bools.{which, no_true, and_l, and_r}
 use Rattle.octets.specs.Octets.{octets, same_octets}
@@ -19,34 +19,11 @@ use Rattle.schemes.specs.declared.Left.{Left}
 use Rattle.schemes.proofs.Ids.{mem-place}
 use Rattle.conversation.specs.declared.Record.{Record}
 use Rattle.conversation.specs.State.{own_of, scheme_at, replied}
-use Rattle.conversation.specs.Turns.{writing}
-use Rattle.conversation.specs.Writing.{some_left, starts_with, scheme_now, first_of_reply, scheme_allowed}
+use Rattle.conversation.specs.Writing.{some_left, starts_with, first_of_reply}
 use Rattle.calls.specs.Calls.{Inside}
 use Rattle.conversation.specs.Claims.{Arrays}
 use Rattle.calls.proofs.Sizes.{own-sized}
 use Rattle.calls.proofs.Lefts.{own-none, own-some, own-place, own-starts}
-
-module _ (r : Record) (t : ℕ) (t-is : t ≡ writing r.acceptor r.stage) where
-  pub now-first : t ≡ 0 → 0 ≡ scheme_now r
-  unfolding scheme_now
-  now-first e = rw (← t-is, e)
-
-  module _ (f : t ≡ 0 → ⊥) where
-    pub now-answer : t ≡ 1 → r.requested ≡ scheme_now r
-    unfolding scheme_now
-    now-answer e = rw (← t-is, e)
-
-    pub now-later : (t ≡ 1 → ⊥) → r.chosen ≡ scheme_now r
-    unfolding scheme_now
-    now-later e = rw (← t-is, ne_eqb t 0 f, ne_eqb t 1 e)
-
-  pub allowed-answer : t ≡ 1 → (b : Bool) → b ≡ first_of_reply r → b ≡ scheme_allowed r
-  allowed-answer e b b-is = b-is ∙ rw (← t-is, eq-eqb t 1 e)
-
-  pub allowed-other : (t ≡ 1 → ⊥) → (p : ℕ) → p ≡ scheme_now r → ltb p r.count ≡ scheme_allowed r
-  allowed-other e p p-is = rw (← t-is, ne_eqb t 1 e, p-is)
-
-pub ruleset nows = (now-first, now-answer, now-later, allowed-answer, allowed-other)
 
 -- an id of the own list has 16 octets
 pub own-id : (r : Record) → Arrays r → r.count ≤ 16 → (k : ℕ) → k < r.count → length (scheme_at r k) ≡ 16
@@ -115,5 +92,3 @@ module _ (r : Record) (b : Inside r) (z : Left) (z-is : z ≡ left_of (left_plac
           go (inr e) (inl l) (inl s) =
               absurd (eqb-false _ _ e
               (sym (place_at z.place inside) ∙ ap (place (own_of r)) (sym (same-eq _ _ s)) ∙ place_at r.requested (ltb-true _ _ l)))
-
-pub ruleset firsts = (first-empty, first-same)

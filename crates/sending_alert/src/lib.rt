@@ -10,15 +10,14 @@ ghost use Rattle.conversation.specs.Writing.{alarm, speaking, alert_content};
 ghost use Rattle.conversation.specs.Choosing.{choosing};
 ghost use Rattle.calls.specs.Calls.{Ready, Appended};
 
-use calls::answer;
 use calls::next::{after_message, heading_of};
+use calls::{accepted, refused};
 use conversation::{Answer, Class, Record};
 use elements::{Elements, fits, size_of};
 use encode_alert::write;
 use message::Kind;
-use negotiating::choice::{choice_refusal, chosen_record, name_choice};
-use sending::{named_refusal, scheme_id};
-use vector::TokenPlace;
+use negotiating::choice::choose_and;
+use sending::{check_named, scheme_id};
 
 // The header of an ALERT.
 const HEADER: usize = Kind::ALERT_HEADER_LEN;
@@ -55,13 +54,11 @@ pub fn write_alert(
 {
     let fit = fits(alerts, values);
     let size = size_of(alerts, values);
-    let number = named_refusal(r, Class::ALERT, fit, HEADER, size, transcript.len());
-    if number != 0 {
-        return answer(number, TokenPlace(0), r);
+    if let Err(refusal) = check_named(r, Class::ALERT, fit, HEADER, size, transcript.len()) {
+        return refused(refusal, r);
     }
     let id = scheme_id(r);
-    let next = append_alert(r, transcript, id, code, alerts, values);
-    answer(0, TokenPlace(0), next)
+    accepted(append_alert(r, transcript, id, code, alerts, values))
 }
 
 // Chooses, and writes an ALERT of the chosen scheme. Where it is refused, nothing is chosen and nothing written.
@@ -77,11 +74,12 @@ pub fn choose_alert(
         (alarm (alert_content code alerts values.now)) }
 {
     let fit = fits(alerts, values);
-    let number = choice_refusal(r, Class::ALERT, marks, fit);
-    if number != 0 {
-        return answer(number, TokenPlace(0), r);
-    }
-    let next = chosen_record(r, marks);
-    let written = write_alert(next, transcript, code, alerts, values);
-    name_choice(r, marks, written)
+    choose_and(
+        r,
+        transcript,
+        Class::ALERT,
+        marks,
+        fit,
+        |chosen, transcript| write_alert(chosen, transcript, code, alerts, values),
+    )
 }

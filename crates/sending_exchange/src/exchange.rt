@@ -6,15 +6,14 @@ ghost use Rattle.conversation.specs.Writing.{request, requested_by, speaking};
 ghost use Rattle.conversation.specs.Choosing.{choosing};
 ghost use Rattle.calls.specs.Calls.{Ready, Appended};
 
-use calls::answer;
 use calls::next::{after_message, heading_of};
+use calls::{accepted, refused};
 use conversation::turns::writing_token;
-use conversation::{Answer, Class, Record};
+use conversation::{Answer, Class, Record, Turn};
 use encode_exchange::write;
 use message::Kind;
-use negotiating::choice::{choice_refusal, chosen_record, name_choice};
-use sending::{named_refusal, scheme_id};
-use vector::TokenPlace;
+use negotiating::choice::choose_and;
+use sending::{check_named, scheme_id};
 
 // The header of an exchange and of metadata.
 pub(crate) const HEADER: usize = Kind::EXCHANGE_HEADER as usize;
@@ -31,53 +30,50 @@ pub(crate) fn append_payload(
     ensures { Appended r transcript.old class (of_exchange (record { scheme = id; value = value.now }))
         transcript.new result }
 {
-    let heading = heading_of(r, class);
-    let length = value.len();
-    write(transcript, r.used, heading, id, value);
-    after_message(r, class, HEADER + length)
+    write(transcript, r.used, heading_of(r, class), id, value);
+    after_message(r, class, HEADER + value.len())
 }
 
 // Where an initiator's AP_REQUEST of the first token is kept: it has named place 0.
 fn requested_by(r: Record) -> usize
     ensures { result ≡ requested_by r }
 {
-    if writing_token(r.acceptor, r.stage) == 0 {
-        return 0;
+    match writing_token(r.acceptor, r.stage) {
+        Turn::FIRST => 0,
+        _ => r.requested,
     }
-    r.requested
 }
 
 // Writes an exchange of the rule's scheme.
 pub fn write_exchange(r: Record, transcript: &mut [u8], value: &[u8]) -> Answer
     ensures { leaving result transcript.new ≡ speaking r transcript.old (request value.now) }
 {
-    let number = named_refusal(
+    if let Err(refusal) = check_named(
         r,
         Class::EXCHANGE,
         true,
         HEADER,
         value.len(),
         transcript.len(),
-    );
-    if number != 0 {
-        return answer(number, TokenPlace(0), r);
+    ) {
+        return refused(refusal, r);
     }
     let id = scheme_id(r);
     let requested = requested_by(r);
-    let mut next = append_payload(r, transcript, Class::EXCHANGE, id, value);
-    next.requested = requested;
-    answer(0, TokenPlace(0), next)
+    let next = append_payload(r, transcript, Class::EXCHANGE, id, value);
+    accepted(Record { requested, ..next })
 }
 
 // Chooses, and writes an AP_REQUEST of the chosen scheme. Where it is refused, nothing is chosen and nothing written.
 pub fn choose_exchange(r: Record, transcript: &mut [u8], marks: u16, value: &[u8]) -> Answer
     ensures { leaving result transcript.new ≡ choosing r transcript.old marks (request value.now) }
 {
-    let number = choice_refusal(r, Class::EXCHANGE, marks, true);
-    if number != 0 {
-        return answer(number, TokenPlace(0), r);
-    }
-    let next = chosen_record(r, marks);
-    let written = write_exchange(next, transcript, value);
-    name_choice(r, marks, written)
+    choose_and(
+        r,
+        transcript,
+        Class::EXCHANGE,
+        marks,
+        true,
+        |chosen, transcript| write_exchange(chosen, transcript, value),
+    )
 }

@@ -15,9 +15,6 @@ use Rattle.conversation.specs.declared.Record.{Record}
 use Rattle.conversation.specs.Writing.{extension_rows}
 use Rattle.sending_nego.specs.Ready.{tested, NegoReady}
 
-pub types-tested : (test : Bool) (e : Elements) → test ≡ false → (b : Bool) → b ≡ types_ordinary e → b ≡ (test || types_ordinary e)
-types-tested test e h b b-is = rw h b-is
-
 module _ (test : Bool) (e : Elements) (v : List ℕ) (f : Bool) (f-is : f ≡ elements_fit e v) where
   pub extension-unfit : f ≡ false → 25 ≡ first_failing (extension_rows (tested test e v))
   extension-unfit h = rw (← f-is, h)

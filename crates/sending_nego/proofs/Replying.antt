@@ -2,7 +2,8 @@
 -- Assumes nothing.
 use Prim.Native.Nat.{ℕ, ◌+◌, ◌*◌, ◌-◌, ◌%◌, ◌≤◌, ◌<◌}
 use mathlib.Core.Path.{◌≡◌, refl, sym, ap, ◌∙◌}
-use mathlib.Core.Bool.{Bool, true, false}
+use mathlib.Core.Bool.{Bool, true, false, not}
+use borrow.Author.Tests.{not-true, not-false}
 use mathlib.Core.List.{List, [], ◌∷◌, ◌++◌}
 use native.Mathlib.Omega.{arith}
 use lib.ListN.{length, take, replicate, length-append}
@@ -22,6 +23,9 @@ use Rattle.schemes.specs.Answers.{left_places, left_of, schemes_of}
 use Rattle.schemes.specs.declared.Left.{Left}
 use Rattle.schemes.specs.declared.Schemes.{Schemes}
 use Rattle.schemes.proofs.Offers.{join-length, gathered-octets}
+use Rattle.refusal.specs.declared.Refusal.{Refusal}
+use Rattle.refusal.specs.Refusals.{number_of}
+use Rattle.refusal.proofs.Numbers.{number_some}
 use Rattle.conversation.specs.declared.Record.{Record}
 use Rattle.conversation.specs.declared.Answer.{Answer}
 use Rattle.conversation.specs.State.{own_of}
@@ -43,44 +47,44 @@ listed r m = left (own_of r) r.common m
 abbrev reply_size : Record → ℕ → NegoContent → ℕ
 reply_size r m g = 96 + 16 * length (listed r m) + handed_size g.extensions g.values
 
-module _ (r : Record) (n : ℕ) (n-is : n ≡ stage_refusal r 1) (z : n ≡ 0) where
-  limits : Inside r
-  limits = stage-inside r 1 n n-is z
+pub reply-few : (r : Record) → 0 ≡ stage_refusal r 1 → r.count ≤ 16
+reply-few r z = (stage-inside r 1 z).few
 
-  pub reply-few : r.count ≤ 16
-  reply-few = limits.few
-
-module _ (r : Record) (m : ℕ) (g : NegoContent) (len n : ℕ) (n-is : n ≡ stage_refusal r 1) where
+module _ (r : Record) (m : ℕ) (g : NegoContent) (len : ℕ) where
   abbrev refusal : ℕ
   refusal = write_refusal r 1 (reply_rows r m g) (reply_size r m g) len
 
-  pub reply-stage : (n ≡ 0 → ⊥) → n ≡ refusal
-  reply-stage = write-stage r 1 (reply_rows r m g) (reply_size r m g) len n n-is
+  pub reply-stage : (e : Refusal) → number_of e ≡ stage_refusal r 1 → number_of e ≡ refusal
+  reply-stage = write-stage r 1 (reply_rows r m g) (reply_size r m g) len
 
-  module _ (z : n ≡ 0) where
+  module _ (z : 0 ≡ stage_refusal r 1) where
     abbrev last : List Row
     last = row 17 (some_left (listed r m)) ∷ row 16 (room_for r.used (reply_size r m g) len) ∷ []
 
     behind : (x : ℕ) → x ≡ first_failing (row 18 r.acceptor ∷ row 19 (below r.count m) ∷ (extension_rows g ++ last)) → x ≡ refusal
-    behind = write-on r 1 (reply_rows r m g) (reply_size r m g) len n n-is z
+    behind = write-on r 1 (reply_rows r m g) (reply_size r m g) len z
 
-    pub reply-role : r.acceptor ≡ false → 18 ≡ refusal
-    reply-role e = behind 18 (rw e)
+    pub reply-role : not r.acceptor ≡ true → 18 ≡ refusal
+    reply-role e = behind 18 (rw (not-true r.acceptor e))
 
-    module _ (i : r.acceptor ≡ true) (b : Bool) (b-is : b ≡ below r.count m) where
+    module _ (e : not r.acceptor ≡ false) (b : Bool) (b-is : b ≡ below r.count m) where
+      i : r.acceptor ≡ true
+      i = not-false r.acceptor e
+
       pub reply-marks : b ≡ false → 19 ≡ refusal
       reply-marks e = behind 19 (rw (i, ← b-is, e))
 
-      module _ (t : b ≡ true) (x : ℕ) (x-is : x ≡ first_failing (extension_rows g)) where
-        pub reply-extensions : (x ≡ 0 → ⊥) → x ≡ refusal
-        reply-extensions h = behind x (rw (i, ← b-is, t) (x-is ∙ first-stop (extension_rows g) last (λ e. h (x-is ∙ e))))
+      module _ (t : b ≡ true) where
+        pub reply-extensions : (e : Refusal) → number_of e ≡ first_failing (extension_rows g) → number_of e ≡ refusal
+        reply-extensions e e-is =
+            behind (number_of e) (rw (i, ← b-is, t) (e-is ∙ first-stop (extension_rows g) last (λ w. omega (arith, number_some e, e-is ∙ w))))
 
-        module _ (w : x ≡ 0) (l : Left) (l-is : l ≡ left_of (left_places 16 r.common m)) where
+        module _ (w : 0 ≡ first_failing (extension_rows g)) (l : Left) (l-is : l ≡ left_of (left_places 16 r.common m)) where
           within : Inside r
-          within = limits r n n-is z
+          within = stage-inside r 1 z
 
           passed : AllTrue (extension_rows g)
-          passed = first-none (extension_rows g) refl (sym x-is ∙ w)
+          passed = first-none (extension_rows g) refl (sym w)
 
           pub reply-none : l.left ≡ 0 → 17 ≡ refusal
           reply-none e =
@@ -166,8 +170,7 @@ module _ (r : Record) (d : List ℕ) (m : ℕ) (random : List ℕ) (e : Elements
         )
 
 -- ---- the call, by its refusal
-module _ (r : Record) (arrays : Arrays r) (d : List ℕ) (m : ℕ) (g : NegoContent) (full : length g.random ≡ 32) (n : ℕ)
-    (n-is : n ≡ write_refusal r 1 (reply_rows r m g) (reply_size r m g) (length d)) where
+module _ (r : Record) (arrays : Arrays r) (d : List ℕ) (m : ℕ) (g : NegoContent) (full : length g.random ≡ 32) where
   abbrev answer : Contents
   answer = nego_in g (join_ids (listed r m))
 
@@ -180,22 +183,23 @@ module _ (r : Record) (arrays : Arrays r) (d : List ℕ) (m : ℕ) (g : NegoCont
   whole : Inside r → AllTrue (reply_rows r m g) → Whole answer × (size_of answer ≡ reply_size r m g)
   whole i t = (full, measure i.few t.1.1.0)
 
-  pub reply-refused : (n ≡ 0 → ⊥) → (a : Answer) → a ≡ answered n 0 r → ◌≡◌ {A = Outcome} (record { answer = a; transcript = d }) (replying r d m g)
+  pub reply-refused : (e : Refusal) → number_of e ≡ write_refusal r 1 (reply_rows r m g) (reply_size r m g) (length d) → (a : Answer)
+      → a ≡ answered (number_of e) 0 r → ◌≡◌ {A = Outcome} (record { answer = a; transcript = d }) (replying r d m g)
   unfolding replying
-  reply-refused h a a-is = write-refused r arrays d 1 (reply_rows r m g) answer (reply_size r m g) whole n n-is h a a-is _
+  reply-refused e e-is a a-is = write-refused r arrays d 1 (reply_rows r m g) answer (reply_size r m g) whole e e-is a a-is _
 
-  module _ (z : n ≡ 0) where
+  module _ (z : 0 ≡ write_refusal r 1 (reply_rows r m g) (reply_size r m g) (length d)) where
     pub reply-ready : ReplyReady r d m g.random g.extensions g.values
     unfolding type_of
     reply-ready =
-        let few = (passed-inside r 1 (reply_rows r m g) (reply_size r m g) (length d) n n-is z refl).few in
-        let own = passed-own r 1 (reply_rows r m g) (reply_size r m g) (length d) n n-is z refl in
+        let few = (passed-inside r 1 (reply_rows r m g) (reply_size r m g) (length d) z refl).few in
+        let own = passed-own r 1 (reply_rows r m g) (reply_size r m g) (length d) z refl in
         let keeps : elements_fit g.extensions g.values ≡ true = own.1.1.0 in
         let p : length (join_ids (listed r m)) % 16 ≡ 0 = (let q = joined few in omega arith) in
         record {
           nego = record {
             ready =
-                write-ready r d 1 (reply_rows r m g) (reply_size r m g) n n-is z refl answer (measure few keeps)
+                write-ready r d 1 (reply_rows r m g) (reply_size r m g) z refl answer (measure few keeps)
                 (p, (handed g.extensions g.values keeps).fit) refl refl;
             keeps = keeps;
           };
@@ -206,4 +210,4 @@ module _ (r : Record) (arrays : Arrays r) (d : List ℕ) (m : ℕ) (g : NegoCont
         (appended r d (place_after r 1) (message_of r 1 answer)
         (record { marks = m; metadata = r.metadata; requested = r.requested; attested = r.attested })) → o ≡ replying r d m g
     unfolding replying
-    reply-written o e = e ∙ write-passed r arrays d 1 (reply_rows r m g) answer (reply_size r m g) whole n n-is z refl _
+    reply-written o e = e ∙ write-passed r arrays d 1 (reply_rows r m g) answer (reply_size r m g) whole z refl _

@@ -1,5 +1,6 @@
 // What the two NEGOs share: their extensions, and the message at the transcript's end.
 ghost use Rattle.std.specs.Prelude.{◌≡◌, ◌||◌, ◌≤◌};
+ghost use Rattle.refusal.specs.Refusals.{refusal_number};
 ghost use Rattle.elements.specs.Elements.{items_of, types_ordinary};
 ghost use Rattle.encode.specs.Encode.{nego_of};
 ghost use Rattle.message.specs.Check.{first_failing};
@@ -13,6 +14,7 @@ use conversation::{Class, Record};
 use elements::{Elements, are_ordinary, fits, size_of};
 use encode_nego::write;
 use message::Kind;
+use refusal::Refusal;
 
 // The header of a NEGO.
 pub(crate) const HEADER: usize = Kind::NEGO_HEADER_LEN;
@@ -22,23 +24,25 @@ fn types_allowed(test: bool, extensions: Elements) -> bool
     requires { extensions.count ≤ 8 }
     ensures { result ≡ (test || types_ordinary extensions) }
 {
-    if test {
-        return true;
-    }
-    are_ordinary(extensions)
+    test || are_ordinary(extensions)
 }
 
-// 25 and 26 of extensions: the first that refuses, or 0.
-pub(crate) fn extension_refusal(test: bool, extensions: Elements, values: &[u8]) -> u32
-    ensures { result ≡ first_failing (extension_rows (tested test extensions values.now)) }
+// 25 and 26 of extensions.
+#[tactic(auto, using(crate::proofs::Extensions::extensions))]
+pub(crate) fn check_extensions(
+    test: bool,
+    extensions: Elements,
+    values: &[u8],
+) -> Result<(), Refusal>
+    ensures { refusal_number result ≡ first_failing (extension_rows (tested test extensions values.now)) }
 {
-    if fits(extensions, values) {} else {
-        return 25;
+    if !fits(extensions, values) {
+        return Err(Refusal::ContentLimit);
     }
-    if types_allowed(test, extensions) {} else {
-        return 26;
+    if !types_allowed(test, extensions) {
+        return Err(Refusal::CriticalWritten);
     }
-    0
+    Ok(())
 }
 
 // A NEGO of either end at the transcript's end.
@@ -55,10 +59,9 @@ pub(crate) fn append_nego(
         transcript.new result }
 {
     let heading = heading_of(r, Class::NEGO);
-    let length = schemes.len();
     let size = size_of(extensions, values);
     write(
         transcript, r.used, heading, random, schemes, extensions, values,
     );
-    after_message(r, Class::NEGO, HEADER + length + size)
+    after_message(r, Class::NEGO, HEADER + schemes.len() + size)
 }

@@ -1,5 +1,6 @@
 // ACCEPTOR_NEGO.
 ghost use Rattle.std.specs.Prelude.{◌≡◌, ◌+◌, ◌*◌, length};
+ghost use Rattle.refusal.specs.Refusals.{refusal_number};
 ghost use Rattle.elements.specs.Elements.{items_of, handed_size};
 ghost use Rattle.encode.specs.Encode.{nego_of};
 ghost use Rattle.schemes.specs.Lists.{join_ids};
@@ -11,51 +12,45 @@ ghost use Rattle.conversation.specs.Writing.{message_of, reply_rows, naming, rep
 ghost use Rattle.calls.specs.Calls.{write_refusal};
 ghost use Rattle.sending_nego.specs.Ready.{tested, ReplyReady};
 
-use super::nego::{HEADER, append_nego, extension_refusal};
-use calls::{answer, has_room, naming, stage_refusal};
+use super::nego::{HEADER, append_nego, check_extensions};
+use calls::{check_stage, has_room, naming, refused};
 use conversation::{Answer, Class, Record};
 use elements::{Elements, size_of};
 use message::field;
+use refusal::Refusal;
 use schemes::choosing::choose_own;
 use schemes::list::id_of;
 use schemes::offer::gather;
 use schemes::set::within;
-use vector::TokenPlace;
 
-fn reply_refusal(
+fn check_reply(
     r: Record,
     marks: u16,
     test: bool,
     extensions: Elements,
     values: &[u8],
     len: usize,
-) -> u32
-    ensures { result ≡ write_refusal r NEGO (reply_rows r marks (tested test extensions values.now))
+) -> Result<(), Refusal>
+    ensures { refusal_number result ≡ write_refusal r NEGO (reply_rows r marks (tested test extensions values.now))
         (96 + 16 * length (left (own_of r) r.common marks) + handed_size extensions values.now) len }
 {
-    let stage = stage_refusal(r, Class::NEGO);
-    if stage != 0 {
-        return stage;
+    check_stage(r, Class::NEGO)?;
+    if !r.acceptor {
+        return Err(Refusal::Stage);
     }
-    if r.acceptor {} else {
-        return 18;
+    if !within(marks, r.count as u32) {
+        return Err(Refusal::Argument);
     }
-    if within(marks, r.count as u32) {} else {
-        return 19;
-    }
-    let extension = extension_refusal(test, extensions, values);
-    if extension != 0 {
-        return extension;
-    }
+    check_extensions(test, extensions, values)?;
     let left = choose_own(r.common, marks);
     if left.left == 0 {
-        return 17;
+        return Err(Refusal::NoCommonScheme);
     }
     let size = size_of(extensions, values);
-    if has_room(r.used, HEADER + field::ID * left.left as usize, size, len) {} else {
-        return 16;
+    if !has_room(r.used, HEADER + field::ID * left.left as usize, size, len) {
+        return Err(Refusal::Room);
     }
-    0
+    Ok(())
 }
 
 // The reply, with the common schemes less the marks and with extensions, and the choice by these alone.
@@ -77,11 +72,10 @@ fn reply_with(
     let schemes = gather(list, r.count, r.common & !marks);
     let end = field::ID * schemes.count as usize;
     let octets = schemes.octets;
-    let mut next = append_nego(r, transcript, random, &octets[..end], extensions, values);
-    next.marks = marks;
+    let next = append_nego(r, transcript, random, &octets[..end], extensions, values);
     let choice = choose_own(r.common, marks);
     let id = id_of(list, choice.place);
-    naming(next, id, choice.left)
+    naming(Record { marks, ..next }, id, choice.left)
 }
 
 // Writes the acceptor's NEGO, and answers its own choice, which does not bind the initiator.
@@ -97,9 +91,8 @@ pub fn write_reply(
     ensures { leaving result transcript.new ≡ replying r transcript.old marks
         (nego_content random test extensions values.now) }
 {
-    let number = reply_refusal(r, marks, test, extensions, values, transcript.len());
-    if number != 0 {
-        return answer(number, TokenPlace(0), r);
+    if let Err(refusal) = check_reply(r, marks, test, extensions, values, transcript.len()) {
+        return refused(refusal, r);
     }
     reply_with(r, transcript, marks, random, extensions, values)
 }

@@ -9,14 +9,13 @@ ghost use Rattle.conversation.specs.Writing.{checksum as Speech·checksum, speak
 ghost use Rattle.conversation.specs.Choosing.{choosing};
 ghost use Rattle.calls.specs.Calls.{Ready, Appended};
 
-use calls::answer;
 use calls::next::{after_message, heading_of};
+use calls::{accepted, refused};
 use conversation::{Answer, Class, Record};
 use encode_verify::write;
 use message::Kind;
-use negotiating::choice::{choice_refusal, chosen_record, name_choice};
-use sending::{named_refusal, scheme_id};
-use vector::TokenPlace;
+use negotiating::choice::choose_and;
+use sending::{check_named, scheme_id};
 
 // The header of a VERIFY.
 const HEADER: usize = Kind::VERIFY_HEADER as usize;
@@ -34,30 +33,30 @@ fn append_verify(
         transcript.new result }
 {
     let heading = heading_of(r, Class::VERIFY);
-    let length = value.len();
     write(transcript, r.used, heading, id, checksum, value);
-    after_message(r, Class::VERIFY, HEADER + length)
+    after_message(r, Class::VERIFY, HEADER + value.len())
 }
 
 // Writes a VERIFY of the chosen scheme: the checksum's type and its value.
 pub fn write_verify(r: Record, transcript: &mut [u8], checksum: i32, value: &[u8]) -> Answer
     ensures { leaving result transcript.new ≡ speaking r transcript.old (Speech·checksum checksum value.now) }
 {
-    let number = named_refusal(
+    if let Err(refusal) = check_named(
         r,
         Class::VERIFY,
         true,
         HEADER,
         value.len(),
         transcript.len(),
-    );
-    if number != 0 {
-        return answer(number, TokenPlace(0), r);
+    ) {
+        return refused(refusal, r);
     }
     let id = scheme_id(r);
-    let mut next = append_verify(r, transcript, id, checksum, value);
-    next.attested = true;
-    answer(0, TokenPlace(0), next)
+    let next = append_verify(r, transcript, id, checksum, value);
+    accepted(Record {
+        attested: true,
+        ..next
+    })
 }
 
 // Chooses, and writes a VERIFY of the chosen scheme. Where it is refused, nothing is chosen and nothing written.
@@ -71,11 +70,12 @@ pub fn choose_verify(
     ensures { leaving result transcript.new ≡ choosing r transcript.old marks
         (Speech·checksum checksum value.now) }
 {
-    let number = choice_refusal(r, Class::VERIFY, marks, true);
-    if number != 0 {
-        return answer(number, TokenPlace(0), r);
-    }
-    let next = chosen_record(r, marks);
-    let written = write_verify(next, transcript, checksum, value);
-    name_choice(r, marks, written)
+    choose_and(
+        r,
+        transcript,
+        Class::VERIFY,
+        marks,
+        true,
+        |chosen, transcript| write_verify(chosen, transcript, checksum, value),
+    )
 }

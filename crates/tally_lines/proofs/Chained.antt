@@ -98,23 +98,35 @@ module _ (ids counts : List ℕ) (k : ℕ) (x t : Text) where
   abbrev pub schemes_left : ℕ → ℕ → List (List ℕ)
   schemes_left n i = scheme_lines (ids_at n (drop (i * 16) ids)) (take n (drop i counts))
 
-  pub schemes-done : (n : ℕ) → x ≡ written (schemes_left n k) t → n ≤ 0 → t ≡ x
+  nothing-left : (n : ℕ) → x ≡ written (schemes_left n k) t → n ≤ 0 → t ≡ x
   unfolding scheme_lines ids_at
-  schemes-done zero inv h = sym (inv ∙ sym (nothing t))
-  schemes-done (suc n) inv h = absurd (omega arith)
+  nothing-left zero inv h = sym (inv ∙ sym (nothing t))
+  nothing-left (suc n) inv h = absurd (omega arith)
 
-  pub schemes-more : (n all : ℕ) → x ≡ written (schemes_left n k) t → 0 < n → k + n ≡ all → all ≤ length counts → (u : Text)
+  some-left : (n all : ℕ) → x ≡ written (schemes_left n k) t → 0 < n → k + n ≡ all → all ≤ length counts → (u : Text)
       → u ≡ written (scheme_line (take (k * 16 + 16 - k * 16) (drop (k * 16) ids)) (get_or counts k 0)) t
       → x ≡ written (schemes_left (n - 1) (k + 1)) u
   unfolding scheme_lines ids_at
-  schemes-more zero all inv h i l u e = absurd (omega arith)
-  schemes-more (suc n) all inv h i l u e =
+  some-left zero all inv h i l u e = absurd (omega arith)
+  some-left (suc n) all inv h i l u e =
       let z : k * 16 + 16 ≡ suc k * 16 = omega arith in
       let p : k * 16 + 16 - k * 16 ≡ 16 = omega arith in
       let s : schemes_left (suc n) k ≡ scheme_line (take 16 (drop (k * 16) ids)) (get_or counts k 0) ++ schemes_left n (k + 1) =
       rw (drop-cons counts k 0 (omega arith), add-one, drop-drop, z) in
       inv ∙ ap (λ (l : List (List ℕ)). written l t) s ∙ written-append _ _ t
       ∙ ap (written (schemes_left n (k + 1))) (sym (rw p at e)) ∙ simp sub-one
+
+  -- k of the n schemes are written
+  module _ (n : ℕ) (inv : x ≡ written (schemes_left (n - k) k) t) where
+    pub schemes-done : n ≤ k → t ≡ x
+    schemes-done h = nothing-left (n - k) inv (omega arith)
+
+    pub schemes-more : k < n → n ≤ length counts → (u : Text)
+        → u ≡ written (scheme_line (take (k * 16 + 16 - k * 16) (drop (k * 16) ids)) (get_or counts k 0)) t
+        → x ≡ written (schemes_left (n - (k + 1)) (k + 1)) u
+    schemes-more h l u e =
+        let f : n - k - 1 ≡ n - (k + 1) = omega arith in
+        some-left (n - k) n inv (omega arith) (omega arith) l u e ∙ ap (λ (i : ℕ). written (schemes_left i (k + 1)) u) f
 
 pub ruleset loops = (types-done, types_more, refusals-done, refusals-more, schemes-done, schemes-more)
 

@@ -34,10 +34,8 @@ fn type_lines(d: &mut [u8], at: usize, types: &[u64]) -> usize
     ensures { text d.new result ≡ written (type_lines 0 types.now) (text d.old at) }
 {
     let mut next = at;
-    let mut k: usize = 0;
-    while k < types.len() {
-        next = number_line(d, next, b"type ", k, types[k]);
-        k += 1;
+    for (k, count) in types.iter().enumerate() {
+        next = number_line(d, next, b"type ", k, *count);
     }
     next
 }
@@ -60,10 +58,8 @@ fn refused_lines(d: &mut [u8], at: usize, answers: &[u64]) -> usize
     ensures { text d.new result ≡ written (answer_lines 0 answers.now) (text d.old at) }
 {
     let mut next = at;
-    let mut k: usize = 0;
-    while k < answers.len() {
-        next = refused_line(d, next, k, answers[k]);
-        k += 1;
+    for (k, count) in answers.iter().enumerate() {
+        next = refused_line(d, next, k, *count);
     }
     next
 }
@@ -85,14 +81,10 @@ fn scheme_lines(d: &mut [u8], at: usize, ids: &[u8], counts: &[u64], count: usiz
         (text d.old at) }
 {
     let mut next = at;
-    let mut k: usize = 0;
-    let mut left = count;
-    while 0 < left {
+    for k in 0..count {
         let from = k * field::ID;
         let end = from + field::ID;
         next = scheme_line(d, next, &ids[from..end], counts[k]);
-        k += 1;
-        left -= 1;
     }
     next
 }
@@ -103,10 +95,7 @@ fn table_lines(d: &mut [u8], at: usize, table: Table) -> usize
     ensures { text d.new result ≡ written (scheme_lines (ids_at table.count table.ids) (take table.count table.counts))
         (text d.old at) }
 {
-    let ids = table.ids;
-    let counts = table.counts;
-    let count = table.count as usize;
-    scheme_lines(d, at, &ids, &counts, count)
+    scheme_lines(d, at, &table.ids, &table.counts, table.count as usize)
 }
 
 // The totals of octets.
@@ -122,8 +111,7 @@ fn octet_lines(d: &mut [u8], at: usize, t: Tally) -> usize
 fn last_lines(d: &mut [u8], at: usize, t: Tally, unopened: u64) -> usize
     ensures { text d.new result ≡ written (last_lines (totals_in t) unopened) (text d.old at) }
 {
-    let table = t.table;
-    let others_end = total_line(d, at, b"others count=", table.others);
+    let others_end = total_line(d, at, b"others count=", t.table.others);
     total_line(d, others_end, b"unopened count=", unopened)
 }
 
@@ -131,15 +119,12 @@ fn last_lines(d: &mut [u8], at: usize, t: Tally, unopened: u64) -> usize
 pub fn tally_text(d: &mut [u8], t: Tally, unopened: u64) -> usize
     ensures { text d.new result ≡ written (shown_text t unopened) (text d.old 0) }
 {
-    let types = t.types;
-    let answers = t.answers;
-    let table = t.table;
-    if 64 < table.count {
+    if 64 < t.table.count {
         return 0;
     }
-    let types_end = type_lines(d, 0, &types);
+    let types_end = type_lines(d, 0, &t.types);
     let octets_end = octet_lines(d, types_end, t);
-    let refusals_end = refused_lines(d, octets_end, &answers);
-    let schemes_end = table_lines(d, refusals_end, table);
+    let refusals_end = refused_lines(d, octets_end, &t.answers);
+    let schemes_end = table_lines(d, refusals_end, t.table);
     last_lines(d, schemes_end, t, unopened)
 }

@@ -2,160 +2,119 @@
 use envelope_script::{CHECKSUM, FLAGS, MECHANISM, TOKEN};
 use text::append;
 
-// A field's octets in the store, where it is there.
+// What the first line says that the text is; nothing before it, and no more once a line has another form.
+#[derive(Clone, Copy, PartialEq, Eq)]
+pub(crate) enum Kind {
+    Empty,
+    Init,
+    Resp,
+    Bad,
+}
+
+// The fields of an envelope in their order: first the mechanisms of an Init or the state of a Resp, second the flags of an Init or the mechanism of a Resp.
+#[derive(Clone, Copy, PartialEq, Eq, PartialOrd, Ord)]
+pub(crate) enum Place {
+    First,
+    Second,
+    Token,
+    Checksum,
+}
+
+// A field's octets in the store.
 #[derive(Clone, Copy)]
 pub(crate) struct Span {
-    pub(crate) there: bool,
     pub(crate) from: usize,
     pub(crate) to: usize,
 }
 
-// What is to be written, how far the fields have come, and the fields: of an Init `count` mechanisms, the first `list` octets of the store, and its flags;
-// of a Resp its state and its mechanism; of both the token and the checksum.
+// What is to be written, the last field, the octets used of the store, and the fields: of an Init `count` mechanisms, the first `list` octets of the store,
+// and its flags; of a Resp its state and its mechanism; of both the token and the checksum.
 #[derive(Clone, Copy)]
 pub(crate) struct Draft {
-    pub(crate) kind: u8,
-    pub(crate) stage: u8,
+    pub(crate) kind: Kind,
+    pub(crate) last: Option<Place>,
     pub(crate) used: usize,
     pub(crate) count: usize,
     pub(crate) list: usize,
-    pub(crate) stated: bool,
-    pub(crate) state: u8,
-    pub(crate) second: Span,
-    pub(crate) token: Span,
-    pub(crate) checksum: Span,
+    pub(crate) state: Option<u8>,
+    pub(crate) second: Option<Span>,
+    pub(crate) token: Option<Span>,
+    pub(crate) checksum: Option<Span>,
 }
 
 impl Draft {
     // No line yet.
-    pub(crate) const EMPTY: u8 = 0;
-
-    pub(crate) const INIT: u8 = 1;
-
-    pub(crate) const RESP: u8 = 2;
-
-    // A line of another form.
-    pub(crate) const BAD: u8 = 3;
-}
-
-fn no_span() -> Span {
-    Span {
-        there: false,
-        from: 0,
-        to: 0,
-    }
-}
-
-pub(crate) fn empty() -> Draft {
-    let none = no_span();
-    Draft {
-        kind: Draft::EMPTY,
-        stage: 0,
+    pub(crate) const EMPTY: Draft = Draft {
+        kind: Kind::Empty,
+        last: None,
         used: 0,
         count: 0,
         list: 0,
-        stated: false,
-        state: 0,
-        second: none,
-        token: none,
-        checksum: none,
-    }
+        state: None,
+        second: None,
+        token: None,
+        checksum: None,
+    };
 }
 
 pub(crate) fn bad(d: Draft) -> Draft {
-    let mut next = d;
-    next.kind = Draft::BAD;
-    next
+    Draft {
+        kind: Kind::Bad,
+        ..d
+    }
 }
 
 // The first line.
-pub(crate) fn started(d: Draft, kind: u8) -> Draft {
-    if d.kind != Draft::EMPTY {
+pub(crate) fn started(d: Draft, kind: Kind) -> Draft {
+    if d.kind != Kind::Empty {
         return bad(d);
     }
-    let mut next = d;
-    next.kind = kind;
-    next
+    Draft { kind, ..d }
 }
 
 // The state, the first field of a Resp.
 pub(crate) fn with_state(d: Draft, n: u32) -> Draft {
-    if d.kind != Draft::RESP {
+    if d.kind != Kind::Resp || d.last.is_some() || 255 < n {
         return bad(d);
     }
-    if d.stage != 0 {
-        return bad(d);
+    Draft {
+        last: Some(Place::First),
+        state: Some(n as u8),
+        ..d
     }
-    if 255 < n {
-        return bad(d);
-    }
-    let mut next = d;
-    next.stage = 1;
-    next.stated = true;
-    next.state = n as u8;
-    next
 }
 
-// The place of a field among those of an envelope, 0 where it has none.
-fn stage_of(kind: u8, field: u8) -> u8 {
-    if field == MECHANISM {
-        return kind;
+// The place of a field among those of an envelope, where it has one.
+fn place_of(kind: Kind, field: u8) -> Option<Place> {
+    match (kind, field) {
+        (Kind::Init, MECHANISM) => Some(Place::First),
+        (Kind::Init, FLAGS) => Some(Place::Second),
+        (Kind::Resp, MECHANISM) => Some(Place::Second),
+        (Kind::Init | Kind::Resp, TOKEN) => Some(Place::Token),
+        (Kind::Init | Kind::Resp, CHECKSUM) => Some(Place::Checksum),
+        _ => None,
     }
-    if field == FLAGS {
-        if kind == Draft::INIT {
-            return 2;
-        }
-        return 0;
-    }
-    if field == TOKEN {
-        return 3;
-    }
-    if field == CHECKSUM {
-        return 4;
-    }
-    0
 }
 
 // Whether a field may follow: it stands behind those before it, or is one more mechanism of an Init.
-fn follows(d: Draft, stage: u8) -> bool {
-    if d.stage < stage {
+fn follows(d: Draft, place: Place) -> bool {
+    let Some(last) = d.last else {
         return true;
-    }
-    if d.kind != Draft::INIT {
-        return false;
-    }
-    if d.stage != 1 {
-        return false;
-    }
-    stage == 1
+    };
+    last < place || d.kind == Kind::Init && last == Place::First && place == Place::First
 }
 
 // One mechanism more of an Init, whose octets end in the store at `to`.
 fn with_mechanism(d: Draft, n: usize, to: usize, sizes: &mut [usize]) -> Draft {
-    let count = d.count;
-    if count < sizes.len() {} else {
+    let Some(size) = sizes.get_mut(d.count) else {
         return bad(d);
+    };
+    *size = n;
+    Draft {
+        count: d.count + 1,
+        list: to,
+        ..d
     }
-    sizes[count] = n;
-    let mut next = d;
-    next.count = count + 1;
-    next.list = to;
-    next
-}
-
-// A field's octets kept as its place says.
-fn placed(d: Draft, stage: u8, span: Span) -> Draft {
-    let mut next = d;
-    if stage == 2 {
-        next.second = span;
-    }
-    if stage == 3 {
-        next.token = span;
-    }
-    if stage == 4 {
-        next.checksum = span;
-    }
-    next
 }
 
 // A field's octets, which are put into the store.
@@ -166,31 +125,33 @@ pub(crate) fn with_octets(
     store: &mut [u8],
     sizes: &mut [usize],
 ) -> Draft {
-    if d.kind == Draft::EMPTY {
+    let Some(place) = place_of(d.kind, field) else {
         return bad(d);
-    }
-    if d.kind == Draft::BAD {
-        return d;
-    }
-    let stage = stage_of(d.kind, field);
-    if stage == 0 {
-        return bad(d);
-    }
-    if follows(d, stage) {} else {
+    };
+    if !follows(d, place) {
         return bad(d);
     }
     let from = d.used;
     let to = append(store, from, v);
-    let mut next = d;
-    next.stage = stage;
-    next.used = to;
-    if stage == 1 {
-        return with_mechanism(next, v.len(), to, sizes);
-    }
-    let span = Span {
-        there: true,
-        from,
-        to,
+    let span = Some(Span { from, to });
+    let next = Draft {
+        last: Some(place),
+        used: to,
+        ..d
     };
-    placed(next, stage, span)
+    match place {
+        Place::First => with_mechanism(next, v.len(), to, sizes),
+        Place::Second => Draft {
+            second: span,
+            ..next
+        },
+        Place::Token => Draft {
+            token: span,
+            ..next
+        },
+        Place::Checksum => Draft {
+            checksum: span,
+            ..next
+        },
+    }
 }

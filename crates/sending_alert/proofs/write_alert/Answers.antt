@@ -8,24 +8,23 @@ use Rattle.sending.proofs.Named.{named-inside}
 use Rattle.sending_alert.proofs.Alerts.{alert-refused, alert-ready, alert-written}
 use Rattle.sending_alert.proofs.write_alert.Goals as goal
 
-pub returns-then-number-ne0 : goal.returns-then-number-ne0
-returns-then-number-ne0 c =
+pub returns-in-Err : goal.returns-in-Err
+returns-in-Err c =
     let g : AlertContent = record { code = c.args.code; alerts = c.args.alerts; values = c.args.values.now } in
     alert-refused _ (sized _ _ c.well_formed.0) _ g _ c.fits-fit.ensures _
-    c.size_of-size.ensures _ c.named_refusal-number.ensures c.if-number-ne0.true _ c.answer.ensures
+    c.size_of-size.ensures _ c.in-Err.ensures _ c.refused.ensures
 
 pub scheme_id-id-requires : goal.scheme_id-id-requires
-scheme_id-id-requires c = named-inside _ _ _ _ _ _ c.named_refusal-number.ensures c.if-number-ne0.false
+scheme_id-id-requires c = named-inside _ _ _ _ _ c.in_default.ensures
 
-pub append_alert-next-requires : goal.append_alert-next-requires
-append_alert-next-requires c =
+pub append_alert-requires : goal.append_alert-requires
+append_alert-requires c =
     let g : AlertContent = record { code = c.args.code; alerts = c.args.alerts; values = c.args.values.now } in
     alert-ready _ (sized _ _ c.well_formed.0) _ g _ c.fits-fit.ensures _
-    c.size_of-size.ensures _ c.named_refusal-number.ensures c.if-number-ne0.false _ _
+    c.size_of-size.ensures c.in_default.ensures _ _
 
 pub returns : goal.returns
 returns c =
     let f : SFits w32 c.args.code = search rules in
     let g : AlertContent = record { code = c.args.code; alerts = c.args.alerts; values = c.args.values.now } in
-    alert-written _ (sized _ _ c.well_formed.0) _ g _ c.fits-fit.ensures _ c.size_of-size.ensures _ c.named_refusal-number.ensures
-    c.if-number-ne0.false _ c.scheme_id-id.ensures _ (to_z-of_z f) _ _ c.append_alert-next.ensures _ c.answer-2.ensures
+    alert-written _ (sized _ _ c.well_formed.0) _ g _ c.fits-fit.ensures _ c.size_of-size.ensures c.in_default.ensures _ c.scheme_id-id.ensures _ (to_z-of_z f) _ _ c.append_alert.ensures _ c.accepted.ensures

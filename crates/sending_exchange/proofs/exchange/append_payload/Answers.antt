@@ -9,5 +9,5 @@ pub returns : goal.returns
 returns c =
     let full : length c.args.id ≡ 16 = search rules in
     let w = c.write in
-    let h = c.heading_of-heading in
+    let h = c.heading_of in
     appends _ (sized _ _ c.well_formed.0) _ _ _ full c.requires _ h.ensures w.result _ _ w.ensures refl _ c.after_message.ensures

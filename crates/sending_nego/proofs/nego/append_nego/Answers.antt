@@ -6,8 +6,8 @@ use Rattle.sending_nego.proofs.Extensions.{nego-size, nego-counted, nego-small}
 use borrow.Author.Rules.{rules}
 use Rattle.sending_nego.proofs.nego.append_nego.Goals as goal
 
-pub overflow_add-length-2 : goal.overflow_add-length-2
-overflow_add-length-2 c =
+pub overflow_add-schemes-2 : goal.overflow_add-schemes-2
+overflow_add-schemes-2 c =
     record { fits = nego-small _ _ _ _ _ _ c.requires _ c.size_of-size.ensures }
 
 pub after_message-requires : goal.after_message-requires

@@ -6,12 +6,12 @@ use Rattle.sending_nego.proofs.Offering.{offer-refused, offer-end, offer-list, o
 use borrow.Author.Rules.{rules}
 use Rattle.sending_nego.proofs.offer.write_offer.Goals as goal
 
-pub returns-then-number-ne0 : goal.returns-then-number-ne0
-returns-then-number-ne0 c =
+pub returns-in-Err : goal.returns-in-Err
+returns-in-Err c =
     let full : length c.args.random ≡ 32 = search rules in
     let g : NegoContent =
     record { random = c.args.random; test = c.args.test; extensions = c.args.extensions; values = c.args.values.now } in
-    offer-refused _ (sized _ _ c.well_formed.0) _ g full _ c.offer_refusal-number.ensures c.if-number-ne0.true _ c.answer.ensures
+    offer-refused _ (sized _ _ c.well_formed.0) _ g full _ c.in-Err.ensures _ c.refused.ensures
 
 pub overflow_mul-end : goal.overflow_mul-end
 overflow_mul-end c =
@@ -19,8 +19,7 @@ overflow_mul-end c =
     let g : NegoContent =
     record { random = c.args.random; test = c.args.test; extensions = c.args.extensions; values = c.args.values.now } in
     record {
-      fits = offer-end _ (sized _ _ c.well_formed.0) c.args.transcript.now g full _ c.offer_refusal-number.ensures
-          c.if-number-ne0.false;
+      fits = offer-end _ (sized _ _ c.well_formed.0) c.args.transcript.now g full c.in_default.ensures;
     }
 
 pub slice_bounds-list-end : goal.slice_bounds-list-end
@@ -28,29 +27,26 @@ slice_bounds-list-end c =
     let full : length c.args.random ≡ 32 = search rules in
     let g : NegoContent =
     record { random = c.args.random; test = c.args.test; extensions = c.args.extensions; values = c.args.values.now } in
-    offer-list _ (sized _ _ c.well_formed.0) c.args.transcript.now g full _ c.offer_refusal-number.ensures
-    c.if-number-ne0.false
+    offer-list _ (sized _ _ c.well_formed.0) c.args.transcript.now g full c.in_default.ensures
 
 pub slice_bounds-append_nego-end : goal.slice_bounds-append_nego-end
 slice_bounds-append_nego-end c =
     let full : length c.args.random ≡ 32 = search rules in
     let g : NegoContent =
     record { random = c.args.random; test = c.args.test; extensions = c.args.extensions; values = c.args.values.now } in
-    offer-part _ (sized _ _ c.well_formed.0) c.args.transcript.now g full _ c.offer_refusal-number.ensures
-    c.if-number-ne0.false
+    offer-part _ (sized _ _ c.well_formed.0) c.args.transcript.now g full c.in_default.ensures
 
 pub append_nego-next-requires : goal.append_nego-next-requires
 append_nego-next-requires c =
     let full : length c.args.random ≡ 32 = search rules in
     let g : NegoContent =
     record { random = c.args.random; test = c.args.test; extensions = c.args.extensions; values = c.args.values.now } in
-    offer-ready _ (sized _ _ c.well_formed.0) _ g full _ c.offer_refusal-number.ensures
-    c.if-number-ne0.false
+    offer-ready _ (sized _ _ c.well_formed.0) _ g full c.in_default.ensures
 
 pub returns : goal.returns
 returns c =
     let full : length c.args.random ≡ 32 = search rules in
     let g : NegoContent =
     record { random = c.args.random; test = c.args.test; extensions = c.args.extensions; values = c.args.values.now } in
-    offer-written _ (sized _ _ c.well_formed.0) _ g full _ c.offer_refusal-number.ensures c.if-number-ne0.false _ _
-    c.append_nego-next.ensures _ c.answer-2.ensures
+    offer-written _ (sized _ _ c.well_formed.0) _ g full c.in_default.ensures _ _
+    c.append_nego-next.ensures _ c.accepted.ensures

@@ -1,8 +1,0 @@
-use Rattle.conversation.proofs.Places.{turns}
-use Rattle.conversation.proofs.turns.class_of.Goals as goal
-
-pub returns-then-acceptor : goal.returns-then-acceptor
-returns-then-acceptor c = search turns
-
-pub returns : goal.returns
-returns c = search turns
