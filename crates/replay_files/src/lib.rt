@@ -6,11 +6,17 @@ ghost use Rattle.console.specs.Console.{Holds};
 use console::{STDOUT, load};
 use fields::part;
 use replay_case::{CaseText, read_case};
-use replaying::{Found, Marks};
+use replaying::Marks;
 use std::rt::Files;
 use turns::show_replay;
 
 mod turns;
+
+// What was read of a file, none where it could not be opened.
+fn file_of(loaded: Option<usize>, buf: &[u8]) -> Option<&[u8]> {
+    let octets = loaded?;
+    Some(part(buf, 0, octets))
+}
 
 // The marks of a side: four digits say no more than 65,535.
 fn marks_of(n: u32) -> u16 {
@@ -23,10 +29,6 @@ fn replay_files<R: Files>(rt: &R, c: CaseText, text: &[u8], ilist: &[u8], alist:
     let mut abuf = [0u8; 65536];
     let iloaded = load(rt, part(text, c.initiator.from, c.initiator.end), &mut ibuf);
     let aloaded = load(rt, part(text, c.acceptor.from, c.acceptor.end), &mut abuf);
-    let found = Found {
-        initiator: iloaded.is_some(),
-        acceptor: aloaded.is_some(),
-    };
     let marks = Marks {
         initiator: marks_of(c.i.marks),
         acceptor: marks_of(c.a.marks),
@@ -35,9 +37,8 @@ fn replay_files<R: Files>(rt: &R, c: CaseText, text: &[u8], ilist: &[u8], alist:
         ilist,
         alist,
         marks,
-        found,
-        part(&ibuf, 0, iloaded.unwrap_or(0)),
-        part(&abuf, 0, aloaded.unwrap_or(0)),
+        file_of(iloaded, &ibuf),
+        file_of(aloaded, &abuf),
     );
 }
 

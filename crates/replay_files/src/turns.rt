@@ -1,14 +1,14 @@
 // The turns of a replay, each played and then shown.
-ghost use Rattle.std.specs.Prelude.{◌≡◌, true};
-ghost use Rattle.sides.specs.Replay.{finished};
-ghost use Rattle.replaying.specs.Playing.{ending_as, summary, played_as, counted, rest_of, Fine};
+ghost use Rattle.std.specs.Prelude.{◌≡◌, true, is_none};
+ghost use Rattle.replaying.specs.Playing.{summary, played_as, counted, rest_of, Fine};
 
 use console::STDOUT;
 use conversation::Record;
 use fields::part;
 use replay_lines::{choice_line, end_line, turn_line};
+use replaying::before::octets_of;
 use replaying::play::{play_turn, start};
-use replaying::{Found, Marks, Replay};
+use replaying::{Marks, Replay};
 use schemes::list::id_of;
 
 // Writes the first n octets of d, where they are to be shown.
@@ -76,12 +76,12 @@ fn show_turns(
     d: &mut [u8],
     text: &mut [u8],
 ) -> Replay
-    requires { Fine ifile.now afile.now s × (s.more ≡ true) × (ending_as s.fault ≡ finished) }
+    requires { Fine ifile.now afile.now s × (is_none s.end ≡ true) }
     ensures { played_as result d.new ≡ counted s.turns
         (summary (rest_of marks ifile.now afile.now s d.old)) }
 {
     let mut replay = s;
-    while replay.more {
+    while replay.end.is_none() {
         let next = play_turn(replay, marks, ifile, afile, d);
         show_turn(replay, next, ifile, afile, text);
         replay = next;
@@ -91,7 +91,7 @@ fn show_turns(
 
 // Writes how a replay ended.
 fn show_end(r: Replay, text: &mut [u8]) {
-    let end = end_line(text, r.fault);
+    let end = end_line(text, r.end);
     print(text, end, true);
 }
 
@@ -100,17 +100,23 @@ pub(crate) fn show_replay(
     ilist: &[u8],
     alist: &[u8],
     marks: Marks,
-    found: Found,
-    ifile: &[u8],
-    afile: &[u8],
+    ifile: Option<&[u8]>,
+    afile: Option<&[u8]>,
 ) {
     let mut transcript = [0u8; 65535];
     let mut text = [0u8; 128];
-    let replay = start(ilist, alist, marks, found, ifile, afile);
-    if replay.more {
-        let played = show_turns(replay, marks, ifile, afile, &mut transcript, &mut text);
-        show_end(played, &mut text);
+    let replay = start(ilist, alist, marks, ifile, afile);
+    if replay.end.is_some() {
+        show_end(replay, &mut text);
         return;
     }
-    show_end(replay, &mut text);
+    let played = show_turns(
+        replay,
+        marks,
+        octets_of(ifile),
+        octets_of(afile),
+        &mut transcript,
+        &mut text,
+    );
+    show_end(played, &mut text);
 }

@@ -1,37 +1,21 @@
 -- Each line as the calls that write it, one after the other, in the words of the code: t is the text before, u the text after.
 -- Assumes nothing.
 use Prim.Native.Nat.{ℕ}
-use mathlib.Core.Path.{◌≡◌}
+use mathlib.Core.Path.{◌≡◌, refl}
 use mathlib.Core.Bool.{Bool, true, false, cond}
 use mathlib.Core.List.{List, [], ◌∷◌}
 use mathlib.Core.Option.{none, some}
-use borrow.Author.Tests.{eq-eqb, ne_eqb}
 use Rattle.text.specs.Text.{quoted, decimal, decimal64, id_text, Text, written}
 use Rattle.text.proofs.Pieces.{then}
-use Rattle.sides.specs.Replay.{Whose}
-use Rattle.replaying.specs.declared.Fault.{Fault}
-use Rattle.replaying.specs.Playing.{whose_as, ending_as}
+use Rattle.sides.specs.Replay.{Whose, initiator, acceptor, finished, refused, unopened}
 use Rattle.replay_lines.specs.Lines.{side_text, turn_line, choice_line, refused_line, end_lines}
 
-module _ (k : ℕ) (t u : Text) where
-  pub side-initiator : k ≡ 0 → u ≡ written (quoted " initiator\n" ∷ []) t → u ≡ written (side_text (whose_as k) ∷ []) t
-  side-initiator h e = rw (eq-eqb _ _ h) e
-
-  module _ (other : k ≡ 0 → ⊥) where
-    pub side-acceptor : k ≡ 1 → u ≡ written (quoted " acceptor\n" ∷ []) t → u ≡ written (side_text (whose_as k) ∷ []) t
-    side-acceptor h e = rw (ne_eqb _ _ other, eq-eqb _ _ h) e
-
-    pub side-neither : (k ≡ 1 → ⊥) → u ≡ written (quoted " neither\n" ∷ []) t → u ≡ written (side_text (whose_as k) ∷ []) t
-    side-neither h e = rw (ne_eqb _ _ other, ne_eqb _ _ h) e
-
-pub ruleset sides = (side-initiator, side-acceptor, side-neither)
-
 module _ (k : ℕ) (x : Bool) (t a u : Text) (first : a ≡ written (quoted "turn " ∷ decimal k ∷ []) t) where
-  pub turn-acceptor : x ≡ true → u ≡ written (side_text (whose_as 1) ∷ []) a → u ≡ written (turn_line k x) t
+  pub turn-acceptor : x ≡ true → u ≡ written (side_text acceptor ∷ []) a → u ≡ written (turn_line k x) t
   unfolding turn_line
   turn-acceptor h e = rw h (then t a u _ _ first e)
 
-  pub turn-initiator : x ≡ false → u ≡ written (side_text (whose_as 0) ∷ []) a → u ≡ written (turn_line k x) t
+  pub turn-initiator : x ≡ false → u ≡ written (side_text initiator ∷ []) a → u ≡ written (turn_line k x) t
   unfolding turn_line
   turn-initiator h e = rw h (then t a u _ _ first e)
 
@@ -55,19 +39,15 @@ pub refusal_is : (n p : ℕ) (w : Whose) (t a b u : Text) → a ≡ written (quo
 unfolding refused_line
 refusal_is n p w t a b u f g h = then t b u _ _ (then t a b _ _ f g) h
 
-module _ (f : Fault) (t u : Text) where
-  pub end-missing : f.missing ≡ true → u ≡ written (quoted "no file\n" ∷ []) t → u ≡ written (end_lines (ending_as f)) t
-  unfolding ending_as end_lines
-  end-missing h e = rw h e
+module _ (t u : Text) where
+  pub end-unopened : u ≡ written (quoted "no file\n" ∷ []) t → u ≡ written (end_lines unopened) t
+  unfolding end_lines
+  end-unopened e = e
 
-  module _ (there : f.missing ≡ false) where
-    pub end-finished : f.refusal ≡ 0 → t ≡ written (end_lines (ending_as f)) t
-    unfolding ending_as end_lines written
-    end-finished h = rw (there, eq-eqb _ _ h)
+  pub end_refused : (n p : ℕ) (w : Whose) → u ≡ written (refused_line n p w) t → u ≡ written (end_lines (refused n p w)) t
+  unfolding end_lines
+  end_refused n p w e = e
 
-    pub end_refused : (f.refusal ≡ 0 → ⊥) → u ≡ written (refused_line f.refusal f.place.0 (whose_as f.whose)) t
-        → u ≡ written (end_lines (ending_as f)) t
-    unfolding ending_as end_lines
-    end_refused h e = rw (there, ne_eqb _ _ h) e
-
-pub ruleset ends = (end-missing, end-finished, end_refused)
+pub end-finished : (t : Text) → t ≡ written (end_lines finished) t
+unfolding end_lines written
+end-finished t = refl

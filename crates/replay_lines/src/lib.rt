@@ -7,20 +7,18 @@ ghost use Rattle.text.specs.Text.{text, written};
 ghost use Rattle.replaying.specs.Playing.{whose_as, ending_as};
 ghost use Rattle.replay_lines.specs.Lines.{side_text, turn_line, choice_line, refused_line, end_lines};
 
-use replaying::Fault;
+use replaying::{Fault, Whose};
 use text::{append, field, id, wide_field};
 
 // The word for a side, and the line's end.
-fn side(d: &mut [u8], at: usize, whose: u8) -> usize
+fn side(d: &mut [u8], at: usize, whose: Whose) -> usize
     ensures { text d.new result ≡ written (side_text (whose_as whose) ∷ []) (text d.old at) }
 {
-    if whose == Fault::INITIATOR {
-        return append(d, at, b" initiator\n");
+    match whose {
+        Whose::Initiator => append(d, at, b" initiator\n"),
+        Whose::Acceptor => append(d, at, b" acceptor\n"),
+        Whose::Neither => append(d, at, b" neither\n"),
     }
-    if whose == Fault::ACCEPTOR {
-        return append(d, at, b" acceptor\n");
-    }
-    append(d, at, b" neither\n")
 }
 
 // The line of a turn.
@@ -29,16 +27,16 @@ pub fn turn_line(d: &mut [u8], k: u32, acceptor: bool) -> usize
 {
     let number_end = field(d, 0, b"turn ", k);
     if acceptor {
-        return side(d, number_end, Fault::ACCEPTOR);
+        return side(d, number_end, Whose::Acceptor);
     }
-    side(d, number_end, Fault::INITIATOR)
+    side(d, number_end, Whose::Initiator)
 }
 
 // The line of a choice, or of none.
 pub fn choice_line(d: &mut [u8], chosen: bool, scheme: [u8; 16]) -> usize
     ensures { text d.new result ≡ written (choice_line (cond chosen (some scheme) none)) (text d.old 0) }
 {
-    if chosen {} else {
+    if !chosen {
         return append(d, 0, b"choice none\n");
     }
     let id_start = append(d, 0, b"choice ");
@@ -47,7 +45,7 @@ pub fn choice_line(d: &mut [u8], chosen: bool, scheme: [u8; 16]) -> usize
 }
 
 // The line of a refusal that ends a replay.
-fn refusal(d: &mut [u8], number: u32, place: usize, whose: u8) -> usize
+fn refusal(d: &mut [u8], number: u32, place: usize, whose: Whose) -> usize
     ensures { text d.new result ≡ written (refused_line number place (whose_as whose)) (text d.old 0) }
 {
     let number_end = field(d, 0, b"refused ", number);
@@ -55,15 +53,22 @@ fn refusal(d: &mut [u8], number: u32, place: usize, whose: u8) -> usize
     side(d, place_end, whose)
 }
 
-// The line of how a replay ended: none at the last turn.
-pub fn end_line(d: &mut [u8], f: Fault) -> usize
-    ensures { text d.new result ≡ written (end_lines (ending_as f)) (text d.old 0) }
+// The line of how a replay ended: none at the last turn, nor before its end.
+pub fn end_line(d: &mut [u8], end: Option<Result<(), Fault>>) -> usize
+    ensures { text d.new result ≡ written (end_lines (ending_as end)) (text d.old 0) }
 {
-    if f.missing {
-        return append(d, 0, b"no file\n");
-    }
-    if f.refusal == 0 {
+    let Some(result) = end else {
         return 0;
+    };
+    let Err(fault) = result else {
+        return 0;
+    };
+    match fault {
+        Fault::Unopened => append(d, 0, b"no file\n"),
+        Fault::Refused {
+            number,
+            place,
+            whose,
+        } => refusal(d, number, place.0, whose),
     }
-    refusal(d, f.refusal, f.place.0, f.whose)
 }

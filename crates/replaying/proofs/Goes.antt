@@ -6,6 +6,7 @@ use mathlib.Core.Bool.{Bool, true, false, cond, not}
 use mathlib.Core.Logic.{◌⊎◌, inl, inr}
 use mathlib.Core.List.{List, [], ◌∷◌}
 use native.Mathlib.Omega.{arith}
+use Rattle.std.proofs.Common.{Some, None, Result, Ok, Err, is_none}
 use lib.ListN.{length, take, drop, length-drop}
 use lib.Seq.{drop-drop}
 use lib.Dec.{eqb}
@@ -25,23 +26,23 @@ use Rattle.sides.proofs.Heard.{Heard, heard-turn, AllExact, Gone, gone-through, 
 use Rattle.sides.proofs.Spoken.{spoke-counts, spoke-keeps}
 use Rattle.merging.specs.declared.Next.{Next}
 use Rattle.merging.specs.Merged.{next_in, turns_left}
-use Rattle.merging.proofs.Rows.{Says, initiators, acceptors, says, run-octets, run-front, run-left, run-within, pieces-run, turns-initiator, turns-acceptor, turns-none}
+use Rattle.merging.proofs.Rows.{Says, initiators, acceptors, says, says-none, run-octets, run-front, run-left, run-within, pieces-run, turns-initiator, turns-acceptor, turns-none}
 use Rattle.replaying.specs.declared.Fault.{Fault}
 use Rattle.replaying.specs.declared.Marks.{Marks}
 use Rattle.replaying.specs.declared.Replay.{Replay}
-use Rattle.replaying.specs.Playing.{whose_as, ending_as, sides_in, left_of, marked, rest_of, Level, Fine, Stood, stood, role_of, place_of, file_by, went_on, ended_with, whose_in, after_turn, Ready, octets_in, Goes}
+use Rattle.replaying.specs.Playing.{whose_as, fault_as, ending_as, sides_in, left_of, marked, rest_of, Level, Fine, Stood, stood, role_of, place_of, file_by, went_on, side_of, ended_with, refused_by, after_turn, Ready, octets_in, Goes}
 use Rattle.replaying.proofs.Plays.{level-swap, level_by}
 
 pieces_exact : (ms : List (List ℕ)) → Pieces ms → AllExact ms
 pieces_exact [] p = tt
 pieces_exact (m ∷ ms) p = (record { long = piece-long m p.0; exact = λ rest. piece-size m rest p.0 }, pieces_exact ms p.1)
 
-rest-on : (m : Marks) (i a : List ℕ) (s : Replay) (d : List ℕ) → s.more ≡ true → rest_of m i a s d ≡ play_from (marked m) (sides_in s d) (left_of s i a)
+rest-on : (m : Marks) (i a : List ℕ) (s : Replay) (d : List ℕ) → is_none s.end ≡ true → rest_of m i a s d ≡ play_from (marked m) (sides_in s d) (left_of s i a)
 unfolding rest_of
 rest-on m i a s d e = rw e
 
-rest_over : (m : Marks) (i a : List ℕ) (s : Replay) (d : List ℕ) → s.more ≡ false
-    → rest_of m i a s d ≡ record { turns = []; sides = sides_in s d; ending = ending_as s.fault }
+rest_over : (m : Marks) (i a : List ℕ) (s : Replay) (d : List ℕ) → is_none s.end ≡ false
+    → rest_of m i a s d ≡ record { turns = []; sides = sides_in s d; ending = ending_as s.end }
 unfolding rest_of
 rest_over m i a s d e = rw e
 
@@ -65,7 +66,7 @@ play-ends : (c : Case) (s : Sides) (t : Turn) (ts : List Turn) → is_accepted (
 unfolding play_from
 play-ends c s t ts e = rw e
 
-by_number : (b : Bool) → by b ≡ whose_as (cond b 1 0)
+by_number : (b : Bool) → by b ≡ whose_as (side_of b)
 by_number false = refl
 by_number true = refl
 
@@ -79,8 +80,8 @@ run i a s x = run_from s.number (messages_of (part i a s x))
 abbrev size : List ℕ → List ℕ → Replay → Bool → ℕ
 size i a s x = length (join (run i a s x))
 
-still-fine : (i a : List ℕ) (s : Replay) (f : Fault) → Fine i a s → Fine i a (ended_with s f)
-still-fine i a s f fine =
+still-fine : (i a : List ℕ) (s : Replay) (r : Result (Unit {0}) Fault) → Fine i a s → Fine i a (ended_with s r)
+still-fine i a s r fine =
     record {
       short_i = fine.short_i;
       short_a = fine.short_a;
@@ -108,11 +109,11 @@ module _ (i a : List ℕ) (s : Replay) (fine : Fine i a s) where
   within x = omega (arith, length_part x, run-within s.number (part i a s x))
 
 -- one turn
-module _ (m : Marks) (i a : List ℕ) (s : Replay) (d : List ℕ) (fine : Fine i a s) (more : s.more ≡ true) where
+module _ (m : Marks) (i a : List ℕ) (s : Replay) (d : List ℕ) (fine : Fine i a s) (more : is_none s.end ≡ true) where
   -- no turn is left
-  none_left : length (run i a s false) ≤ 0 → length (run i a s true) ≤ 0 → ending_as s.fault ≡ finished → Goes m i a s d (ended_with s s.fault) d
-  none_left f g opened = record {
-    fine = still-fine i a s s.fault fine;
+  none_left : length (run i a s false) ≤ 0 → length (run i a s true) ≤ 0 → Goes m i a s d (ended_with s (Ok tt)) d
+  none_left f g = record {
+    fine = still-fine i a s (Ok tt) fine;
     step = inr (record {
       over = refl;
       still_i = refl;
@@ -122,8 +123,7 @@ module _ (m : Marks) (i a : List ℕ) (s : Replay) (d : List ℕ) (fine : Fine i
           rest-on m i a s d more
           ∙ ap (play_from (marked m) (sides_in s d)) (turns-none s.number (messages_of (part i a s false)) (messages_of (part i a s true)) f g)
           ∙ play-none (marked m) (sides_in s d)
-          ∙ ap (λ (e : Ending). record { turns = []; sides = sides_in s d; ending = e }) (sym opened)
-          ∙ sym (rest_over m i a (ended_with s s.fault) d refl);
+          ∙ sym (rest_over m i a (ended_with s (Ok tt)) d refl);
     });
   }
 
@@ -252,7 +252,7 @@ module _ (m : Marks) (i a : List ℕ) (s : Replay) (d : List ℕ) (fine : Fine i
 
     -- refused
     abbrev fault : Fault
-    fault = record { missing = false; refusal = (out x).answer.refusal; place = (out x).answer.place; whose = whose_in x (out x).answer.refusal }
+    fault = refused_by x (out x).answer
 
     abbrev ended_by_lem : List ℕ → Outcome → Played
     ended_by_lem l o =
@@ -262,16 +262,12 @@ module _ (m : Marks) (i a : List ℕ) (s : Replay) (d : List ℕ) (fine : Fine i
           ending = refused o.answer.refusal o.answer.place.0 (by (cond (eqb o.answer.refusal 28) x (not x)));
         }
 
-    fault-ends : ((out x).answer.refusal ≡ 0 → ⊥)
-        → refused (out x).answer.refusal (out x).answer.place.0 (by (cond (eqb (out x).answer.refusal 28) x (not x))) ≡ ending_as fault
-    unfolding ending_as
-    fault-ends h =
-        rw (ne_eqb _ _ h)
-        (ap (refused (out x).answer.refusal (out x).answer.place.0) (by_number (cond (eqb (out x).answer.refusal 28) x (not x))))
+    fault-ends : refused (out x).answer.refusal (out x).answer.place.0 (by (cond (eqb (out x).answer.refusal 28) x (not x))) ≡ fault_as fault
+    fault-ends = ap (refused (out x).answer.refusal (out x).answer.place.0) (by_number (cond (eqb (out x).answer.refusal 28) x (not x)))
 
-    ends : ((out x).answer.refusal ≡ 0 → ⊥) → Goes m i a s d (ended_with s fault) (out x).transcript
+    ends : ((out x).answer.refusal ≡ 0 → ⊥) → Goes m i a s d (ended_with s (Err fault)) (out x).transcript
     ends h = record {
-      fine = still-fine i a s fault fine;
+      fine = still-fine i a s (Err fault) fine;
       step = inr (record {
         over = refl;
         still_i = refl;
@@ -285,8 +281,8 @@ module _ (m : Marks) (i a : List ℕ) (s : Replay) (d : List ℕ) (fine : Fine i
             ∙ ap (ended_by_lem d) (same_out x)
             ∙ ap (λ (l : List ℕ). ended_by_lem l (out x))
             (sym (refused-same (owed (marks-by x) (role_of x s) (token (turn x))) (role_of (not x) s) d (token (turn x)) h))
-            ∙ ap (λ (z : Ending). record { turns = []; sides = sides_in s (out x).transcript; ending = z }) (fault-ends h)
-            ∙ sym (rest_over m i a (ended_with s fault) (out x).transcript refl);
+            ∙ ap (λ (z : Ending). record { turns = []; sides = sides_in s (out x).transcript; ending = z }) fault-ends
+            ∙ sym (rest_over m i a (ended_with s (Err fault)) (out x).transcript refl);
       });
     }
 
@@ -304,75 +300,72 @@ module _ (m : Marks) (i a : List ℕ) (s : Replay) (d : List ℕ) (fine : Fine i
           (went_on x s (spoke (marks-by x) (role_of x s) l) (out x).answer.next (size i a s x) (length (run i a s x))) (out x).transcript) mine))
           (goes (eqb-true _ _ e))
       go (inr e) =
-          let y : stood r d' ≡ stood (ended_with s fault) (out x).transcript = is ∙ rw e in
+          let y : stood r d' ≡ stood (ended_with s (Err fault)) (out x).transcript = is ∙ rw e in
           subst (λ (z : Stood). Goes m i a s d z.replay z.transcript) (sym y) (ends (eqb-false _ _ e))
 
 -- in the words of the code
 abbrev octets_by : Bool → Next → ℕ
 octets_by x n = cond x n.acceptor n.initiator
 
-module _ (i a : List ℕ) (s : Replay) (fine : Fine i a s) (n : Next)
-    (n-is : n ≡ next_in s.number (take (length i - s.iplace) (drop s.iplace i)) (take (length a - s.aplace) (drop s.aplace a))) where
-  said : Says s.number (part i a s false) (part i a s true) n
-  said =
-      says s.number (part i a s false) (part i a s true) n
-      (n-is ∙ ap (λ (l : List ℕ). next_in s.number l (take (length a - s.aplace) (drop s.aplace a))) (tail_all i s.iplace)
-      ∙ ap (next_in s.number (part i a s false)) (tail_all a s.aplace))
+abbrev left_in : List ℕ → ℕ → List ℕ
+left_in file place = take (length file - place) (drop place file)
 
-  pub turn-none : (m : Marks) (d : List ℕ) → s.more ≡ true → ending_as s.fault ≡ finished → n.messages ≡ 0 → (r : Replay)
-      → r ≡ ended_with s s.fault → Goes m i a s d r d
-  turn-none m d more opened z r r-is = subst (λ (x : Replay). Goes m i a s d x d) (sym r-is) (go said) where
-    go : Says s.number (part i a s false) (part i a s true) n → Goes m i a s d (ended_with s s.fault) d
-    go (initiators p r o q k) = absurd (omega arith)
-    go (acceptors p r o q k) = none_left m i a s d fine more p (omega arith) opened
+module _ (i a : List ℕ) (s : Replay) (fine : Fine i a s) where
+  same-next : next_in s.number (left_in i s.iplace) (left_in a s.aplace) ≡ next_in s.number (part i a s false) (part i a s true)
+  same-next =
+      ap (λ (l : List ℕ). next_in s.number l (left_in a s.aplace)) (tail_all i s.iplace) ∙ ap (next_in s.number (part i a s false)) (tail_all a s.aplace)
 
-  record First (x : Bool) : Type 0 where
-    none : x ≡ true → length (run i a s false) ≤ 0
-    octets : octets_by x n ≡ size i a s x
-    count : n.messages ≡ length (run i a s x)
+  pub turn-none : None ≡ next_in s.number (left_in i s.iplace) (left_in a s.aplace) → (m : Marks) (d : List ℕ) → is_none s.end ≡ true
+      → Goes m i a s d (ended_with s (Ok tt)) d
+  turn-none e m d more = let z = says-none s.number (part i a s false) (part i a s true) (e ∙ same-next) in none_left m i a s d fine more z.0 z.1
 
-  first : (x : Bool) → n.acceptors ≡ x → Says s.number (part i a s false) (part i a s true) n → First x
-  first false e (initiators p r o q k) = record { none = λ h. no_true h; octets = o; count = k }
-  first false e (acceptors p r o q k) = no_true (sym e ∙ r)
-  first true e (initiators p r o q k) = no_true (sym r ∙ e)
-  first true e (acceptors p r o q k) = record { none = λ h. p; octets = q; count = k }
+  module _ (n : Next) (n-is : Some n ≡ next_in s.number (left_in i s.iplace) (left_in a s.aplace)) where
+    record First (x : Bool) : Type 0 where
+      none : x ≡ true → length (run i a s false) ≤ 0
+      octets : octets_by x n ≡ size i a s x
+      count : n.messages ≡ length (run i a s x)
+      some : 0 < length (run i a s x)
 
-  module _ (some : n.messages ≡ 0 → ⊥) (x : Bool) (role : n.acceptors ≡ x) where
-    first-x : First x
-    first-x = first x role said
+    first : (x : Bool) → n.acceptors ≡ x → Says s.number (part i a s false) (part i a s true) n → First x
+    first false e (initiators p r o q k) = record { none = λ h. no_true h; octets = o; count = k; some = p }
+    first false e (acceptors p f r o q k) = no_true (sym e ∙ r)
+    first true e (initiators p r o q k) = no_true (sym r ∙ e)
+    first true e (acceptors p f r o q k) = record { none = λ h. p; octets = q; count = k; some = f }
 
-    abbrev here : List ℕ
-    here = take (place_of x s + octets_by x n - place_of x s) (drop (place_of x s) (file_by x i a))
+    module _ (x : Bool) (role : n.acceptors ≡ x) where
+      first-x : First x
+      first-x = first x role (says s.number (part i a s false) (part i a s true) n (n-is ∙ same-next))
 
-    here-is : here ≡ join (run i a s x)
-    here-is =
-        let k : place_of x s + octets_by x n - place_of x s ≡ size i a s x = omega (arith, first-x.octets) in
-        ap (λ (j : ℕ). take j (part i a s x)) k ∙ run-front s.number (part i a s x)
+      abbrev here : List ℕ
+      here = take (octets_by x n) (left_in (file_by x i a) (place_of x s))
 
-    pub turn-within : place_of x s + octets_by x n ≤ length (file_by x i a)
-    turn-within = omega (arith, first-x.octets, within i a s fine x)
+      here-is : here ≡ join (run i a s x)
+      here-is =
+          ap (take (octets_by x n)) (tail_all (file_by x i a) (place_of x s)) ∙ ap (λ (j : ℕ). take j (part i a s x)) first-x.octets
+          ∙ run-front s.number (part i a s x)
 
-    pub turn_end : place_of x s + octets_by x n < 18446744073709551616
-    turn_end = omega (arith, turn-within, short-by i a s fine x)
+      pub turn-within : octets_by x n ≤ length (left_in (file_by x i a) (place_of x s))
+      turn-within =
+          omega (arith, first-x.octets, ap length (tail_all (file_by x i a) (place_of x s)), run-within s.number (part i a s x))
 
-    pub turn-ready : Ready s (length here) n.messages
-    turn-ready =
-        let l : length here ≡ size i a s x = ap length here-is in
-        let w = within i a s fine x in
-        let short = short-by i a s fine x in
-        let o = run-octets s.number (part i a s x) in
-        record {
-          level = fine.level;
-          long = omega (arith, first-x.count);
-          room_i = omega (arith, fine.in_i, fine.short_i);
-          room_a = omega (arith, fine.in_a, fine.short_a);
-          numbers = omega (arith, fine.numbers, fine.in_i, fine.in_a, fine.short_i, fine.short_a, first-x.count);
-          turns = omega (arith, fine.few, fine.numbers, fine.in_i, fine.in_a, fine.short_i, fine.short_a);
-        }
+      pub turn-ready : Ready s (length here) n.messages
+      turn-ready =
+          let l : length here ≡ size i a s x = ap length here-is in
+          let w = within i a s fine x in
+          let short = short-by i a s fine x in
+          let o = run-octets s.number (part i a s x) in
+          record {
+            level = fine.level;
+            long = omega (arith, first-x.some);
+            room_i = omega (arith, fine.in_i, fine.short_i);
+            room_a = omega (arith, fine.in_a, fine.short_a);
+            numbers = omega (arith, fine.numbers, fine.in_i, fine.in_a, fine.short_i, fine.short_a, first-x.count);
+            turns = omega (arith, fine.few, fine.numbers, fine.in_i, fine.in_a, fine.short_i, fine.short_a);
+          }
 
-    pub turn-goes : (m : Marks) (d : List ℕ) → s.more ≡ true → (r : Replay) (d' : List ℕ)
-        → stood r d' ≡ after_turn x (marks_of x (marked m)) s d here n.messages → Goes m i a s d r d'
-    turn-goes m d more r d' is =
-        after m i a s d fine more x first-x.none (omega (arith, first-x.count)) r d'
-        (is ∙ ap (λ (l : List ℕ). after_turn x (marks_of x (marked m)) s d l n.messages) here-is
-        ∙ ap (after_turn x (marks_of x (marked m)) s d (join (run i a s x))) first-x.count)
+      pub turn-goes : (m : Marks) (d : List ℕ) → is_none s.end ≡ true → (r : Replay) (d' : List ℕ)
+          → stood r d' ≡ after_turn x (marks_of x (marked m)) s d here n.messages → Goes m i a s d r d'
+      turn-goes m d more r d' is =
+          after m i a s d fine more x first-x.none first-x.some r d'
+          (is ∙ ap (λ (l : List ℕ). after_turn x (marks_of x (marked m)) s d l n.messages) here-is
+          ∙ ap (after_turn x (marks_of x (marked m)) s d (join (run i a s x))) first-x.count)

@@ -1,28 +1,22 @@
--- The first message's conversation, by the next turn of two files; the replay before its first turn.
+-- The first message's conversation, by the next turn of two files.
 -- Assumes nothing.
 use Prim.Native.Nat.{ℕ, ◌+◌, ◌<◌, ◌≤◌}
 use mathlib.Core.Path.{◌≡◌, sym, ap, ◌∙◌}
-use mathlib.Core.Bool.{Bool, true, false, cond, not}
+use mathlib.Core.Bool.{true, false}
 use mathlib.Core.List.{List, ◌++◌}
 use native.Mathlib.Omega.{arith}
+use Rattle.std.proofs.Common.{Some, None}
 use lib.ListN.{length, take, drop, length-drop, take-append-drop}
 use lib.Seq.{take-append-le, drop-append-le}
-use borrow.Author.Tests.{eq-eqb, ne_eqb}
 use Rattle.octets.specs.Octets.{octets}
 use Rattle.octets.proofs.Bools.{no_true}
 use Rattle.token.specs.Split.{join}
-use Rattle.conversation.specs.declared.Answer.{Answer}
 use Rattle.conversation.specs.Outcomes.{zero_id}
-use Rattle.conversation.specs.Writing.{opening}
 use Rattle.sides.specs.Merging.{messages_of, run_from, turns_of}
 use Rattle.sides.specs.Replay.{conversation_in}
 use Rattle.merging.specs.declared.Next.{Next}
 use Rattle.merging.specs.Merged.{next_in}
-use Rattle.merging.proofs.Rows.{Says, initiators, acceptors, says, run-octets, run-front, run-within, turns-initiator, turns-acceptor, turns-none}
-use Rattle.replaying.specs.declared.Fault.{Fault}
-use Rattle.replaying.specs.Playing.{begun_with, whose_in}
-
--- 1. the conversation
+use Rattle.merging.proofs.Rows.{Says, initiators, acceptors, says, says-none, run-octets, run-front, run-within, turns-initiator, turns-acceptor, turns-none}
 
 front-octets : (s x : List ℕ) → take (length x) s ≡ x → 40 ≤ length x → octets 16 s 24 ≡ octets 16 x 24
 front-octets s x e h =
@@ -31,14 +25,11 @@ front-octets s x e h =
     ∙ ap (take 16) (drop-append-le 24 x (drop (length x) s) (omega arith))
     ∙ take-append-le 16 (drop 24 x) (drop (length x) s) (omega (arith, length-drop 24 x))
 
-module _ (i a : List ℕ) (n : Next) (n-is : n ≡ next_in 0 i a) where
-  pub talk-none : n.messages ≡ 0 → zero_id ≡ conversation_in (turns_of (messages_of i) (messages_of a))
-  talk-none z = go (says 0 i a n n-is) where
-    go : Says 0 i a n → zero_id ≡ conversation_in (turns_of (messages_of i) (messages_of a))
-    go (initiators s r o p m) = absurd (omega arith)
-    go (acceptors s r o p m) = sym (ap conversation_in (turns-none 0 (messages_of i) (messages_of a) s (omega arith)))
+module _ (i a : List ℕ) where
+  pub talk-none : None ≡ next_in 0 i a → zero_id ≡ conversation_in (turns_of (messages_of i) (messages_of a))
+  talk-none e = let z = says-none 0 i a e in sym (ap conversation_in (turns-none 0 (messages_of i) (messages_of a) z.0 z.1))
 
-  module _ (some : n.messages ≡ 0 → ⊥) where
+  module _ (n : Next) (n-is : Some n ≡ next_in 0 i a) where
     abbrev ri : List (List ℕ)
     ri = run_from 0 (messages_of i)
 
@@ -49,13 +40,13 @@ module _ (i a : List ℕ) (n : Next) (n-is : n ≡ next_in 0 i a) where
     theirs e = go (says 0 i a n n-is) where
       go : Says 0 i a n → (length ri ≤ 0) × (0 < length ra)
       go (initiators s r o p m) = no_true (sym r ∙ e)
-      go (acceptors s r o p m) = (s, omega arith)
+      go (acceptors s f r o p m) = (s, f)
 
     own : n.acceptors ≡ false → 0 < length ri
     own e = go (says 0 i a n n-is) where
       go : Says 0 i a n → 0 < length ri
       go (initiators s r o p m) = s
-      go (acceptors s r o p m) = no_true (sym e ∙ r)
+      go (acceptors s f r o p m) = no_true (sym e ∙ r)
 
     pub talk-long-a : n.acceptors ≡ true → 24 + 16 ≤ length a
     talk-long-a e = omega (arith, theirs e, run-octets 0 a, run-within 0 a)
@@ -74,32 +65,3 @@ module _ (i a : List ℕ) (n : Next) (n-is : n ≡ next_in 0 i a) where
         ∙ sym (ap conversation_in (turns-initiator 0 (messages_of i) (messages_of a) (own e)))
 
 pub ruleset talks = (talk-none, talk-long-a, talk-a, talk-long-i, talk-i)
-
--- 2. the replay before its first turn, and whose a refusal is
-
-pub begin-is : (il al v : List ℕ) (f : Fault) (more : Bool) (i a : Answer) → i ≡ opening false il v → a ≡ opening true al zero_id
-    → record { initiator = i.next; acceptor = a.next; iplace = 0; aplace = 0; number = 0; turns = 0; last = false; more = more; fault = f }
-    ≡ begun_with il al v f more
-begin-is il al v f more i a i-is a-is =
-    ap (λ (x : Answer).
-    record { initiator = x.next; acceptor = a.next; iplace = 0; aplace = 0; number = 0; turns = 0; last = false; more = more; fault = f }) i-is
-    ∙ ap (λ (x : Answer).
-    record {
-      initiator = (opening false il v).next;
-      acceptor = x.next;
-      iplace = 0;
-      aplace = 0;
-      number = 0;
-      turns = 0;
-      last = false;
-      more = more;
-      fault = f;
-    }) a-is
-
-pub whose-writer : (x : Bool) (number : ℕ) → number ≡ 28 → (r : ℕ) → r ≡ cond x 1 0 → r ≡ whose_in x number
-whose-writer x number e r r-is = rw (eq-eqb _ _ e) r-is
-
-pub whose-other : (x : Bool) (number : ℕ) → (number ≡ 28 → ⊥) → (r : ℕ) → r ≡ cond (not x) 1 0 → r ≡ whose_in x number
-whose-other x number e r r-is = rw (ne_eqb _ _ e) r-is
-
-pub ruleset begins = (begin-is, whose-writer, whose-other)

@@ -5,9 +5,9 @@ use mathlib.Core.Path.{◌≡◌, sym, ap, subst, ◌∙◌}
 use mathlib.Core.Bool.{Bool, true, false, not}
 use mathlib.Core.List.{List}
 use native.Mathlib.Omega.{arith}
+use Rattle.std.proofs.Common.{Err}
 use lib.ListN.{length}
 use borrow.Author.Tests.{eq-eqb, ne_eqb, leb-true}
-use Rattle.vector.specs.declared.TokenPlace.{TokenPlace}
 use Rattle.conversation.specs.declared.Record.{Record}
 use Rattle.conversation.specs.declared.Answer.{Answer}
 use Rattle.conversation.specs.State.{limit_rows}
@@ -18,25 +18,7 @@ use Rattle.sides.specs.Merging.{messages_of}
 use Rattle.sides.specs.Turning.{owed, heard_turn, spoke}
 use Rattle.sides.proofs.Heard.{heard-turn}
 use Rattle.replaying.specs.declared.Replay.{Replay}
-use Rattle.replaying.specs.Playing.{stood, role_of, went_on, ended_with, whose_in, heard_by, after_turn, Level, Ready}
-
-pub end_is : (s : Replay) (x : Bool) (number : ℕ) (place : TokenPlace) (w : ℕ) → w ≡ whose_in x number
-    → ended_with s (record { missing = false; refusal = number; place = place; whose = w })
-    ≡ ended_with s (record { missing = false; refusal = number; place = place; whose = whose_in x number })
-end_is s x number place w w-is = ap (λ (k : ℕ). ended_with s (record { missing = false; refusal = number; place = place; whose = k })) w-is
-
--- by the role
-pub role-true : (x : Bool) (s : Replay) → x ≡ true → s.acceptor ≡ role_of x s
-role-true x s e = rw e
-
-pub role-false : (x : Bool) (s : Replay) → x ≡ false → s.initiator ≡ role_of x s
-role-false x s e = rw e
-
-pub went-true : (x : Bool) (s : Replay) (w r : Record) (k n : ℕ) → x ≡ true → went_on true s w r k n ≡ went_on x s w r k n
-went-true x s w r k n e = rw e
-
-pub went-false : (x : Bool) (s : Replay) (w r : Record) (k n : ℕ) → x ≡ false → went_on false s w r k n ≡ went_on x s w r k n
-went-false x s w r k n e = rw e
+use Rattle.replaying.specs.Playing.{stood, role_of, went_on, ended_with, refused_by, heard_by, after_turn, Level, Ready}
 
 pub level-swap : (w r : Record) → Level w r → Level r w
 level-swap w r l = record { few_w = l.few_r; few_r = l.few_w; used = sym l.used; sequence = sym l.sequence }
@@ -71,7 +53,7 @@ module _ (s : Replay) (x : Bool) (marks : ℕ) (d t : List ℕ) (n : ℕ) (ready
       ∙ ap (λ (r : Record). heard_turn good r d t) (sym v-is) ∙ sym is)
 
   pub side-refused : (a.refusal ≡ 0 → ⊥) → (r : Replay)
-      → r ≡ ended_with s (record { missing = false; refusal = a.refusal; place = a.place; whose = whose_in x a.refusal })
+      → r ≡ ended_with s (Err (refused_by x a))
       → stood r d' ≡ after_turn x marks s d t n
   side-refused h r r-is = sym (by_answer ∙ rw (ne_eqb _ _ h) (ap (λ (y : Replay). stood y d') (sym r-is)))
 
@@ -95,5 +77,3 @@ module _ (s : Replay) (x : Bool) (marks : ℕ) (d t : List ℕ) (n : ℕ) (ready
         ∙ sym (by_answer ∙ rw (eq-eqb _ _ z)
         (ap (λ (y : Record). stood (went_on x s y a.next (length t) n) d')
         (sym (u-is ∙ ap (λ (y : Record). spoke marks y (messages_of t)) w-is))))
-
-pub ruleset roles = (role-true, role-false, went-true, went-false)

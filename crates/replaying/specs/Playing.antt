@@ -2,7 +2,9 @@
 --
 -- Glossary
 --   file_if, case_with   a file that could be opened, or none; a case, as src/ is given it
---   whose_as             whose a refusal is, by its number; ending_as f: the ending that src/ answers as f
+--   octets_of f          the octets of a file, none where it could not be opened
+--   whose_as             whose a refusal is, as src/ says it; fault_as: what ends a replay, as src/ says it
+--   ending_by r          the ending that src/ answers as r, a result; ending_as e: that of a replay at work, which has none yet while it goes on
 --   files_ending         what ends a replay before play, the lists aside
 --   Summary              what src/ answers of a replay: how many turns were accepted, the sides and the ending; summary: of a replay
 --   counted n u          a summary with n turns more
@@ -16,48 +18,66 @@
 --   Begun                a replay at work has not begun: what is left of it is the whole
 --   Stood, stood         a replay at work, with its transcript
 --   role_of x s          the record of a role; place_of: its place in its file; file_by: that file
---   went_on, ended_with  a replay at work after an accepted turn, and after a refused one; whose_in: whose the refusal is
+--   went_on, ended_with  a replay at work after an accepted turn, and at its end; refused_by: the end by a turn's refusal, and whose_in: whose it is
+--   side_of x            the side of a role, as src/ says it
 --   heard_by             either, by the reader's outcome; after_turn: by the turn
 --   Ready s k n          what a turn of k octets and n messages asks of a replay at work
 --   octets_in, turn_in   the octets of the turn that a replay at work has just played, and the turn
 --   Further, Ended       a replay at work has played one more turn; it has ended; Goes: one of the two
-use Rattle.std.specs.Prelude.{ℕ, ◌+◌, ◌-◌, ◌<◌, ◌≤◌, ◌≡◌, Bool, true, false, cond, not, ◌⊎◌, List, [], length, take, drop, eqb}
-use Rattle.std.proofs.Math.Option.{Option, none, some}
+use Rattle.std.specs.Prelude.{ℕ, ◌+◌, ◌-◌, ◌<◌, ◌≤◌, ◌≡◌, Bool, true, false, cond, not, ◌⊎◌, List, [], length, take, drop, eqb, Option, Some, None, Result, Ok, Err, is_none}
+use Rattle.std.proofs.Math.Option.{Option as M·Option, none, some}
 use Rattle.token.specs.Walk.{Accepts}
 use Rattle.sides.specs.Merging.{Turn, token, messages_of, in_row}
 use Rattle.sides.specs.Replay.{Case, Whose, initiator, acceptor, neither, Ending, finished, refused, unopened, first_ending, file_ending, file_of, Sides, Played, with_turn, play_from, choice_of, replay_of}
 use Rattle.sides.specs.Turning.{owed, heard_turn, spoke}
 use Rattle.conversation.specs.declared.Record.{Record}
+use Rattle.conversation.specs.declared.Answer.{Answer}
 use Rattle.conversation.specs.Outcomes.{Outcome, zero_id}
 use Rattle.conversation.specs.Writing.{opening}
 use Rattle.merging.specs.Merged.{turns_left}
 use Rattle.replaying.specs.declared.Marks.{Marks}
-use Rattle.replaying.specs.declared.Found.{Found}
+use Rattle.replaying.specs.declared.Whose.{Whose as D·Whose}
+use Rattle.replaying.specs.declared.Whose.TheVariants as side
 use Rattle.replaying.specs.declared.Fault.{Fault}
+use Rattle.replaying.specs.declared.Fault.TheVariants as fault
 use Rattle.replaying.specs.declared.Replay.{Replay}
 
-abbrev pub file_if : Bool → List ℕ → Option (List ℕ)
-file_if true file = some file
-file_if false file = none
+abbrev pub file_if : Option (List ℕ) → M·Option (List ℕ)
+file_if None = none
+file_if (Some file) = some file
 
-abbrev pub case_with : List ℕ → List ℕ → Marks → Found → List ℕ → List ℕ → Case
-case_with il al m f ifile afile = record {
-  i = record { list = il; marks = m.initiator; file = file_if f.initiator ifile };
-  a = record { list = al; marks = m.acceptor; file = file_if f.acceptor afile };
+abbrev pub octets_of : Option (List ℕ) → List ℕ
+octets_of f = file_of (file_if f)
+
+abbrev pub case_with : List ℕ → List ℕ → Marks → Option (List ℕ) → Option (List ℕ) → Case
+case_with il al m ifile afile = record {
+  i = record { list = il; marks = m.initiator; file = file_if ifile };
+  a = record { list = al; marks = m.acceptor; file = file_if afile };
 }
 
-abbrev pub whose_as : ℕ → Whose
-whose_as k = cond (eqb k 0) initiator (cond (eqb k 1) acceptor neither)
+abbrev pub whose_as : D·Whose → Whose
+whose_as side.Initiator = initiator
+whose_as side.Acceptor = acceptor
+whose_as side.Neither = neither
 
-unfoldable pub ending_as : Fault → Ending
-ending_as f = cond f.missing unopened (cond (eqb f.refusal 0) finished (refused f.refusal f.place.0 (whose_as f.whose)))
+abbrev pub fault_as : Fault → Ending
+fault_as fault.Unopened = unopened
+fault_as (fault.Refused n p w) = refused n p.0 (whose_as w)
+
+abbrev pub ending_by : {T : Type 0} → Result T Fault → Ending
+ending_by (Ok x) = finished
+ending_by (Err f) = fault_as f
+
+abbrev pub ending_as : {T : Type 0} → Option (Result T Fault) → Ending
+ending_as None = finished
+ending_as (Some r) = ending_by r
 
 -- after the lists: each file, and 24
-unfoldable pub files_ending : Found → List ℕ → List ℕ → Ending
-files_ending f i a =
-    first_ending (file_ending initiator (file_if f.initiator i))
-    (first_ending (file_ending acceptor (file_if f.acceptor a))
-    (cond (in_row (messages_of (file_of (file_if f.initiator i))) (messages_of (file_of (file_if f.acceptor a)))) finished (refused 24 0 neither)))
+unfoldable pub files_ending : Option (List ℕ) → Option (List ℕ) → Ending
+files_ending i a =
+    first_ending (file_ending initiator (file_if i))
+    (first_ending (file_ending acceptor (file_if a))
+    (cond (in_row (messages_of (octets_of i)) (messages_of (octets_of a))) finished (refused 24 0 neither)))
 
 pub record Summary : Type 0 where
   pub turns : ℕ
@@ -71,22 +91,22 @@ abbrev pub sides_in : Replay → List ℕ → Sides
 sides_in s d = record { i = s.initiator; a = s.acceptor; transcript = d }
 
 abbrev pub played_as : Replay → List ℕ → Summary
-played_as s d = record { turns = s.turns; sides = sides_in s d; ending = ending_as s.fault }
+played_as s d = record { turns = s.turns; sides = sides_in s d; ending = ending_as s.end }
 
 abbrev pub left_of : Replay → List ℕ → List ℕ → List Turn
 left_of s i a = turns_left s.number (messages_of (drop s.iplace i)) (messages_of (drop s.aplace a))
 
 -- play goes by the marks alone
 abbrev pub marked : Marks → Case
-marked m = case_with [] [] m (record { initiator = false; acceptor = false }) [] []
+marked m = case_with [] [] m None None
 
 unfoldable pub rest_of : Marks → List ℕ → List ℕ → Replay → List ℕ → Played
 rest_of m i a s d =
-    cond s.more (play_from (marked m) (sides_in s d) (left_of s i a)) (record { turns = []; sides = sides_in s d; ending = ending_as s.fault })
+    cond (is_none s.end) (play_from (marked m) (sides_in s d) (left_of s i a)) (record { turns = []; sides = sides_in s d; ending = ending_as s.end })
 
 -- a replay before its first turn, or one that ended before it
-abbrev pub begun_with : List ℕ → List ℕ → List ℕ → Fault → Bool → Replay
-begun_with il al v f more = record {
+abbrev pub begun_with : List ℕ → List ℕ → List ℕ → Option (Result (Unit {0}) Fault) → Replay
+begun_with il al v e = record {
   initiator = (opening false il v).next;
   acceptor = (opening true al zero_id).next;
   iplace = 0;
@@ -94,8 +114,7 @@ begun_with il al v f more = record {
   number = 0;
   turns = 0;
   last = false;
-  more = more;
-  fault = f;
+  end = e;
 }
 
 pub record Level (w r : Record) : Type 0 where
@@ -115,7 +134,7 @@ pub record Fine (i a : List ℕ) (s : Replay) : Type 0 where
 
 -- before the first turn all is left, and it goes on where nothing ended it before play
 pub record Begun (c : Case) (m : Marks) (i a : List ℕ) (s : Replay) : Type 0 where
-  pub going : s.more ≡ true → Fine i a s × (ending_as s.fault ≡ finished)
+  pub going : is_none s.end ≡ true → Fine i a s
   pub none_yet : s.turns ≡ 0
   pub come : (d : List ℕ) → rest_of m i a s d ≡ replay_of c d
 
@@ -146,16 +165,21 @@ went_on x s w r k n = record {
   number = s.number + n;
   turns = s.turns + 1;
   last = x;
-  more = s.more;
-  fault = s.fault;
+  end = s.end;
 }
 
--- "the writer's for 28, .. else the reader's"
-abbrev pub whose_in : Bool → ℕ → ℕ
-whose_in x number = cond (cond (eqb number 28) x (not x)) 1 0
+abbrev pub side_of : Bool → D·Whose
+side_of x = cond x side.Acceptor side.Initiator
 
-abbrev pub ended_with : Replay → Fault → Replay
-ended_with s f = record {
+-- "the writer's for 28, .. else the reader's"
+abbrev pub whose_in : Bool → ℕ → D·Whose
+whose_in x number = side_of (cond (eqb number 28) x (not x))
+
+abbrev pub refused_by : Bool → Answer → Fault
+refused_by x a = fault.Refused a.refusal a.place (whose_in x a.refusal)
+
+abbrev pub ended_with : Replay → Result (Unit {0}) Fault → Replay
+ended_with s r = record {
   initiator = s.initiator;
   acceptor = s.acceptor;
   iplace = s.iplace;
@@ -163,16 +187,14 @@ ended_with s f = record {
   number = s.number;
   turns = s.turns;
   last = s.last;
-  more = false;
-  fault = f;
+  end = Some r;
 }
 
 abbrev pub heard_by : Bool → ℕ → Replay → List ℕ → ℕ → Outcome → Stood
 heard_by x m s t n o =
     cond (eqb o.answer.refusal 0)
     (stood (went_on x s (spoke m (role_of x s) (messages_of t)) o.answer.next (length t) n) o.transcript)
-    (stood (ended_with s (record { missing = false; refusal = o.answer.refusal; place = o.answer.place; whose = whose_in x o.answer.refusal }))
-    o.transcript)
+    (stood (ended_with s (Err (refused_by x o.answer))) o.transcript)
 
 unfoldable pub after_turn : Bool → ℕ → Replay → List ℕ → List ℕ → ℕ → Stood
 after_turn x m s d t n = heard_by x m s t n (heard_turn (owed m (role_of x s) t) (role_of (not x) s) d t)
@@ -194,8 +216,8 @@ abbrev pub turn_in : List ℕ → List ℕ → Replay → Replay → Turn
 turn_in i a s s' = record { acceptor = s'.last; messages = messages_of (octets_in s'.last i a s s') }
 
 pub record Further (m : Marks) (i a : List ℕ) (s : Replay) (d : List ℕ) (s' : Replay) (d' : List ℕ) : Type 0 where
-  pub on : s'.more ≡ true
-  pub kept : s'.fault ≡ s.fault
+  pub on : is_none s'.end ≡ true
+  pub kept : s'.end ≡ s.end
   pub one : s'.turns ≡ s.turns + 1
   pub less : (length i - s'.iplace) + (length a - s'.aplace) < (length i - s.iplace) + (length a - s.aplace)
   pub octets : token (turn_in i a s s') ≡ octets_in s'.last i a s s'
@@ -203,7 +225,7 @@ pub record Further (m : Marks) (i a : List ℕ) (s : Replay) (d : List ℕ) (s' 
   pub come : rest_of m i a s d ≡ with_turn (record { turn = turn_in i a s s'; choice = choice_of s'.initiator }) (rest_of m i a s' d')
 
 pub record Ended (m : Marks) (i a : List ℕ) (s : Replay) (d : List ℕ) (s' : Replay) (d' : List ℕ) : Type 0 where
-  pub over : s'.more ≡ false
+  pub over : is_none s'.end ≡ false
   pub still_i : s'.iplace ≡ s.iplace
   pub still_a : s'.aplace ≡ s.aplace
   pub same : s'.turns ≡ s.turns

@@ -1,103 +1,92 @@
 // What ends a replay before play: 19, each file as it is opened and cut up, 24.
-ghost use Rattle.std.specs.Prelude.{◌≡◌, true, false, not, ◌&&◌, ◌||◌, ◌/◌, length, eqb};
+ghost use Rattle.std.specs.Prelude.{◌≡◌, ◌&&◌, ◌/◌, length, IfOk, option_copied};
+ghost use Rattle.refusal.specs.Refusals.{number_of};
 ghost use Rattle.schemes.specs.Lists.{list_ok};
 ghost use Rattle.schemes.specs.Sets.{below};
-ghost use Rattle.sides.specs.Replay.{before};
-ghost use Rattle.replaying.specs.Playing.{case_with, ending_as, files_ending};
+ghost use Rattle.sides.specs.Merging.{messages_of};
+ghost use Rattle.sides.specs.Replay.{neither, refused, file_ending, before};
+ghost use Rattle.replaying.specs.Playing.{file_if, octets_of, case_with, whose_as, fault_as, ending_by, files_ending};
 
-use super::{Fault, Found, Marks};
-use merging::{Cut, cut_file, in_row};
+use super::{Fault, Marks, Whose};
+use merging::{cut_file, in_row};
 use message::field;
+use refusal::Refusal;
 use schemes::list::list_ok;
 use schemes::set::within;
 use vector::TokenPlace;
+
+// The octets of a file, none where it could not be opened.
+pub fn octets_of(file: Option<&[u8]>) -> &[u8]
+    ensures { result.now ≡ octets_of (option_copied file.entry) }
+{
+    match file {
+        Some(octets) => octets,
+        None => b"",
+    }
+}
 
 // 19, of a list and its marks.
 fn given_ok(list: &[u8], marks: u16) -> bool
     ensures { result ≡ (list_ok list.now && below (length list.now / 16) marks) }
 {
-    if list_ok(list) {} else {
-        return false;
-    }
-    let count = list.len() / field::ID;
-    within(marks, count as u32)
+    list_ok(list) && within(marks, (list.len() / field::ID) as u32)
 }
 
-// A refusal, or none for the number 0.
-fn refuse(number: u32, place: TokenPlace, whose: u8) -> Fault
-    ensures { result ≡ record { missing = false; refusal = number; place = place; whose = whose } }
+// A refusal of what is given as a whole.
+fn refuse(refusal: Refusal) -> Fault
+    ensures { fault_as result ≡ refused (number_of refusal) 0 neither }
 {
-    Fault {
-        missing: false,
-        refusal: number,
-        place,
-        whose,
+    Fault::Refused {
+        number: refusal.number(),
+        place: TokenPlace(0),
+        whose: Whose::Neither,
     }
 }
 
-// What ends a replay as a file is opened and cut up.
-fn file_fault(found: bool, cut: Cut, whose: u8) -> Fault
-    ensures { result ≡ record { missing = not found; refusal = cut.number; place = cut.place; whose = whose } }
+// A file, opened and cut up to its end: how many messages it has.
+fn count_messages(file: Option<&[u8]>, whose: Whose) -> Result<u32, Fault>
+    ensures ending { ending_by result ≡ file_ending (whose_as whose) (file_if (option_copied file.entry)) }
+    ensures messages { IfOk result (λ n. n ≡ length (messages_of (octets_of (option_copied file.entry)))) }
 {
-    let place = cut.place;
-    if found {
-        return refuse(cut.number, place, whose);
+    let Some(octets) = file else {
+        return Err(Fault::Unopened);
+    };
+    let cut = cut_file(octets);
+    match cut.refused {
+        None => Ok(cut.messages),
+        Some(refused) => Err(Fault::Refused {
+            number: refused.refusal.number(),
+            place: refused.place,
+            whose,
+        }),
     }
-    Fault {
-        missing: true,
-        refusal: cut.number,
-        place,
-        whose,
-    }
-}
-
-// Whether something ends it.
-pub(crate) fn is_fault(fault: Fault) -> bool
-    ensures { result ≡ (fault.missing || not (eqb fault.refusal 0)) }
-{
-    if fault.missing {
-        return true;
-    }
-    fault.refusal != 0
 }
 
 // The two files, and 24.
-fn files_fault(found: Found, ifile: &[u8], afile: &[u8]) -> Fault
-    ensures { ending_as result ≡ files_ending found ifile.now afile.now }
+fn check_files(ifile: Option<&[u8]>, afile: Option<&[u8]>) -> Result<(), Fault>
+    ensures { ending_by result ≡ files_ending (option_copied ifile.entry) (option_copied afile.entry) }
 {
-    let icut = cut_file(ifile);
-    let ifault = file_fault(found.initiator, icut, Fault::INITIATOR);
-    if is_fault(ifault) {
-        return ifault;
+    let imessages = count_messages(ifile, Whose::Initiator)?;
+    let amessages = count_messages(afile, Whose::Acceptor)?;
+    if !in_row(octets_of(ifile), octets_of(afile), imessages + amessages) {
+        return Err(refuse(Refusal::Numbering));
     }
-    let acut = cut_file(afile);
-    let afault = file_fault(found.acceptor, acut, Fault::ACCEPTOR);
-    if is_fault(afault) {
-        return afault;
-    }
-    if in_row(ifile, afile, icut.messages + acut.messages) {
-        return refuse(0, TokenPlace(0), Fault::NEITHER);
-    }
-    refuse(24, TokenPlace(0), Fault::NEITHER)
+    Ok(())
 }
 
 // All that ends a replay before play, the first of it.
-pub fn fault_before(
+pub fn check_before(
     ilist: &[u8],
     alist: &[u8],
     marks: Marks,
-    found: Found,
-    ifile: &[u8],
-    afile: &[u8],
-) -> Fault
-    ensures { ending_as result ≡ before
-        (case_with ilist.now alist.now marks found ifile.now afile.now) }
+    ifile: Option<&[u8]>,
+    afile: Option<&[u8]>,
+) -> Result<(), Fault>
+    ensures { ending_by result ≡ before
+        (case_with ilist.now alist.now marks (option_copied ifile.entry) (option_copied afile.entry)) }
 {
-    if given_ok(ilist, marks.initiator) {} else {
-        return refuse(19, TokenPlace(0), Fault::NEITHER);
+    if !given_ok(ilist, marks.initiator) || !given_ok(alist, marks.acceptor) {
+        return Err(refuse(Refusal::Argument));
     }
-    if given_ok(alist, marks.acceptor) {} else {
-        return refuse(19, TokenPlace(0), Fault::NEITHER);
-    }
-    files_fault(found, ifile, afile)
+    check_files(ifile, afile)
 }

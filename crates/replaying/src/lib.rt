@@ -14,32 +14,28 @@ pub struct Marks {
     pub acceptor: u16,
 }
 
-// Whether the file of each side could be opened.
-#[derive(Clone, Copy)]
-pub struct Found {
-    pub initiator: bool,
-    pub acceptor: bool,
+// Whose a refusal is: a side's, or neither's.
+#[derive(Clone, Copy, PartialEq, Eq)]
+pub enum Whose {
+    Initiator,
+    Acceptor,
+    Neither,
 }
 
-// How a replay ends: with a file that could not be opened, or with a refusal, its place and whose it is; with neither at the last turn.
+// What ends a replay before its last turn: a file that could not be opened, or a refusal with its place and whose it is. The refusal is a number, since a
+// turn's is that of its reader's Answer.
 #[derive(Clone, Copy)]
-pub struct Fault {
-    pub missing: bool,
-    pub refusal: u32,
-    pub place: TokenPlace,
-    pub whose: u8,
-}
-
-impl Fault {
-    pub const INITIATOR: u8 = 0;
-
-    pub const ACCEPTOR: u8 = 1;
-
-    pub const NEITHER: u8 = 2;
+pub enum Fault {
+    Unopened,
+    Refused {
+        number: u32,
+        place: TokenPlace,
+        whose: Whose,
+    },
 }
 
 // A replay at work: the two records, the place in each file, the number of the next message, how many turns were played and whether the last was the
-// acceptor's, whether it goes on, and how it ended.
+// acceptor's, and how it ended: not yet, or at the last turn, or with a fault.
 #[derive(Clone, Copy)]
 pub struct Replay {
     pub initiator: Record,
@@ -49,6 +45,5 @@ pub struct Replay {
     pub number: u32,
     pub turns: u32,
     pub last: bool,
-    pub more: bool,
-    pub fault: Fault,
+    pub end: Option<Result<(), Fault>>,
 }

@@ -1,30 +1,29 @@
 // The turns of two files, played one after the other.
-ghost use Rattle.std.specs.Prelude.{◌≡◌, true, false, cond, ◌+◌, ◌*◌, ◌-◌, ◌<◌, ◌≤◌, length, take, drop};
+ghost use Rattle.std.specs.Prelude.{◌≡◌, true, ◌≤◌, length, Err, is_none, option_copied};
 ghost use Rattle.sides.specs.Merging.{messages_of, turns_of};
-ghost use Rattle.sides.specs.Replay.{finished, conversation_in, replay_of};
-ghost use Rattle.replaying.specs.Playing.{case_with, ending_as, summary, played_as, begun_with, Begun, counted, rest_of, Fine, stood, role_of, went_on, ended_with, whose_in, after_turn, Ready, Goes};
+ghost use Rattle.sides.specs.Replay.{conversation_in, replay_of};
+ghost use Rattle.replaying.specs.Playing.{octets_of, case_with, summary, played_as, begun_with, Begun, counted, rest_of, Fine, stood, role_of, side_of, went_on, ended_with, refused_by, whose_in, after_turn, Ready, Goes};
 
-use super::before::{fault_before, is_fault};
-use super::{Fault, Found, Marks, Replay};
+use super::before::{check_before, octets_of};
+use super::{Fault, Marks, Replay, Whose};
 use conversation::{Answer, Record};
 use merging::next_turn;
 use message::field;
 use negotiating::opening::open;
+use refusal::Refusal;
 use schemes::list::id_at;
 use turning::hear::hear;
 use turning::owed::owes;
 use turning::spoke::speak;
-use vector::TokenPlace;
 
 // The conversation of the first message of two files, zeros where there is no message.
 fn first_conversation(ifile: &[u8], afile: &[u8]) -> [u8; 16]
     requires { (length ifile.now ≤ 65535) × (length afile.now ≤ 65535) }
     ensures { result ≡ conversation_in (turns_of (messages_of ifile.now) (messages_of afile.now)) }
 {
-    let turn = next_turn(ifile, afile, 0);
-    if turn.messages == 0 {
+    let Some(turn) = next_turn(ifile, afile, 0) else {
         return [0u8; 16];
-    }
+    };
     if turn.acceptors {
         return id_at(afile, field::CONVERSATION);
     }
@@ -36,25 +35,19 @@ fn begin_with(
     ilist: &[u8],
     alist: &[u8],
     conversation: [u8; 16],
-    fault: Fault,
-    more: bool,
+    end: Option<Result<(), Fault>>,
 ) -> Replay
-    ensures { result ≡ begun_with ilist.now alist.now conversation fault more }
+    ensures { result ≡ begun_with ilist.now alist.now conversation end }
 {
-    let iopened = open(false, ilist, conversation);
-    let aopened = open(true, alist, [0u8; 16]);
-    let initiator = iopened.next;
-    let acceptor = aopened.next;
     Replay {
-        initiator,
-        acceptor,
+        initiator: open(false, ilist, conversation).next,
+        acceptor: open(true, alist, [0u8; 16]).next,
         iplace: 0,
         aplace: 0,
         number: 0,
         turns: 0,
         last: false,
-        more,
-        fault,
+        end,
     }
 }
 
@@ -63,36 +56,37 @@ pub fn start(
     ilist: &[u8],
     alist: &[u8],
     marks: Marks,
-    found: Found,
-    ifile: &[u8],
-    afile: &[u8],
+    ifile: Option<&[u8]>,
+    afile: Option<&[u8]>,
 ) -> Replay
-    ensures { Begun (case_with ilist.now alist.now marks found ifile.now afile.now) marks
-        ifile.now afile.now result }
+    ensures { Begun (case_with ilist.now alist.now marks (option_copied ifile.entry) (option_copied afile.entry)) marks
+        (octets_of (option_copied ifile.entry)) (octets_of (option_copied afile.entry)) result }
 {
-    let fault = fault_before(ilist, alist, marks, found, ifile, afile);
-    if is_fault(fault) {
-        return begin_with(ilist, alist, [0u8; 16], fault, false);
+    match check_before(ilist, alist, marks, ifile, afile) {
+        Ok(()) => {
+            let conversation = first_conversation(octets_of(ifile), octets_of(afile));
+            begin_with(ilist, alist, conversation, None)
+        }
+        Err(fault) => begin_with(ilist, alist, [0u8; 16], Some(Err(fault))),
     }
-    let conversation = first_conversation(ifile, afile);
-    begin_with(ilist, alist, conversation, fault, true)
 }
 
-// The number of a role's side.
-fn side_of(acceptor: bool) -> u8
-    ensures { result ≡ cond acceptor 1 0 }
+// The side of a role.
+fn side_of(acceptor: bool) -> Whose
+    ensures { result ≡ side_of acceptor }
 {
     if acceptor {
-        return Fault::ACCEPTOR;
+        Whose::Acceptor
+    } else {
+        Whose::Initiator
     }
-    Fault::INITIATOR
 }
 
 // Whose a refusal of a turn is: the writer's for 28, else the reader's.
-fn whose_in(acceptor: bool, number: u32) -> u8
+fn whose_in(acceptor: bool, number: u32) -> Whose
     ensures { result ≡ whose_in acceptor number }
 {
-    if number == 28 {
+    if number == Refusal::Choice.number() {
         return side_of(acceptor);
     }
     side_of(!acceptor)
@@ -100,21 +94,17 @@ fn whose_in(acceptor: bool, number: u32) -> u8
 
 // A replay that a turn's refusal ends.
 fn end_with(s: Replay, acceptor: bool, answer: Answer) -> Replay
-    ensures { result ≡ ended_with s
-        (record { missing = false; refusal = answer.refusal; place = answer.place; whose = whose_in acceptor answer.refusal }) }
+    ensures { result ≡ ended_with s (Err (refused_by acceptor answer)) }
 {
-    let place = answer.place;
-    let whose = whose_in(acceptor, answer.refusal);
-    let fault = Fault {
-        missing: false,
-        refusal: answer.refusal,
-        place,
-        whose,
+    let fault = Fault::Refused {
+        number: answer.refusal,
+        place: answer.place,
+        whose: whose_in(acceptor, answer.refusal),
     };
-    let mut next = s;
-    next.more = false;
-    next.fault = fault;
-    next
+    Replay {
+        end: Some(Err(fault)),
+        ..s
+    }
 }
 
 // The record of a role.
@@ -141,23 +131,26 @@ fn go_on(
 {
     let number = s.number + messages;
     let turns = s.turns + 1;
-    let mut next = s;
-    next.number = number;
-    next.turns = turns;
     if acceptor {
-        let place = s.aplace + octets;
-        next.initiator = reader;
-        next.acceptor = writer;
-        next.aplace = place;
-        next.last = true;
-        return next;
+        return Replay {
+            initiator: reader,
+            acceptor: writer,
+            aplace: s.aplace + octets,
+            number,
+            turns,
+            last: true,
+            ..s
+        };
     }
-    let place = s.iplace + octets;
-    next.initiator = writer;
-    next.acceptor = reader;
-    next.iplace = place;
-    next.last = false;
-    next
+    Replay {
+        initiator: writer,
+        acceptor: reader,
+        iplace: s.iplace + octets,
+        number,
+        turns,
+        last: false,
+        ..s
+    }
 }
 
 // A turn of a role.
@@ -171,48 +164,38 @@ fn play_side(s: Replay, acceptor: bool, marks: u16, t: &[u8], messages: u32, d: 
     if answer.refusal != 0 {
         return end_with(s, acceptor, answer);
     }
-    let heard = answer.next;
     let spoken = speak(writer, marks, t);
-    go_on(s, acceptor, spoken, heard, t.len(), messages)
-}
-
-// A replay that no turn is left of.
-fn done(s: Replay) -> Replay
-    ensures { result ≡ ended_with s s.fault }
-{
-    let mut next = s;
-    next.more = false;
-    next
+    go_on(s, acceptor, spoken, answer.next, t.len(), messages)
 }
 
 // The next turn.
 pub fn play_turn(s: Replay, marks: Marks, ifile: &[u8], afile: &[u8], d: &mut [u8]) -> Replay
-    requires { Fine ifile.now afile.now s × (s.more ≡ true) × (ending_as s.fault ≡ finished) }
+    requires { Fine ifile.now afile.now s × (is_none s.end ≡ true) }
     ensures { Goes marks ifile.now afile.now s d.old result d.new }
 {
-    let iplace = s.iplace;
-    let aplace = s.aplace;
-    let turn = next_turn(&ifile[iplace..], &afile[aplace..], s.number);
-    if turn.messages == 0 {
-        return done(s);
-    }
+    let ileft = &ifile[s.iplace..];
+    let aleft = &afile[s.aplace..];
+    let Some(turn) = next_turn(ileft, aleft, s.number) else {
+        return Replay {
+            end: Some(Ok(())),
+            ..s
+        };
+    };
     if turn.acceptors {
-        let end = aplace + turn.acceptor;
         return play_side(
             s,
             true,
             marks.acceptor,
-            &afile[aplace..end],
+            &aleft[..turn.acceptor],
             turn.messages,
             d,
         );
     }
-    let end = iplace + turn.initiator;
     play_side(
         s,
         false,
         marks.initiator,
-        &ifile[iplace..end],
+        &ileft[..turn.initiator],
         turn.messages,
         d,
     )
@@ -220,12 +203,12 @@ pub fn play_turn(s: Replay, marks: Marks, ifile: &[u8], afile: &[u8], d: &mut [u
 
 // All turns that are left.
 fn play_all(s: Replay, marks: Marks, ifile: &[u8], afile: &[u8], d: &mut [u8]) -> Replay
-    requires { Fine ifile.now afile.now s × (s.more ≡ true) × (ending_as s.fault ≡ finished) }
+    requires { Fine ifile.now afile.now s × (is_none s.end ≡ true) }
     ensures { played_as result d.new ≡ counted s.turns
         (summary (rest_of marks ifile.now afile.now s d.old)) }
 {
     let mut replay = s;
-    while replay.more {
+    while replay.end.is_none() {
         replay = play_turn(replay, marks, ifile, afile, d);
     }
     replay
@@ -236,18 +219,23 @@ pub fn play(
     ilist: &[u8],
     alist: &[u8],
     marks: Marks,
-    found: Found,
-    ifile: &[u8],
-    afile: &[u8],
+    ifile: Option<&[u8]>,
+    afile: Option<&[u8]>,
     transcript: &mut [u8],
 ) -> Replay
     ensures { played_as result transcript.new ≡ summary
-        (replay_of (case_with ilist.now alist.now marks found ifile.now afile.now)
+        (replay_of (case_with ilist.now alist.now marks (option_copied ifile.entry) (option_copied afile.entry))
         transcript.old) }
 {
-    let replay = start(ilist, alist, marks, found, ifile, afile);
-    if replay.more {} else {
+    let replay = start(ilist, alist, marks, ifile, afile);
+    if replay.end.is_some() {
         return replay;
     }
-    play_all(replay, marks, ifile, afile, transcript)
+    play_all(
+        replay,
+        marks,
+        octets_of(ifile),
+        octets_of(afile),
+        transcript,
+    )
 }

@@ -2,8 +2,8 @@ use borrow.Author.Rules.{rules}
 use Rattle.replaying.proofs.Nexts.{talks}
 use Rattle.replaying.proofs.play.first_conversation.Goals as goal
 
-pub returns-then-turn-eq0 : goal.returns-then-turn-eq0
-returns-then-turn-eq0 c = search (rules, talks)
+pub returns-in_default : goal.returns-in_default
+returns-in_default c = search (rules, talks)
 
 pub id_at-requires : goal.id_at-requires
 id_at-requires c = search (rules, talks)

@@ -1,12 +1,9 @@
 use borrow.Author.Rules.{rules}
-use Rattle.replaying.proofs.Alls.{wholes}
+use mathlib.Core.Path.{◌≡◌, ap}
+use mathlib.Core.Bool.{true, not}
+use Rattle.std.specs.Prelude.{is_some}
+use Rattle.replaying.proofs.Alls.{whole-ended}
 use Rattle.replaying.proofs.play.play.Goals as goal
 
-pub returns-else-replay : goal.returns-else-replay
-returns-else-replay c = search (rules, wholes)
-
-pub play_all-requires : goal.play_all-requires
-play_all-requires c = search (rules, wholes)
-
-pub returns : goal.returns
-returns c = search (rules, wholes)
+pub returns-then-is_some : goal.returns-then-is_some
+returns-then-is_some c = let over : is_some c.start-replay.result.end ≡ true = search rules in whole-ended _ _ _ _ _ c.start-replay.ensures _ (ap not over)

@@ -2,13 +2,6 @@ use borrow.Author.Rules.{rules}
 use Rattle.replaying.proofs.Plays.{ready-few, side-refused, side-numbers, side-room, side-accepted}
 use Rattle.replaying.proofs.play.play_side.Goals as goal
 
-pub owes-requires : goal.owes-requires
-owes-requires c = (
-  ready-few _ _ _ c.requires c.args.acceptor _
-      c.role_of-writer.ensures,
-  search rules,
-)
-
 pub returns-then-answer-ne0 : goal.returns-then-answer-ne0
 returns-then-answer-ne0 c = side-refused _ c.args.acceptor _ _ _ _
     c.requires _
