@@ -2,12 +2,13 @@
 // the crates behind the door are many so that a change is proved in seconds (docs/GATE.md).
 #![tactic(auto)]
 
-// The structural reading of a token: checks 1 to 13, and its messages by their place in the list.
-pub use token::{Answer as TokenAnswer, has_message, message_at, place_at, read_token};
+// The structural reading of a token: checks 1 to 13, or the first refusal with its place, and its messages by their place in the list.
+pub use refusal::Refusal;
+pub use token::{Refused, has_message, message_at, place_at, read_token};
 pub use vector::TokenPlace;
 
 // One message by itself: checks 2 to 6 and 10 to 13.
-pub use message::{Header, Kind, Read, read_message};
+pub use message::{Header, Kind, read_message};
 
 // What a message shows: its vectors as parts of the caller's octets, and its signed numbers.
 pub use coverage::vectors::{vector_count, vector_of};

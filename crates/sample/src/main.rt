@@ -8,7 +8,7 @@ ghost use Rattle.message.specs.Layout.{scheme_vector};
 
 use console::STDOUT;
 use negoex::{
-    Answer, Elements, Record, TokenAnswer, choose_alert, open, read, read_token, schemes,
+    Answer, Elements, Record, choose_alert, open, read, read_token, schemes,
     write_offer, write_reply,
 };
 
@@ -46,15 +46,14 @@ fn listed(m: &[u8]) -> usize
 
 // The structural reading of a token, and the schemes of its first message.
 fn say_token(token: &[u8]) {
-    let reading = read_token(token);
-    match reading {
-        TokenAnswer::Messages(n) => {
+    match read_token(token) {
+        Ok(n) => {
             say(b"token: messages", n as u64);
             say(b"  schemes", listed(token) as u64);
         }
-        TokenAnswer::Refused(n, place) => {
-            say(b"token: refused", n as u64);
-            say(b"  at", place.0 as u64);
+        Err(refused) => {
+            say(b"token: refused", refused.refusal.number() as u64);
+            say(b"  at", refused.place.0 as u64);
         }
     }
 }
