@@ -76,8 +76,8 @@ pub fn check_stage(r: Record, class: u8) -> Result<(), Refusal>
     Ok(())
 }
 
-// The own place of a scheme, or the list's length where it is not one of the list. It asks for a record inside its limits, as the next function does: 18
-// has shown that before any call looks for a scheme.
+// The own place of a scheme, or the list's length where it is not one of the list: a number, since a reading carries it on as it is. It asks for a record
+// inside its limits, as the next function does: 18 has shown that before any call looks for a scheme.
 pub fn find_own(r: Record, id: &[u8]) -> usize
     requires { Inside r }
     ensures { result ≡ place (own_of r) id.now }

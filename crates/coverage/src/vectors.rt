@@ -102,7 +102,7 @@ pub fn vector_count(m: &[u8]) -> usize
     kind_count(kind, m)
 }
 
-// Vector k of a message; an empty one at offset 0 beyond the last.
+// Vector k of a message; an empty one at offset 0 beyond the last: no Option, since that one is promised to callers of the library.
 pub fn vector_of(m: &[u8], k: usize) -> Vector
     ensures { result ≡ vector_in m.now k }
 {

@@ -91,7 +91,7 @@ pub fn fits(e: Elements, values: &[u8]) -> bool
     total == values.len()
 }
 
-// How many octets elements are written as, array and values. Those that break their limits are not written: 0.
+// How many octets elements are written as, array and values. Those that break their limits are not written: 0, by the definition `handed_size`.
 pub fn size_of(e: Elements, values: &[u8]) -> usize
     ensures { result ≡ handed_size e values.now }
 {
