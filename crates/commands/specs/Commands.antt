@@ -16,7 +16,7 @@ use Rattle.conversation.specs.Writing.{NegoContent, AlertContent, opening, offer
 use Rattle.conversation.specs.Reading.{reading_token}
 use Rattle.conversation.specs.Choosing.{choosing}
 use Rattle.script.specs.declared.Command.{Command}
-use Rattle.script.specs.Grammar.{OFFER, REPLY, METADATA, EXCHANGE, VERIFY, ALERT, READ, OPEN, CHOOSE-EXCHANGE, CHOOSE-VERIFY, CHOOSE-ALERT}
+use Rattle.script.specs.Grammar.{OFFER, REPLY, METADATA, EXCHANGE, VERIFY, ALERT, READ, OPEN, CHOOSE-EXCHANGE, CHOOSE-VERIFY, CHOOSE-ALERT, number_of_verb}
 
 unfoldable pub random_in : List ℕ → List ℕ
 random_in o = cond (leb 32 (length o)) (take 32 o) (replicate 32 0)
@@ -33,29 +33,29 @@ kept d a = record { answer = a; transcript = d }
 -- "E offer RANDOM EXT EXT ..", "E reply MARKS RANDOM EXT EXT .."; what is no call is not of this stage (18)
 unfoldable pub nego_of : Command → Record → List ℕ → List ℕ → Outcome
 nego_of c r d o =
-    cond (eqb c.verb OFFER) (offering r d (nego_content c o))
-    (cond (eqb c.verb REPLY) (replying r d (c.number % 65536) (nego_content c o)) (kept d (answered 18 0 r)))
+    cond (eqb (number_of_verb c.verb) OFFER) (offering r d (nego_content c o))
+    (cond (eqb (number_of_verb c.verb) REPLY) (replying r d (c.number % 65536) (nego_content c o)) (kept d (answered 18 0 r)))
 
 -- "E metadata ID OCTETS", "E exchange OCTETS", "E verify TYPE OCTETS", "E alert CODE ALERT ALERT .."; "TYPE and CODE are read as two's complement"
 unfoldable pub writer_of : Command → Record → List ℕ → List ℕ → Outcome
 writer_of c r d o =
-    cond (eqb c.verb METADATA) (writing_metadata r d c.id o)
-    (cond (eqb c.verb EXCHANGE) (speaking r d (request o))
-    (cond (eqb c.verb VERIFY) (speaking r d (checksum (signed32 c.number) o))
-    (cond (eqb c.verb ALERT) (speaking r d (alarm (alert_content c o)))
+    cond (eqb (number_of_verb c.verb) METADATA) (writing_metadata r d c.id o)
+    (cond (eqb (number_of_verb c.verb) EXCHANGE) (speaking r d (request o))
+    (cond (eqb (number_of_verb c.verb) VERIFY) (speaking r d (checksum (signed32 c.number) o))
+    (cond (eqb (number_of_verb c.verb) ALERT) (speaking r d (alarm (alert_content c o)))
     (nego_of c r d o))))
 
 -- "E choose MARKS exchange OCTETS", "E choose MARKS verify TYPE OCTETS", "E choose MARKS alert CODE ALERT ALERT .."
 unfoldable pub chooser_of : Command → Record → List ℕ → List ℕ → Outcome
 chooser_of c r d o =
-    cond (eqb c.verb CHOOSE-EXCHANGE) (choosing r d (c.marks % 65536) (request o))
-    (cond (eqb c.verb CHOOSE-VERIFY) (choosing r d (c.marks % 65536) (checksum (signed32 c.number) o))
-    (cond (eqb c.verb CHOOSE-ALERT) (choosing r d (c.marks % 65536) (alarm (alert_content c o)))
+    cond (eqb (number_of_verb c.verb) CHOOSE-EXCHANGE) (choosing r d (c.marks % 65536) (request o))
+    (cond (eqb (number_of_verb c.verb) CHOOSE-VERIFY) (choosing r d (c.marks % 65536) (checksum (signed32 c.number) o))
+    (cond (eqb (number_of_verb c.verb) CHOOSE-ALERT) (choosing r d (c.marks % 65536) (alarm (alert_content c o)))
     (writer_of c r d o)))
 
 -- "open i ROOM CONVERSATION ID ID ..", "open a ROOM ID ID ..", "E read OCTETS"
 unfoldable pub call_of : Command → Record → List ℕ → List ℕ → Outcome
 call_of c r d o =
-    cond (eqb c.verb OPEN) (kept d (opening c.acceptor o c.id))
-    (cond (eqb c.verb READ) (reading_token r d o)
+    cond (eqb (number_of_verb c.verb) OPEN) (kept d (opening c.acceptor o c.id))
+    (cond (eqb (number_of_verb c.verb) READ) (reading_token r d o)
     (chooser_of c r d o))

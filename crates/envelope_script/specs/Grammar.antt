@@ -3,17 +3,20 @@
 -- Glossary
 --   Said             what a line says: nonsense, init, resp, a state, or octets of a kind
 --   MECHANISM, FLAGS, TOKEN, CHECKSUM   the kinds of octets
+--   kind_of k        the number of the kind of octets of a field of src/
 --   said_as l d      what an answer of src/ says, whose octets stand at the front of the slice d
 --   begins w s       the line s begins with the word w; behind w s: what stands behind it
 --   byte n           a number up to 255, as a state; state_said v: what a field N says
 --   octets_said k o  octets of the kind k, where they are good
 --   line_of s room   what the line s says, where a slice of `room` octets is lent; field_of: a line of octets
-use Rattle.std.specs.Prelude.{ℕ, Bool, cond, List, length, take, drop, ltb}
+use Rattle.std.specs.Prelude.{ℕ, Bool, cond, List, length, take, drop, ltb, Option, Some, None}
 use Rattle.octets.specs.Octets.{same_octets}
 use Rattle.text.specs.Text.{quoted}
 use Rattle.fields.specs.Fields.{Numeral, is, nothing, room_of, Front, front, bad, fit, octets_of}
 use Rattle.envelope_script.specs.declared.Line.{Line}
 use Rattle.envelope_script.specs.declared.Line.TheVariants as answer
+use Rattle.envelope_script.specs.declared.Field.{Field}
+use Rattle.envelope_script.specs.declared.Field.TheVariants as field
 
 pub data Said : Type 0 where
   nonsense : Said
@@ -34,12 +37,18 @@ TOKEN = 3
 abbrev pub CHECKSUM : ℕ
 CHECKSUM = 4
 
-abbrev pub said_as : Line → List ℕ → Said
-said_as answer.Bad d = nonsense
-said_as answer.Init d = init
-said_as answer.Resp d = resp
-said_as (answer.State n) d = state n
-said_as (answer.Octets k n) d = octets k (take n d)
+abbrev pub kind_of : Field → ℕ
+kind_of field.Mechanism = MECHANISM
+kind_of field.Flags = FLAGS
+kind_of field.Token = TOKEN
+kind_of field.Checksum = CHECKSUM
+
+abbrev pub said_as : Option Line → List ℕ → Said
+said_as None d = nonsense
+said_as (Some answer.Init) d = init
+said_as (Some answer.Resp) d = resp
+said_as (Some (answer.State n)) d = state n
+said_as (Some (answer.Octets k n)) d = octets (kind_of k) (take n d)
 
 unfoldable pub begins : List ℕ → List ℕ → Bool
 begins w s = same_octets (take (length w) s) w

@@ -1,4 +1,2 @@
-pub mod Parts
-pub mod Words
 pub mod Numerals
 pub mod Decoding

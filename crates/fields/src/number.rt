@@ -1,79 +1,62 @@
 // Digits and numbers.
 ghost use Rattle.std.specs.Prelude.{◌≡◌};
-ghost use Rattle.fields.specs.Fields.{digit_of, numeral as Fields·numeral, number_of, hexadecimal_of, room_of};
+ghost use Rattle.fields.specs.Fields.{base_of, below, digit_of, numeral as Fields·numeral, number_of, hexadecimal_of, room_of};
 
-// What a field that should be a number says.
-#[derive(Clone, Copy)]
-pub enum Number {
-    Is(u32),
-    Bad,
+// The value of a digit of either case.
+#[tactic(auto, unfolding(crate::specs::Fields::digit_of))]
+pub(crate) fn digit(c: u8) -> Option<u8>
+    ensures { result ≡ below 16 (digit_of c) }
+{
+    match c {
+        b'0'..=b'9' => Some(c - b'0'),
+        b'A'..=b'F' => Some(c - b'A' + 10),
+        b'a'..=b'f' => Some(c - b'a' + 10),
+        _ => None,
+    }
 }
 
-// The value of a digit of either case, 16 where it is none.
-pub(crate) fn digit(c: u8) -> u8
-    ensures { result ≡ digit_of c }
-{
-    if c < 48 {
-        return 16;
-    }
-    if c < 58 {
-        return c - 48;
-    }
-    if c < 65 {
-        return 16;
-    }
-    if c < 71 {
-        return c - 55;
-    }
-    if c < 97 {
-        return 16;
-    }
-    if c < 103 {
-        return c - 87;
-    }
-    16
+// The bases of numbers.
+#[derive(Clone, Copy)]
+enum Base {
+    Decimal = 10,
+    Hexadecimal = 16,
 }
 
 // The number that digits of a base stand for, most significant first, where it is at most `most`.
-fn numeral(s: &[u8], base: u8, most: u32) -> Number
-    ensures { number_of result ≡ Fields·numeral base most s.now }
+fn numeral(s: &[u8], base: Base, most: u32) -> Option<u32>
+    ensures { number_of result ≡ Fields·numeral (base_of base) most s.now }
 {
-    let mut number: u64 = 0;
-    let mut i = 0;
-    while i < s.len() {
-        let value = digit(s[i]);
-        if base <= value {
-            return Number::Bad;
+    let base = base as u64;
+    let mut number = 0;
+    for c in s {
+        let value = digit(*c)? as u64;
+        let next = number as u64 * base + value;
+        if base <= value || (most as u64) < next {
+            return None;
         }
-        let next = number * base as u64 + value as u64;
-        if (most as u64) < next {
-            return Number::Bad;
-        }
-        number = next;
-        i += 1;
+        number = next as u32;
     }
-    Number::Is(number as u32)
+    Some(number)
 }
 
 // A number of so many hexadecimal digits.
-pub fn hexadecimal(s: &[u8], digits: usize, most: u32) -> Number
+#[tactic(auto, unfolding(crate::specs::Fields::hexadecimal_of))]
+pub fn hexadecimal(s: &[u8], digits: usize, most: u32) -> Option<u32>
     ensures { number_of result ≡ hexadecimal_of digits most s.now }
 {
     if s.len() != digits {
-        return Number::Bad;
+        return None;
     }
-    numeral(s, 16, most)
+    numeral(s, Base::Hexadecimal, most)
 }
 
 // ROOM: one to five decimal digits, at most 65,536.
-pub fn room(s: &[u8]) -> Number
+#[tactic(auto, unfolding(crate::specs::Fields::room_of))]
+pub fn room(s: &[u8]) -> Option<u32>
     ensures { number_of result ≡ room_of s.now }
 {
-    if s.len() < 1 {
-        return Number::Bad;
+    if s.is_empty() || 5 < s.len() {
+        return None;
     }
-    if 5 < s.len() {
-        return Number::Bad;
-    }
-    numeral(s, 10, 65536)
+    numeral(s, Base::Decimal, 65536)
 }

@@ -3,117 +3,100 @@ ghost use Rattle.std.specs.Prelude.{◌≤◌};
 
 use conversation::{Answer, Record};
 use fields::part;
-use negotiating::opening::open;
-use script::Command;
+use script::{Command, Verb};
 
-// One end: whether it is open, where its transcript's buffer stands among the octets for both, where its turn starts in it, and its record.
+// An open end: where its transcript's buffer stands among the octets for both, where its turn starts in it, and its record.
 #[derive(Clone, Copy)]
 pub(crate) struct End {
-    pub(crate) open: bool,
     pub(crate) from: usize,
     pub(crate) to: usize,
     pub(crate) start: usize,
     pub(crate) record: Record,
 }
 
+impl End {
+    // An end opened afresh. Each transcript has at most 65,536 of the octets for both.
+    fn opened(c: Command, record: Record) -> End {
+        let from = place_of(c.acceptor);
+        End {
+            from,
+            to: from + c.number as usize,
+            start: 0,
+            record,
+        }
+    }
+
+    // What its transcript holds from a place on, up to `end`.
+    pub(crate) fn held(self, both: &[u8], start: usize, end: usize) -> &[u8] {
+        part(part(both, self.from, self.to), start, end)
+    }
+}
+
+// The ends, where they are open.
 #[derive(Clone, Copy)]
 pub(crate) struct Ends {
-    pub(crate) initiator: End,
-    pub(crate) acceptor: End,
+    pub(crate) initiator: Option<End>,
+    pub(crate) acceptor: Option<End>,
 }
 
-// An end that is not open. Its record is the one that a refused opening answers.
-fn closed(acceptor: bool) -> End {
-    let none = [0u8; 1];
-    let opened = open(acceptor, &none[..0], [0u8; 16]);
-    let record = opened.next;
-    End {
-        open: false,
-        from: 0,
-        to: 0,
-        start: 0,
-        record,
+impl Ends {
+    pub(crate) fn end(self, acceptor: bool) -> Option<End> {
+        if acceptor {
+            self.acceptor
+        } else {
+            self.initiator
+        }
     }
-}
 
-// The two ends before the first call.
-pub(crate) fn both_closed() -> Ends {
-    let initiator = closed(false);
-    let acceptor = closed(true);
-    Ends {
-        initiator,
-        acceptor,
+    pub(crate) fn with_end(self, acceptor: bool, end: Option<End>) -> Ends {
+        if acceptor {
+            Ends {
+                acceptor: end,
+                ..self
+            }
+        } else {
+            Ends {
+                initiator: end,
+                ..self
+            }
+        }
     }
-}
-
-pub(crate) fn end_of(ends: Ends, acceptor: bool) -> End {
-    if acceptor {
-        return ends.acceptor;
-    }
-    ends.initiator
-}
-
-pub(crate) fn with_end(ends: Ends, acceptor: bool, e: End) -> Ends {
-    let mut next = ends;
-    if acceptor {
-        next.acceptor = e;
-        return next;
-    }
-    next.initiator = e;
-    next
 }
 
 // The octets of an end's record in use, 0 where it is not open.
-pub(crate) fn used(e: End) -> usize {
-    if e.open {
-        return e.record.used;
+pub(crate) fn used(end: Option<End>) -> usize {
+    match end {
+        Some(e) => e.record.used,
+        None => 0,
     }
-    0
 }
 
-// What an end's transcript holds from a place on, up to `end`.
-pub(crate) fn held(both: &[u8], e: End, start: usize, end: usize) -> &[u8] {
-    part(part(both, e.from, e.to), start, end)
-}
-
-// Where an end's transcript starts among the octets for both: each has at most 65,536.
+// Where an end's transcript starts among the octets for both.
 fn place_of(acceptor: bool) -> usize
     ensures { result ≤ 65536 }
 {
-    if acceptor {
-        return 65536;
-    }
-    0
+    if acceptor { 65536 } else { 0 }
 }
 
-// An end opened afresh, or as it was where opening refuses.
-fn reopened(c: Command, e: End, a: Answer) -> End {
-    if a.refusal != 0 {
-        return e;
+// An end after a call: opening opens it afresh, or leaves it as it was where it refuses. Any other call goes on with the record that it returned, and an
+// accepted reading ends the turn.
+pub(crate) fn moved(c: Command, end: Option<End>, a: Answer) -> Option<End> {
+    let accepted = a.refusal == 0;
+    if c.verb == Verb::Open && accepted {
+        return Some(End::opened(c, a.next));
     }
-    let from = place_of(c.acceptor);
-    let record = a.next;
-    End {
-        open: true,
-        from,
-        to: from + c.number as usize,
-        start: 0,
-        record,
+    let e = end?;
+    if c.verb == Verb::Open {
+        return Some(e);
     }
-}
-
-// An end after a call: it goes on with the record that the call returned, and an accepted reading ends its turn.
-pub(crate) fn moved(c: Command, e: End, a: Answer) -> End {
-    if c.verb == Command::OPEN {
-        return reopened(c, e, a);
-    }
-    let mut next = e;
-    let record = a.next;
-    next.record = record;
-    if c.verb == Command::READ {
-        if a.refusal == 0 {
-            next.start = a.next.used;
-        }
-    }
-    next
+    let start = if c.verb == Verb::Read && accepted {
+        a.next.used
+    } else {
+        e.start
+    };
+    Some(End {
+        start,
+        record: a.next,
+        ..e
+    })
 }

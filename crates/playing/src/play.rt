@@ -1,22 +1,19 @@
 // Playing a script: its lines in order, at two ends.
 ghost use Rattle.console.specs.Console.{Holds};
 
-use super::end::{End, Ends, both_closed, end_of, held, moved, used, with_end};
+use super::end::{End, Ends, moved, used};
 use commands::make;
 use console::{STDOUT, load};
 use fields::part;
+use negotiating::opening::open;
 use reports::report;
-use scan::find;
-use script::{Command, read_command};
+use script::{Command, Verb, read_command};
 use std::rt::Files;
 use text::append;
 
 // The octets of d from `from` on, up to `to`; all of them where it has no such part.
 fn span(d: &mut [u8], from: usize, to: usize) -> &mut [u8] {
-    if d.len() < to {
-        return d;
-    }
-    if to < from {
+    if to < from || d.len() < to {
         return d;
     }
     &mut d[from..to]
@@ -24,27 +21,33 @@ fn span(d: &mut [u8], from: usize, to: usize) -> &mut [u8] {
 
 // A command as the library is given it: `read` with nothing after it reads a copy of the other end's turn so far, which is put at the front of the
 // lent slice. An end that is not open has written nothing.
-fn given(c: Command, other: End, both: &[u8], lent: &mut [u8]) -> Command {
-    if c.verb != Command::TURN {
+fn given(c: Command, other: Option<End>, both: &[u8], lent: &mut [u8]) -> Command {
+    if c.verb != Verb::Turn {
         return c;
     }
-    let mut next = c;
-    next.verb = Command::READ;
-    if other.open {
-        next.length = append(lent, 0, held(both, other, other.start, other.record.used));
+    let length = match other {
+        Some(e) => append(lent, 0, e.held(both, e.start, e.record.used)),
+        None => c.length,
+    };
+    Command {
+        verb: Verb::Read,
+        length,
+        ..c
     }
-    next
 }
 
-// Whether a command is a call at an end: a line that is none of the calls is not, nor is a call at an end that is not open.
-fn is_call(c: Command, e: End) -> bool {
-    if c.verb == Command::BAD {
-        return false;
+// The end at which a call is made: an opening needs none that is open, and is made at one whose record is that of a refused opening.
+fn called_at(c: Command, end: Option<End>) -> Option<End> {
+    if c.verb == Verb::Open && end.is_none() {
+        let refused = open(c.acceptor, b"", [0u8; 16]);
+        return Some(End {
+            from: 0,
+            to: 0,
+            start: 0,
+            record: refused.next,
+        });
     }
-    if c.verb == Command::OPEN {
-        return true;
-    }
-    e.open
+    end
 }
 
 // Writes the first n octets of d.
@@ -52,56 +55,42 @@ fn print(d: &[u8], n: usize) {
     io::write_all(STDOUT, part(d, 0, n));
 }
 
-// Makes the call of a command at the end e, and writes its line.
-fn called(c: Command, e: End, both: &mut [u8], lent: &mut [u8]) -> End {
-    let answer = make(
-        c,
-        e.record,
-        span(both, e.from, e.to),
-        part(lent, 0, c.length),
-    );
-    let line_end = report(
-        lent,
-        c,
-        answer,
-        held(both, e, e.record.used, answer.next.used),
-    );
+// Plays a line, and answers the ends after it; a line that is none of the calls, or a call at an end that is not open, is none.
+fn play_call(line: &[u8], ends: Ends, both: &mut [u8], lent: &mut [u8]) -> Option<Ends> {
+    let command = read_command(line, lent)?;
+    let acceptor = command.acceptor;
+    let end = ends.end(acceptor);
+    let e = called_at(command, end)?;
+    let c = given(command, ends.end(!acceptor), both, lent);
+    let octets = part(lent, 0, c.length);
+    let answer = make(c, e.record, span(both, e.from, e.to), octets);
+    let message = e.held(both, e.record.used, answer.next.used);
+    let line_end = report(lent, c, answer, message);
     print(lent, line_end);
-    moved(c, e, answer)
+    Some(ends.with_end(acceptor, moved(c, end, answer)))
 }
 
-// Plays a command, and answers the ends after it.
-fn play_command(c: Command, ends: Ends, both: &mut [u8], lent: &mut [u8]) -> Ends {
-    let end = end_of(ends, c.acceptor);
-    if is_call(c, end) {} else {
-        io::write_all(STDOUT, b"bad line\n");
-        return ends;
-    }
-    let call = given(c, end_of(ends, !c.acceptor), both, lent);
-    let next = called(call, end, both, lent);
-    with_end(ends, c.acceptor, next)
-}
-
-// A line of the script: an empty one and a comment are passed over.
+// Plays a line: an empty one and a comment are passed over.
 fn play_line(line: &[u8], ends: Ends, both: &mut [u8], lent: &mut [u8]) -> Ends {
-    if line.len() == 0 {
+    if line.is_empty() || line[0] == b'#' {
         return ends;
     }
-    if line[0] == b'#' {
-        return ends;
+    match play_call(line, ends, both, lent) {
+        Some(next) => next,
+        None => {
+            io::write_all(STDOUT, b"bad line\n");
+            ends
+        }
     }
-    let command = read_command(line, lent);
-    play_command(command, ends, both, lent)
 }
 
 // The lines of a script in order, and last the octets used at each end.
 fn play_lines(script: &[u8], both: &mut [u8], lent: &mut [u8]) {
-    let mut ends = both_closed();
-    let mut from = 0;
-    while from < script.len() {
-        let end = find(script, from, script.len(), b'\n');
-        let line = part(script, from, end);
-        from = end + 1;
+    let mut ends = Ends {
+        initiator: None,
+        acceptor: None,
+    };
+    for line in script.split(|octet| *octet == b'\n') {
         ends = play_line(line, ends, both, lent);
     }
     let line_end = reports::used(lent, used(ends.initiator), used(ends.acceptor));

@@ -1,3 +1,2 @@
-pub mod Givens
 pub mod Lines
 pub mod Cases

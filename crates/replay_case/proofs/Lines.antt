@@ -1,20 +1,18 @@
--- The lines of a text that count, from a place on, in the words of the code.
+-- The lines of a text that count, in the words of the code.
 -- Assumes nothing.
 use Prim.Native.Nat.{ℕ, suc, ◌+◌, ◌-◌, ◌≤◌, ◌<◌}
-use mathlib.Core.Path.{◌≡◌, refl, sym, ap, ◌∙◌}
+use mathlib.Core.Path.{◌≡◌, refl, ap, ◌∙◌}
 use mathlib.Core.Bool.{Bool, true, false, cond, not}
 use mathlib.Core.List.{List, [], ◌∷◌}
-use mathlib.Core.Logic.{⊎_elim}
 use native.Mathlib.Omega.{arith}
-use lib.ListN.{length, take, drop, get_or, length-take, length-drop, drop_of_length-le}
-use lib.Seq.{take-length, drop-drop}
-use lib.Dec.{eqb, ltb}
-use borrow.Author.Tests.{ltb-true, ltb-false, lt-ltb, le-ltb}
-use Rattle.octets.proofs.Bools.{which, no_true}
+use lib.ListN.{length, take, drop, get_or, length-drop}
+use lib.Seq.{take-length, take_all}
+use lib.Dec.{eqb}
+use Rattle.std.proofs.lemmas.Grind.{common_steps}
 use Rattle.scan.specs.Scan.{index_of, index_after, slice}
 use Rattle.fields.specs.Fields.{part}
 use Rattle.replay_case.specs.Case.{on_first, text_lines, counts, counted_lines}
-use Rattle.replay_case.specs.Steps.{counted_from, NextLine}
+use Rattle.replay_case.specs.Steps.{counted}
 
 -- the first line ends before the first line feed, or at the text's end
 first-at : (c : ℕ) (t : List ℕ) → (0 < length t → text_lines t ≡ take (index_of 10 t) t ∷ text_lines (drop (suc (index_of 10 t)) t))
@@ -34,89 +32,46 @@ unfolding text_lines index_of
 split [] h = absurd (omega arith)
 split (c ∷ t) h = split_at c t (index_of 10 t) (eqb c 10) (first-at c t (split t))
 
-ltb-sub : (a b : ℕ) → ltb a b ≡ ltb 0 (b - a)
-ltb-sub a b =
-    ⊎_elim
-    (λ e. let h : a < b = ltb-true _ _ e in e ∙ sym (lt-ltb 0 (b - a) (omega arith)))
-    (λ e. let h : b ≤ a = ltb-false _ _ e in e ∙ sym (le-ltb 0 (b - a) (omega arith)))
-    (which (ltb a b))
-
--- a place in the text has octets where its end lies behind its start
-pub part-there : (s : List ℕ) (f e : ℕ) → e ≤ length s → ltb f e ≡ ltb 0 (length (part s f e))
-part-there s f e h =
-    let l : length (part s f e) ≡ e - f = length-take (e - f) (drop f s) ∙ omega (arith, length-drop f s) in
-    rw l (ltb-sub f e)
-
 -- a line that counts
-pub counts-none : (l : List ℕ) → length l ≡ 0 → false ≡ counts l
+pub counts_none : (l : List ℕ) → length l ≡ 0 → counts l ≡ false
 unfolding counts
-counts-none [] h = refl
-counts-none (c ∷ l) h = absurd (omega arith)
+counts_none [] h = refl
+counts_none (c ∷ l) h = absurd (omega arith)
 
-pub counts-first : (l : List ℕ) → (length l ≡ 0 → ⊥) → not (eqb (get_or l 0 0) 35) ≡ counts l
+pub counts_first : (l : List ℕ) → (length l ≡ 0 → ⊥) → counts l ≡ not (eqb (get_or l 0 0) 35)
 unfolding counts
-counts-first [] h = absurd (h refl)
-counts-first (c ∷ l) h = refl
+counts_first [] h = absurd (h refl)
+counts_first (c ∷ l) h = refl
 
-pub ruleset countings = (counts-none, counts-first)
-
-counts_some : (l : List ℕ) → counts l ≡ true → 0 < length l
-unfolding counts
-counts_some [] h = no_true h
-counts_some (c ∷ l) h = omega arith
-
-module _ (s : List ℕ) where
-  past-none : (at : ℕ) → length s ≤ at → counted_from s at ≡ []
-  unfolding counted_from text_lines counted_lines
-  past-none at h = rw (drop_of_length-le s h)
-
-  module _ (from : ℕ) (more : from < length s) (end : ℕ) (end_is : end ≡ from + index_of 10 (slice from (length s) s)) where
-    tail_of_lem : slice from (length s) s ≡ drop from s
-    unfolding slice
-    tail_of_lem = rw (take-length s)
-
-    end-at : end ≡ from + index_of 10 (drop from s)
-    end-at = end_is ∙ rw tail_of_lem
-
-    line_at : counted_from s from ≡ cond (counts (part s from end)) (part s from end ∷ counted_from s (end + 1)) (counted_from s (end + 1))
-    unfolding counted_from counted_lines
-    line_at =
-        let k = index_of 10 (drop from s) in
-        let w : end - from ≡ k = omega (arith, end-at) in
-        let n : end + 1 ≡ from + suc k = omega (arith, end-at) in
-        let l : 0 < length (drop from s) = omega (arith, length-drop from s) in
-        rw (w, n, ← drop-drop (suc k) from s) (ap counted_lines (split (drop from s) l))
+pub counted-none : (s : List ℕ) → length s ≡ 0 → counted s ≡ []
+unfolding text_lines counted_lines
+counted-none [] h = refl
+counted-none (c ∷ s) h = absurd (omega arith)
 
 -- the loop over the lines
-module _ (s : List ℕ) (at from : ℕ) (inv : counted_from s at ≡ counted_from s from) where
-  pub next-none : length s ≤ from → NextLine s at (record { from = length s; end = length s })
-  next-none h =
-      let e : counted_from s at ≡ [] = inv ∙ past-none s from h in
-      let z : length s - length s ≡ 0 = omega arith in
-      record {
-        line = rw (e, z);
-        there = rw e (le-ltb (length s) (length s) (omega arith));
-        rest = rw e (past-none s (length s + 1) (omega arith));
-        onward = omega arith;
-        inside = omega arith;
-      }
+module _ (s : List ℕ) (more : length s ≡ 0 → ⊥) (end : ℕ) (end_is : end ≡ 0 + index_of 10 (slice 0 (length s) s)) (rest : List ℕ)
+    (rest-is : rest ≡ part s (end + 1) (length s)) where
+  end-at : end ≡ index_of 10 s
+  unfolding slice
+  end-at = end_is ∙ rw (take-length s) (omega arith)
 
-  module _ (more : from < length s) (end : ℕ) (end_is : end ≡ from + index_of 10 (slice from (length s) s)) (v : List ℕ) (v-is : v ≡ part s from end)
-      (b : Bool) (b-is : b ≡ counts v) where
-    pub next_more : b ≡ false → counted_from s at ≡ counted_from s (end + 1)
-    next_more h = inv ∙ line_at s from more end end_is ∙ rw (← v-is, ← b-is, h)
+  behind : rest ≡ drop (suc end) s
+  behind =
+      let n : end + 1 ≡ suc end = omega arith in
+      rest-is ∙ rw n (take_all (length s - suc end) (drop (suc end) s) (omega (arith, length-drop (suc end) s)))
 
-    pub next-there : b ≡ true → end ≤ length s → NextLine s at (record { from = from; end = end })
-    next-there h i =
-        let e : counted_from s at ≡ v ∷ counted_from s (end + 1) = inv ∙ line_at s from more end end_is ∙ rw (← v-is, ← b-is, h) in
-        let l : 0 < length v = counts_some v (sym b-is ∙ h) in
-        record {
-          line = rw e (sym v-is);
-          there =
-              part-there s from end i ∙ rw (← v-is, e) (lt-ltb 0 (length v) l ∙ sym (lt-ltb 0 (length (v ∷ counted_from s (end + 1))) (omega arith)));
-          rest = rw e;
-          onward = omega (arith, end_is);
-          inside = i;
-        }
+  line : counted s ≡ cond (counts (take end s)) (take end s ∷ counted rest) (counted rest)
+  unfolding counted_lines
+  line = let l : 0 < length s = omega arith in rw (behind, end-at) (ap counted_lines (split s l))
 
-pub ruleset nexts = (next-none, next_more, next-there)
+  module _ (b : Bool) (b-is : b ≡ counts (take end s)) (x : List (List ℕ)) (inv : x ≡ counted s) where
+    pub next_more : b ≡ false → x ≡ counted rest
+    next_more h = inv ∙ line ∙ rw (← b-is, h)
+
+    pub next-there : b ≡ true → x ≡ take end s ∷ counted rest
+    next-there h = inv ∙ line ∙ rw (← b-is, h)
+
+pub part-size : (s : List ℕ) (a b : ℕ) → length (part s a b) ≤ length s
+part-size s a b = grind (arith, common_steps)
+
+pub ruleset nexts = (counted-none, next_more, next-there)

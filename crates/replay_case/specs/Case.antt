@@ -10,14 +10,12 @@
 --   sides_by         the case of two names and what their sides are given, where neither is given nothing
 --   has_name n       the name n is not empty; with_names: the same case, where neither name is
 --   case_in s i a    the case that the text s is, where slices of i and of a octets are lent for the two lists
---   side_as s p g d  what the answer says of a side, whose name stands at the place p of the text s and whose list at the front of the slice d
---   case_as r s d e  the same of the whole answer; d and e are the slices of the initiator's and of the acceptor's list
-use Rattle.std.specs.Prelude.{ℕ, Bool, false, cond, not, List, [], ◌∷◌, length, take, get_or, eqb, ltb}
+--   side_as n g d    what the answer says of a side, whose name is n and whose list stands at the front of the slice d
+--   case_as r d e    the same of the whole answer; d and e are the slices of the initiator's and of the acceptor's list
+use Rattle.std.specs.Prelude.{ℕ, Bool, false, cond, not, List, [], ◌∷◌, length, take, get_or, eqb, ltb, Option, Some, None}
 use Rattle.text.specs.Text.{quoted}
-use Rattle.fields.specs.Fields.{part}
 use Rattle.replay_case.specs.Given.{behind_word, Given, gives, nothing_given, given_of}
 use Rattle.replay_case.specs.declared.given.GivenText.{GivenText}
-use Rattle.replay_case.specs.declared.Place.{Place}
 use Rattle.replay_case.specs.declared.CaseText.{CaseText}
 
 abbrev pub on_first : ℕ → List (List ℕ) → List (List ℕ)
@@ -76,9 +74,10 @@ case_in s iroom aroom =
     (behind_word (quoted "acceptor ") (line_at 1 s)) (given_of (quoted "a") (line_at 3 s) aroom))
     bad_case
 
-abbrev pub side_as : List ℕ → Place → GivenText → List ℕ → Side
-side_as s p g d = side (part s p.from p.end) g.marks g.length (take g.length d)
+abbrev pub side_as : List ℕ → GivenText → List ℕ → Side
+side_as n g d = side n g.marks g.length (take g.length d)
 
 -- What stands in a slice behind the list, or where the case is bad, is left to the program.
-abbrev pub case_as : CaseText → List ℕ → List ℕ → List ℕ → CaseSaid
-case_as r s d e = cond r.ok (both_sides (side_as s r.initiator r.i d) (side_as s r.acceptor r.a e)) bad_case
+abbrev pub case_as : Option CaseText → List ℕ → List ℕ → CaseSaid
+case_as (Some r) d e = both_sides (side_as r.initiator.now r.i d) (side_as r.acceptor.now r.a e)
+case_as None d e = bad_case

@@ -3,10 +3,10 @@
 -- Glossary
 --   behind_word w s    what stands behind the word w at the front of the line s; nothing where it does not begin so
 --   Given              what a side is given: marks and the octets of a list, or nothing; gives m k o: the marks m, and k octets o
---   given_as r d       the same of an answer, whose octets stand at the front of the slice d
+--   given_as r d       the same of an answer of src/, whose octets stand at the front of the slice d
 --   given_by           what marks and ids give, where neither is bad
 --   given_of w s room  what the line s gives, whose first field has to be w, where a slice of `room` octets is lent
-use Rattle.std.specs.Prelude.{ℕ, cond, List, [], length, take, drop}
+use Rattle.std.specs.Prelude.{ℕ, cond, List, [], length, take, drop, Option, Some, None}
 use Rattle.octets.specs.Octets.{same_octets}
 use Rattle.fields.specs.Fields.{Numeral, is, nothing, Front, front, bad, fit}
 use Rattle.script.specs.Grammar.{fields_of, first, others, MARKS, IDS, number_in, rest_in}
@@ -20,8 +20,9 @@ pub data Given : Type 0 where
   gives : ℕ → ℕ → List ℕ → Given
   nothing_given : Given
 
-abbrev pub given_as : GivenText → List ℕ → Given
-given_as r d = cond r.ok (gives r.marks r.length (take r.length d)) nothing_given
+abbrev pub given_as : Option GivenText → List ℕ → Given
+given_as (Some r) d = gives r.marks r.length (take r.length d)
+given_as None d = nothing_given
 
 abbrev pub given_by : Numeral → Front → Given
 given_by (is m) (front k o) = gives m k o

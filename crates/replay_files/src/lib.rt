@@ -24,11 +24,11 @@ fn marks_of(n: u32) -> u16 {
 }
 
 // Replays the files of a case, by the lists of its two sides. One octet more than a file may have is asked for, so that a longer one is seen.
-fn replay_files<R: Files>(rt: &R, c: CaseText, text: &[u8], ilist: &[u8], alist: &[u8]) {
+fn replay_files<R: Files>(rt: &R, c: CaseText<'_>, ilist: &[u8], alist: &[u8]) {
     let mut ibuf = [0u8; 65536];
     let mut abuf = [0u8; 65536];
-    let iloaded = load(rt, part(text, c.initiator.from, c.initiator.end), &mut ibuf);
-    let aloaded = load(rt, part(text, c.acceptor.from, c.acceptor.end), &mut abuf);
+    let iloaded = load(rt, c.initiator, &mut ibuf);
+    let aloaded = load(rt, c.acceptor, &mut abuf);
     let marks = Marks {
         initiator: marks_of(c.i.marks),
         acceptor: marks_of(c.a.marks),
@@ -46,17 +46,15 @@ fn replay_files<R: Files>(rt: &R, c: CaseText, text: &[u8], ilist: &[u8], alist:
 fn replay_text<R: Files>(rt: &R, text: &[u8]) {
     let mut ilist = [0u8; 65536];
     let mut alist = [0u8; 65536];
-    let case_text = read_case(text, &mut ilist, &mut alist);
-    if case_text.ok {} else {
+    let Some(case_text) = read_case(text, &mut ilist, &mut alist) else {
         io::write_all(STDOUT, b"bad case\n");
         return;
-    }
+    };
     let ilength = case_text.i.length;
     let alength = case_text.a.length;
     replay_files(
         rt,
         case_text,
-        text,
         part(&ilist, 0, ilength),
         part(&alist, 0, alength),
     );

@@ -12,7 +12,7 @@ use Rattle.std.specs.Prelude.{ℕ, Bool, cond, ◌||◌, List, [], ◌∷◌, �
 use Rattle.text.specs.Text.{quoted, decimal, decimal64, digits_of, id_text}
 use Rattle.conversation.specs.declared.Answer.{Answer}
 use Rattle.script.specs.declared.Command.{Command}
-use Rattle.script.specs.Grammar.{REPLY, READ, OPEN, CHOOSE-EXCHANGE, CHOOSE-VERIFY, CHOOSE-ALERT}
+use Rattle.script.specs.Grammar.{REPLY, READ, OPEN, CHOOSE-EXCHANGE, CHOOSE-VERIFY, CHOOSE-ALERT, number_of_verb}
 
 -- "wrote LENGTH OCTETS"
 unfoldable pub wrote_text : List ℕ → List (List ℕ)
@@ -37,8 +37,8 @@ used_line i a = quoted "used i=" ∷ decimal64 i ∷ quoted " a=" ∷ decimal64 
 unfoldable pub report_of : Command → Answer → List ℕ → List (List ℕ)
 report_of c a message =
     cond (eqb a.refusal 0)
-    (cond (eqb c.verb OPEN) (quoted "opened\n" ∷ [])
-    (cond (eqb c.verb READ) (numbers_line (quoted "read messages=") a.messages (quoted " length=") c.length)
-    (cond (names_choice c.verb) (wrote_text message ++ choice_text a.choice a.left)
+    (cond (eqb (number_of_verb c.verb) OPEN) (quoted "opened\n" ∷ [])
+    (cond (eqb (number_of_verb c.verb) READ) (numbers_line (quoted "read messages=") a.messages (quoted " length=") c.length)
+    (cond (names_choice (number_of_verb c.verb)) (wrote_text message ++ choice_text a.choice a.left)
     (wrote_text message ++ (quoted "\n" ∷ [])))))
     (numbers_line (quoted "refused ") a.refusal (quoted " at=") a.place.0)

@@ -3,10 +3,11 @@
 
 ghost use Rattle.std.specs.Prelude.{◌≡◌};
 ghost use Rattle.text.specs.Text.{text, written};
+ghost use Rattle.script.specs.Grammar.{number_of_verb};
 ghost use Rattle.reports.specs.Reports.{wrote_text, choice_text, names_choice, numbers_line, used_line, report_of};
 
 use conversation::Answer;
-use script::Command;
+use script::{Command, Verb};
 use text::{append, field, hex_all, id, wide_field};
 
 // Two numbers, each after its words, and the line's end.
@@ -38,19 +39,13 @@ fn wrote(d: &mut [u8], message: &[u8]) -> usize
 }
 
 // Whether a verb is that of a call that answers a choice: a reply, and those that choose.
-fn names_choice(verb: usize) -> bool
-    ensures { result ≡ names_choice verb }
+fn names_choice(verb: Verb) -> bool
+    ensures { result ≡ names_choice (number_of_verb verb) }
 {
-    if verb == Command::REPLY {
-        return true;
-    }
-    if verb == Command::CHOOSE_EXCHANGE {
-        return true;
-    }
-    if verb == Command::CHOOSE_VERIFY {
-        return true;
-    }
-    verb == Command::CHOOSE_ALERT
+    matches!(
+        verb,
+        Verb::Reply | Verb::ChooseExchange | Verb::ChooseVerify | Verb::ChooseAlert
+    )
 }
 
 // The line of a command: what its call answered, and the message that it wrote.
@@ -60,10 +55,10 @@ pub fn report(d: &mut [u8], c: Command, a: Answer, message: &[u8]) -> usize
     if a.refusal != 0 {
         return numbers(d, b"refused ", a.refusal, b" at=", a.place.0);
     }
-    if c.verb == Command::OPEN {
+    if c.verb == Verb::Open {
         return append(d, 0, b"opened\n");
     }
-    if c.verb == Command::READ {
+    if c.verb == Verb::Read {
         return numbers(d, b"read messages=", a.messages, b" length=", c.length);
     }
     let at = wrote(d, message);

@@ -7,26 +7,23 @@ use mathlib.Core.List.{List, [], ◌∷◌, ◌++◌, append_assoc, append-nil, 
 use native.Mathlib.Omega.{arith}
 use lib.ListN.{length, take, drop, get_or, set, length-append, length-drop, length-map}
 use lib.Seq.{length-take-le, take-append-add, take-append-le}
-use lib.Dec.{leb}
+use lib.Dec.{eqb, leb}
+use lib.Pointwise.{pointwise}
 use borrow.Author.Tests.{eq-eqb, ne_eqb, le-leb, lt-leb, leb-true, leb-false}
 use Rattle.octets.specs.Octets.{same_octets}
 use Rattle.text.specs.Text.{quoted}
 use Rattle.put.specs.Put.{joined}
 use Rattle.elements.specs.declared.Elements.{Elements}
 use Rattle.elements.specs.Elements.{Item, item_values, no_elements}
-use Rattle.fields.specs.declared.hex.Decoded.{Decoded}
-use Rattle.fields.specs.declared.hex.Decoded.TheVariants as decoded
-use Rattle.fields.specs.declared.number.Number.{Number}
-use Rattle.fields.specs.declared.number.Number.TheVariants as number
-use Rattle.fields.specs.Fields.{part, is, number_of, hexadecimal_of, Octets, of, none, Front, front, bad, fit, octets_of, random_of, decoded_as, Decodes}
+use Rattle.std.proofs.Common.{Some, None}
+use Rattle.fields.specs.Fields.{part, is, nothing, hexadecimal_of, Octets, of, none, Front, front, bad, fit, octets_of, random_of, Decodes}
+use Rattle.octets.proofs.Same.{compared}
 use Rattle.fields.proofs.Decoding.{fits}
-use Rattle.script.specs.declared.Command.{Command}
 use Rattle.script.specs.declared.item.ItemText.{ItemText}
-use Rattle.script.specs.Grammar.{first, others, past, Items, these, no_items, both_items, typed, item_of, items_in, filled, size_of, elements_of, test_in, Line, line_as, line, bad_line, octets_then, front_then, items_then, from_random}
+use Rattle.script.specs.Grammar.{first, others, past, Items, these, no_items, both_items, typed, item_of, items_in, filled, size_of, elements_of, test_in, Line, line, bad_line, octets_then, front_then, items_then, from_random}
 use Rattle.script.specs.Places.{fields_from}
 use Rattle.script.specs.Steps.{within, ItemRead, one_more}
-use Rattle.script.proofs.Places.{past-none, field-there}
-use Rattle.script.proofs.Lines.{bad-line}
+use Rattle.script.proofs.Places.{past_none, field_there}
 
 -- the word `test`, in front of another field
 test-none : (fs : List (List ℕ)) → others fs ≡ [] → false ≡ test_in fs
@@ -41,12 +38,12 @@ test-some (f ∷ h ∷ fs) g gs e = refl
 
 module _ (s : List ℕ) (from at : ℕ) (at-is : fields_from s at ≡ others (fields_from s from)) where
   pub test-last : length s < at → false ≡ test_in (fields_from s from)
-  test-last h = test-none (fields_from s from) (sym at-is ∙ past-none s at h)
+  test-last h = test-none (fields_from s from) (sym at-is ∙ past_none s at h)
 
-  pub test_word : at ≤ length s → (f : List ℕ) → f ≡ first (fields_from s from) → (b : Bool) → b ≡ same_octets f (quoted "test")
+  pub test_word : at ≤ length s → (f : List ℕ) → f ≡ first (fields_from s from) → (b : Bool) → b ≡ pointwise eqb f (quoted "test")
       → b ≡ test_in (fields_from s from)
   test_word h f f-is b b-is =
-      b-is ∙ rw f-is (test-some (fields_from s from) (first (fields_from s at)) (others (fields_from s at)) (sym at-is ∙ field-there s at h))
+      b-is ∙ compared f (quoted "test") ∙ rw f-is (test-some (fields_from s from) (first (fields_from s at)) (others (fields_from s at)) (sym at-is ∙ field_there s at h))
 
 pub ruleset test_words = (test-last, test_word)
 
@@ -95,40 +92,35 @@ within-one room t v h = rw (append-nil v, le-leb _ _ h)
 within-long : (room t : ℕ) (v : List ℕ) → room < length v → no_items ≡ within room (typed (is t) (of v))
 within-long room t v h = rw (append-nil v, lt-leb _ _ h)
 
-abbrev no_text : ItemText
-no_text = record { ok = false; kind = 0; size = 0 }
-
 module _ (s d : List ℕ) (k : ℕ) (k-is : k ≡ get_or s 8 0) where
-  pub item-colon : (k ≡ 58 → ⊥) → ItemRead s d no_text d
+  pub item-colon : (k ≡ 58 → ⊥) → ItemRead s d None d
   unfolding item_of
-  item-colon h = record { says = rw (← k-is, ne_eqb _ _ h); inside = omega arith }
+  item-colon h = record { says = rw (← k-is, ne_eqb _ _ h); inside = tt }
 
-  module _ (colon : k ≡ 58) (a : List ℕ) (a-is : a ≡ part s 0 8) (t : Number) (t-is : number_of t ≡ hexadecimal_of 8 4294967295 a) where
-    item-is : item_of s ≡ typed (number_of t) (octets_of (part s 9 (length s)))
+  module _ (colon : k ≡ 58) (a : List ℕ) (a-is : a ≡ part s 0 8) where
+    item-is : item_of s ≡ typed (hexadecimal_of 8 4294967295 a) (octets_of (part s 9 (length s)))
     unfolding item_of
-    item-is = rw (← k-is, eq-eqb _ _ colon, ← a-is, ← t-is)
+    item-is = rw (← k-is, eq-eqb _ _ colon, ← a-is)
 
-    pub item-type : t ≡ number.Bad → ItemRead s d no_text d
-    item-type h = record { says = rw (item-is, h); inside = omega arith }
+    pub item-type : nothing ≡ hexadecimal_of 8 4294967295 a → ItemRead s d None d
+    item-type h = record { says = rw (item-is, ← h); inside = tt }
 
-    module _ (type : ℕ) (t-good : t ≡ number.Is type) (b : List ℕ) (b-is : b ≡ part s 9 (length s)) (r : Decoded) (d' : List ℕ)
-        (reads : Decodes b d (octets_of b) r d') where
+    module _ (type : ℕ) (type-is : is type ≡ hexadecimal_of 8 4294967295 a) (b : List ℕ) (b-is : b ≡ part s 9 (length s)) (d' : List ℕ) where
       item-typed : item_of s ≡ typed (is type) (octets_of b)
-      item-typed = item-is ∙ rw (t-good, b-is)
+      item-typed = item-is ∙ rw (← type-is, b-is)
 
-      pub item-value : r ≡ decoded.Bad → ItemRead s d no_text d'
-      item-value h = record {
+      pub item-value : Decodes b d (octets_of b) None d' → ItemRead s d None d'
+      item-value r = record {
         says =
             rw item-typed
             (unfitted (length d) (λ (o : Octets). no_items ≡ within (length d) (typed (is type) o)) refl (within-long (length d) type) (octets_of b)
-            (ap (λ (x : Decoded). decoded_as x d') (sym h) ∙ reads.says));
-        inside = omega arith;
+            r.says);
+        inside = tt;
       }
 
-      pub item-good : (size : ℕ) → r ≡ decoded.Octets size → ItemRead s d (record { ok = true; kind = type; size = size }) d'
-      item-good size h =
-          let f : Fitted (length d) size (take size d') (octets_of b) =
-          fitted (length d) size (take size d') (octets_of b) (ap (λ (x : Decoded). decoded_as x d') (sym h) ∙ reads.says) in
+      pub item-good : (size : ℕ) → Decodes b d (octets_of b) (Some size) d' → ItemRead s d (Some (record { kind = type; size = size })) d'
+      item-good size r =
+          let f : Fitted (length d) size (take size d') (octets_of b) = fitted (length d) size (take size d') (octets_of b) r.says in
           let l : length (take size d') ≤ length d = omega (arith, f.size, f.inside) in
           record { says = rw (item-typed, f.octets) (within-one (length d) type (take size d') l); inside = f.inside }
 
@@ -244,27 +236,25 @@ module _ (s d₀ d : List ℕ) (from start at n : ℕ) (e : Elements) (r : Read 
   so_far : n ≡ length (take start d₀) + length (joined (item_values r.items))
   so_far = sym (length-take-le n d r.inside) ∙ ap length r.octets ∙ length-append (take start d₀) (joined (item_values r.items))
 
-  module _ (more : at ≤ length s) (f : List ℕ) (f-is : f ≡ first (fields_from s at)) (mid : List ℕ) (x : ItemText)
-      (x-is : ItemRead f (behind_it d n) x mid) where
+  module _ (more : at ≤ length s) (f : List ℕ) (f-is : f ≡ first (fields_from s at)) (mid : List ℕ) where
     next : items_in (fields_from s from) ≡ both_items (these r.items) (both_items (item_of f) (items_in (others (fields_from s at))))
     unfolding items_in
-    next = r.fields ∙ ap (λ (fs : List (List ℕ)). both_items (these r.items) (items_in fs)) (field-there s at more) ∙ rw (← f-is)
+    next = r.fields ∙ ap (λ (fs : List (List ℕ)). both_items (these r.items) (items_in fs)) (field_there s at more) ∙ rw (← f-is)
 
-    pub items-bad : x.ok ≡ false → (c : Command) (d' : List ℕ) → c ≡ bad_line.command → (g : Elements → ℕ → List ℕ → Line)
-        → line_as c d' ≡ items_then (length d₀) (take start d₀) (items_in (fields_from s from)) g
-    items-bad h c d' c-is g =
+    pub items-bad : ItemRead f (behind_it d n) None mid → (g : Elements → ℕ → List ℕ → Line)
+        → bad_line ≡ items_then (length d₀) (take start d₀) (items_in (fields_from s from)) g
+    items-bad y g =
         let z = items_in (others (fields_from s at)) in
-        bad-line c d' c-is
-        ∙ unwithin (length (behind_it d n))
+        unwithin (length (behind_it d n))
         (λ (y : Items). bad_line ≡ items_then (length d₀) (take start d₀) (both_items (these r.items) (both_items y z)) g) refl
         (λ ys u.
         let a = r.inside in
         let b = r.room in
         items-full (length d₀) (take start d₀) g r.items ys z (omega (arith, so_far, behind-size d n)))
-        (item_of f) (sym (rw h) ∙ x-is.says)
+        (item_of f) y.says
         ∙ ap (λ (y : Items). items_then (length d₀) (take start d₀) y g) (sym next)
 
-    module _ (good : x.ok ≡ true) (whole : length mid ≡ length (behind_it d n)) where
+    module _ (x : ItemText) (y : ItemRead f (behind_it d n) (Some x) mid) (whole : length mid ≡ length (behind_it d n)) where
       value : List ℕ
       value = take x.size mid
 
@@ -282,12 +272,12 @@ module _ (s d₀ d : List ℕ) (from start at n : ℕ) (e : Elements) (r : Read 
       unfolding one value
       items_more e' e'-is to to_is onward =
           let a = r.inside in
-          let b = x-is.inside in
+          let b : x.size ≤ length (behind_it d n) = y.inside in
           let l : length (take n d) ≡ n = length-take-le n d a in
           let m = behind-size d n in
           let k : x.size ≤ length mid = omega arith in
           let v : length (take x.size mid) ≡ x.size = length-take-le x.size mid k in
-          let i : item_of f ≡ these (one ∷ []) = within-some (length (behind_it d n)) (one ∷ []) (item_of f) (sym (rw good) ∙ x-is.says) in
+          let i : item_of f ≡ these (one ∷ []) = within-some (length (behind_it d n)) (one ∷ []) (item_of f) y.says in
           record {
             items = r.items ++ one ∷ [];
             fields = next ∙ rw (i, ← to_is) (both-twice r.items (one ∷ []) (items_in (fields_from s to)));
@@ -302,13 +292,13 @@ module _ (s d₀ d : List ℕ) (from start at n : ℕ) (e : Elements) (r : Read 
           }
 
   pub items-end : length s < at → (verb : ℕ) (acceptor : Bool) (marks k : ℕ) (i : List ℕ) (test : Bool)
-      → line_as (line verb acceptor marks k i test e n []).command d
+      → line verb acceptor marks k i test e n (take n d)
       ≡ items_then (length d₀) (take start d₀) (items_in (fields_from s from)) (line verb acceptor marks k i test)
   unfolding items_in
   items-end h verb acceptor marks k i test =
       let a = r.inside in
       let b = r.room in
-      let all : items_in (fields_from s from) ≡ these r.items = r.fields ∙ rw (past-none s at h) (ap these (append-nil r.items)) in
+      let all : items_in (fields_from s from) ≡ these r.items = r.fields ∙ rw (past_none s at h) (ap these (append-nil r.items)) in
       sym (rw (all, ← r.octets, ← r.elements)
       (ap (λ (x : Front). front_then x (line verb acceptor marks k i test e))
       (sym (fits (length d₀) n (of (take n d)) (take n d) refl (length-take-le n d a) (omega arith)))))
@@ -316,22 +306,18 @@ module _ (s d₀ d : List ℕ) (from start at n : ℕ) (e : Elements) (r : Read 
 pub ruleset item-lists = (read-start, items-bad, items_more, items-end)
 
 -- RANDOM, and what is behind it
-module _ (fs : List (List ℕ)) (f : List ℕ) (f-is : f ≡ first fs) (d : List ℕ) (r : Decoded) (d' : List ℕ)
-    (reads : Decodes f d (random_of f) r d') where
-  pub random-bad : r ≡ decoded.Bad → (c : Command) → c ≡ bad_line.command → (g : Bool → Elements → ℕ → List ℕ → Line)
-      → line_as c d' ≡ from_random fs (length d) g
+module _ (fs : List (List ℕ)) (f : List ℕ) (f-is : f ≡ first fs) (d d' : List ℕ) where
+  pub random-bad : Decodes f d (random_of f) None d' → (g : Bool → Elements → ℕ → List ℕ → Line) → bad_line ≡ from_random fs (length d) g
   unfolding from_random
-  random-bad h c c-is g =
+  random-bad r g =
       let t = test_in (others fs) in
-      bad-line c d' c-is
-      ∙ rw (← f-is)
+      rw (← f-is)
       (unfitted (length d) (λ (o : Octets). bad_line ≡ octets_then o (λ o. items_then (length d) o (items_in (past t (others fs))) (g t))) refl
-      (λ v u. items-none (length d) v (g t) (items_in (past t (others fs))) u) (random_of f)
-      (ap (λ (x : Decoded). decoded_as x d') (sym h) ∙ reads.says))
+      (λ v u. items-none (length d) v (g t) (items_in (past t (others fs))) u) (random_of f) r.says)
 
-  module _ (n : ℕ) (good : r ≡ decoded.Octets n) where
+  module _ (n : ℕ) (reads : Decodes f d (random_of f) (Some n) d') where
     random-is : Fitted (length d) n (take n d') (random_of f)
-    random-is = fitted (length d) n (take n d') (random_of f) (ap (λ (x : Decoded). decoded_as x d') (sym good) ∙ reads.says)
+    random-is = fitted (length d) n (take n d') (random_of f) reads.says
 
     pub random-inside : length d' ≡ length d → n ≤ length d'
     random-inside h = let a = random-is.inside in omega arith

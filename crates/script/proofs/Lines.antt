@@ -3,26 +3,29 @@
 use Prim.Native.Nat.{ℕ, ◌≤◌, ◌<◌}
 use mathlib.Core.Path.{◌≡◌, refl, sym, ap, ◌∙◌}
 use mathlib.Core.Bool.{Bool, true, false, cond, not}
-use mathlib.Core.List.{List, [], ◌∷◌, map}
+use mathlib.Core.List.{List, [], ◌∷◌}
 use native.Mathlib.Omega.{arith}
-use lib.ListN.{length, get_or, replicate, get_or-map}
+use lib.ListN.{length}
 use lib.Dec.{eqb}
-use borrow.Author.Tests.{eq-eqb, ne_eqb}
+use lib.Pointwise.{pointwise}
+use Rattle.std.proofs.Common.{Option, Some, None}
+use Rattle.std.specs.Option.{is_some}
+use borrow.Author.Tests.{ne_eqb}
 use Rattle.octets.specs.Octets.{same_octets}
+use Rattle.octets.proofs.Same.{same-eq}
 use Rattle.text.specs.Text.{quoted}
 use Rattle.elements.specs.declared.Elements.{Elements}
 use Rattle.elements.specs.Elements.{no_elements}
-use Rattle.script.specs.declared.Command.{Command}
-use Rattle.fields.specs.declared.hex.Decoded.{Decoded}
-use Rattle.fields.specs.declared.hex.Decoded.TheVariants as decoded
-use Rattle.fields.specs.declared.hex.IdText.{IdText}
-use Rattle.fields.specs.declared.number.Number.{Number}
-use Rattle.fields.specs.declared.number.Number.TheVariants as number
-use Rattle.fields.specs.Fields.{number_of, decoded_as, Decodes, id_as, Numeral, is, hexadecimal_of, room_of, Octets, of, Front, front, bad, fit, octets_of, id_of}
-use Rattle.script.specs.Grammar.{fields_of, first, others, only, ids_of, Form, forms, form, form_of, past, number_in, has_id, id_in, rest_in, Line, line_as, line, bad_line, number_then, octets_then, front_then, items_in, items_then, from_random, from_rest, from_id, from_number, called, chosen, ends, verbs, speeches, speech_verb, place_from, place_of, verb_of, fields_line, command_of}
+use Rattle.script.specs.declared.Verb.{Verb}
+use Rattle.script.specs.declared.Verb.TheVariants as call
+use Rattle.script.specs.declared.Kind.{Kind}
+use Rattle.script.specs.declared.Kind.TheVariants as kind
+use Rattle.script.specs.declared.Form.{Form as FormText}
+use Rattle.fields.specs.Fields.{Numeral, is, nothing, of, none, front, bad, fit}
+use Rattle.octets.proofs.Same.{compared}
+use Rattle.script.specs.Grammar.{fields_of, first, others, kind_of, kind_of_rest, form_as, form_of, past, number_in, has_id, id_in, rest_in, Line, line, bad_line, number_then, octets_then, front_then, items_in, items_then, from_random, from_rest, from_id, from_number, called, chosen, ends, verbs, speeches, speech_verb, place_from, place_of, verb_of, call_verb, number_of_verb, number_of_end, fields_line, command_of}
 use Rattle.script.specs.Places.{fields_from}
-use Rattle.script.proofs.Places.{past-none, from_start, field-there}
-use Rattle.fields.proofs.Decoding.{fits}
+use Rattle.script.proofs.Places.{past_none, from_start, field_there}
 
 module _ (s : List ℕ) (from : ℕ) (b : Bool) where
   pub past-read : b ≡ true → (r : ℕ) → fields_from s r ≡ others (fields_from s from) → fields_from s r ≡ past b (fields_from s from)
@@ -31,79 +34,37 @@ module _ (s : List ℕ) (from : ℕ) (b : Bool) where
   pub past-not : b ≡ false → fields_from s from ≡ past b (fields_from s from)
   past-not h = rw h
 
-module _ (kind : ℕ) (fs : List (List ℕ)) where
-  pub number-none : kind ≡ 0 → is 0 ≡ number_in kind fs
-  unfolding number_in
-  number-none h = rw (eq-eqb _ _ h)
+-- the fields of a call, and one of these
+pub form-number : (f : FormText) (v : ℕ) → form_as f ≡ form_of v → kind_of f.number ≡ (form_of v).number
+form-number f v e = ap (λ f. f.number) e
 
-  module _ (some : kind ≡ 0 → ⊥) (f : List ℕ) (f-is : f ≡ first fs) (x : Numeral) where
-    pub number-room : kind ≡ 1 → x ≡ room_of f → x ≡ number_in kind fs
-    unfolding number_in
-    number-room h e = rw (ne_eqb _ _ some, eq-eqb _ _ h, ← f-is) e
+pub form-id : (f : FormText) (v : ℕ) → form_as f ≡ form_of v → kind_of f.id ≡ (form_of v).id
+form-id f v e = ap (λ f. f.id) e
 
-    module _ (no_room : kind ≡ 1 → ⊥) where
-      pub number-marks : kind ≡ 2 → x ≡ hexadecimal_of 4 65535 f → x ≡ number_in kind fs
-      unfolding number_in
-      number-marks h e = rw (ne_eqb _ _ some, ne_eqb _ _ no_room, eq-eqb _ _ h, ← f-is) e
+pub form-rest : (f : FormText) (v : ℕ) → form_as f ≡ form_of v → kind_of_rest f.rest ≡ (form_of v).rest
+form-rest f v e = ap (λ f. f.rest) e
 
-      pub number-code : (kind ≡ 2 → ⊥) → x ≡ hexadecimal_of 8 4294967295 f → x ≡ number_in kind fs
-      unfolding number_in
-      number-code h e = rw (ne_eqb _ _ some, ne_eqb _ _ no_room, ne_eqb _ _ h, ← f-is) e
+pub some-kind : (k : Option Kind) → is_some k ≡ not (eqb (kind_of k) 0)
+some-kind None = refl
+some-kind (Some kind.Room) = refl
+some-kind (Some kind.Marks) = refl
+some-kind (Some kind.Code) = refl
+some-kind (Some kind.Id) = refl
+some-kind (Some kind.Conversation) = refl
+some-kind (Some kind.Octets) = refl
+some-kind (Some kind.Ids) = refl
 
-module _ (kind : ℕ) (acceptor : Bool) where
-  pub has-own : kind ≡ 4 → true ≡ has_id kind acceptor
-  has-own h = rw (eq-eqb _ _ h)
+plain-kind : (k : Option Kind) → (kind_of k ≡ 6 → ⊥) × (kind_of k ≡ 9 → ⊥)
+plain-kind None = (λ e. absurd (omega arith), λ e. absurd (omega arith))
+plain-kind (Some kind.Room) = (λ e. absurd (omega arith), λ e. absurd (omega arith))
+plain-kind (Some kind.Marks) = (λ e. absurd (omega arith), λ e. absurd (omega arith))
+plain-kind (Some kind.Code) = (λ e. absurd (omega arith), λ e. absurd (omega arith))
+plain-kind (Some kind.Id) = (λ e. absurd (omega arith), λ e. absurd (omega arith))
+plain-kind (Some kind.Conversation) = (λ e. absurd (omega arith), λ e. absurd (omega arith))
+plain-kind (Some kind.Octets) = (λ e. absurd (omega arith), λ e. absurd (omega arith))
+plain-kind (Some kind.Ids) = (λ e. absurd (omega arith), λ e. absurd (omega arith))
 
-  module _ (other : kind ≡ 4 → ⊥) where
-    pub has-conversation : kind ≡ 5 → not acceptor ≡ has_id kind acceptor
-    has-conversation h = rw (ne_eqb _ _ other, eq-eqb _ _ h)
-
-    pub has-none : (kind ≡ 5 → ⊥) → false ≡ has_id kind acceptor
-    has-none h = rw (ne_eqb _ _ other, ne_eqb _ _ h)
-
-module _ (b : Bool) (fs : List (List ℕ)) where
-  pub id-some : b ≡ true → (f : List ℕ) → f ≡ first fs → (x : Octets) → x ≡ id_of f → x ≡ id_in b fs
-  unfolding id_in
-  id-some h f f-is x e = rw (h, ← f-is) e
-
-  pub id-none : b ≡ false → of (replicate 16 0) ≡ id_in b fs
-  unfolding id_in
-  id-none h = rw h
-
-module _ (s : List ℕ) (from room kind : ℕ) where
-  pub rest-ids : kind ≡ 8 → (x : Front) → x ≡ fit room (ids_of (fields_from s from)) → x ≡ fit room (rest_in kind (fields_from s from))
-  unfolding rest_in
-  rest-ids h x e = rw (eq-eqb _ _ h) e
-
-  module _ (no-ids : kind ≡ 8 → ⊥) (no-octets : kind ≡ 7 → ⊥) where
-    pub rest_more : from ≤ length s → bad ≡ fit room (rest_in kind (fields_from s from))
-    unfolding rest_in
-    rest_more h = rw (ne_eqb _ _ no-ids, ne_eqb _ _ no-octets, field-there s from h)
-
-    pub rest-none : length s < from → front 0 [] ≡ fit room (rest_in kind (fields_from s from))
-    unfolding rest_in
-    rest-none h = rw (ne_eqb _ _ no-ids, ne_eqb _ _ no-octets, past-none s from h) (fits room 0 (of []) [] refl refl (omega arith))
-
-module _ (s : List ℕ) (from kind : ℕ) (no-ids : kind ≡ 8 → ⊥) (f : List ℕ) (f-is : f ≡ only (fields_from s from)) (d : List ℕ) (r : Decoded)
-    (d' : List ℕ) where
-  pub rest-octets : kind ≡ 7 → Decodes f d (octets_of f) r d' → decoded_as r d' ≡ fit (length d) (rest_in kind (fields_from s from))
-  unfolding rest_in
-  rest-octets h e = rw (ne_eqb _ _ no-ids, eq-eqb _ _ h, ← f-is) e.says
-
--- the columns of the table, as the code has them
-abbrev column : (Form → ℕ) → List ℕ
-column f = map f forms
-
-of-form : (f : Form → ℕ) (verb : ℕ) → get_or (column f) verb (f (form 0 0 0)) ≡ f (form_of verb)
-unfolding form_of
-of-form f verb = get_or-map f forms verb (form 0 0 0)
-
--- a line that is none of the calls
-pub bad-line : (c : Command) (d : List ℕ) → c ≡ bad_line.command → line_as c d ≡ bad_line
-bad-line c d e = rw e
-
-module _ (verb : ℕ) (acceptor : Bool) (marks n : ℕ) (i : List ℕ) (fs : List (List ℕ)) (room kind : ℕ)
-    (kind-is : kind ≡ get_or (column (λ f. f.rest)) verb 0) where
+module _ (verb : ℕ) (acceptor : Bool) (marks n : ℕ) (i : List ℕ) (fs : List (List ℕ)) (room kind : ℕ) (kind-is : kind ≡ (form_of verb).rest) where
   abbrev by_kind : ℕ → Line
   by_kind k =
       cond (eqb k 6) (from_random fs room (line verb acceptor marks n i))
@@ -112,115 +73,192 @@ module _ (verb : ℕ) (acceptor : Bool) (marks n : ℕ) (i : List ℕ) (fs : Lis
 
   from-rest-is : from_rest verb acceptor marks n i fs room ≡ by_kind kind
   unfolding from_rest
-  from-rest-is = ap by_kind (sym (kind-is ∙ of-form (λ f. f.rest) verb))
+  from-rest-is = ap by_kind (sym kind-is)
 
   pub from-rest-extensions : kind ≡ 6 → (x : Line) → x ≡ from_random fs room (line verb acceptor marks n i)
       → x ≡ from_rest verb acceptor marks n i fs room
-  from-rest-extensions h x e = e ∙ sym (from-rest-is ∙ rw (eq-eqb _ _ h))
+  from-rest-extensions h x e = e ∙ sym (from-rest-is ∙ rw h)
 
-  module _ (no-random : kind ≡ 6 → ⊥) where
-    pub from-rest-alerts : kind ≡ 9 → (x : Line) → x ≡ items_then room [] (items_in fs) (line verb acceptor marks n i false)
-        → x ≡ from_rest verb acceptor marks n i fs room
-    from-rest-alerts h x e = e ∙ sym (from-rest-is ∙ rw (ne_eqb _ _ no-random, eq-eqb _ _ h))
+  pub from-rest-alerts : kind ≡ 9 → (x : Line) → x ≡ items_then room [] (items_in fs) (line verb acceptor marks n i false)
+      → x ≡ from_rest verb acceptor marks n i fs room
+  from-rest-alerts h x e = e ∙ sym (from-rest-is ∙ rw h)
 
-    module _ (no-alerts : kind ≡ 9 → ⊥) (r : Decoded) (d : List ℕ) (says : decoded_as r d ≡ fit room (rest_in kind fs)) where
-      from-rest-octets : from_rest verb acceptor marks n i fs room ≡ front_then (decoded_as r d) (line verb acceptor marks n i false no_elements)
-      from-rest-octets = from-rest-is ∙ rw (ne_eqb _ _ no-random, ne_eqb _ _ no-alerts, ← says)
+  module _ (k : Option Kind) (k-is : kind ≡ kind_of k) where
+    from-rest-octets : from_rest verb acceptor marks n i fs room
+        ≡ front_then (fit room (rest_in (kind_of k) fs)) (line verb acceptor marks n i false no_elements)
+    from-rest-octets = from-rest-is ∙ rw k-is (rw (ne_eqb _ _ (plain-kind k).0, ne_eqb _ _ (plain-kind k).1))
 
-      pub from-rest-bad : r ≡ decoded.Bad → (c : Command) → c ≡ bad_line.command → line_as c d ≡ from_rest verb acceptor marks n i fs room
-      from-rest-bad h c e = bad-line c d e ∙ sym (from-rest-octets ∙ rw h)
+    pub from-rest-bad : bad ≡ fit room (rest_in (kind_of k) fs) → bad_line ≡ from_rest verb acceptor marks n i fs room
+    from-rest-bad h = sym (from-rest-octets ∙ rw (← h))
 
-      pub from-rest-good : (k : ℕ) → r ≡ decoded.Octets k → (e : Elements) → e ≡ no_elements
-          → line_as (line verb acceptor marks n i false e k []).command d ≡ from_rest verb acceptor marks n i fs room
-      from-rest-good k h e e-is = rw e-is (sym (from-rest-octets ∙ rw h))
+    pub from-rest-good : (m : ℕ) (o : List ℕ) → front m o ≡ fit room (rest_in (kind_of k) fs) → (e : Elements) → e ≡ no_elements
+        → line verb acceptor marks n i false e m o ≡ from_rest verb acceptor marks n i fs room
+    from-rest-good m o h e e-is = rw e-is (sym (from-rest-octets ∙ rw (← h)))
 
-module _ (verb : ℕ) (acceptor : Bool) (marks n : ℕ) (fs : List (List ℕ)) (room kind : ℕ) (kind-is : kind ≡ get_or (column (λ f. f.id)) verb 0)
-    (b : Bool) (b-is : b ≡ has_id kind acceptor) (r : IdText) (says : id_as r ≡ id_in b fs) where
-  from-id-is : from_id verb acceptor marks n fs room ≡ octets_then (id_as r) (λ i. from_rest verb acceptor marks n i (past b fs) room)
+module _ (verb : ℕ) (acceptor : Bool) (marks n : ℕ) (fs : List (List ℕ)) (room kind : ℕ) (kind-is : kind ≡ (form_of verb).id)
+    (b : Bool) (b-is : b ≡ has_id kind acceptor) where
+  from-id-is : from_id verb acceptor marks n fs room ≡ octets_then (id_in b fs) (λ i. from_rest verb acceptor marks n i (past b fs) room)
   unfolding from_id
-  from-id-is = simp (sym (of-form (λ f. f.id) verb), sym kind-is, sym b-is, sym says)
+  from-id-is = simp (sym kind-is, sym b-is)
 
-  pub from-id-bad : r.ok ≡ false → (c : Command) (d : List ℕ) → c ≡ bad_line.command → line_as c d ≡ from_id verb acceptor marks n fs room
-  from-id-bad h c d e = bad-line c d e ∙ sym (from-id-is ∙ rw h)
+  pub from-id-bad : none ≡ id_in b fs → bad_line ≡ from_id verb acceptor marks n fs room
+  from-id-bad h = sym (from-id-is ∙ rw (← h))
 
-  pub from-id-good : r.ok ≡ true → (gs : List (List ℕ)) → gs ≡ past b fs → (x : Line) → x ≡ from_rest verb acceptor marks n r.octets gs room
-      → x ≡ from_id verb acceptor marks n fs room
-  from-id-good h gs e x x-is = x-is ∙ rw e (sym (from-id-is ∙ rw h))
+  pub from-id-good : (i : List ℕ) → of i ≡ id_in b fs → (gs : List (List ℕ)) → gs ≡ past b fs → (x : Line)
+      → x ≡ from_rest verb acceptor marks n i gs room → x ≡ from_id verb acceptor marks n fs room
+  from-id-good i h gs e x x-is = x-is ∙ rw e (sym (from-id-is ∙ rw (← h)))
 
-module _ (verb : ℕ) (acceptor : Bool) (marks : ℕ) (fs : List (List ℕ)) (room kind : ℕ) (kind-is : kind ≡ get_or (column (λ f. f.number)) verb 0)
-    (r : Number) (says : number_of r ≡ number_in kind fs) where
+module _ (verb : ℕ) (acceptor : Bool) (marks : ℕ) (fs : List (List ℕ)) (room kind : ℕ) (kind-is : kind ≡ (form_of verb).number) where
   from-number-is : from_number verb acceptor marks fs room
-      ≡ number_then (number_of r) (λ n. from_id verb acceptor marks n (past (not (eqb kind 0)) fs) room)
+      ≡ number_then (number_in kind fs) (λ n. from_id verb acceptor marks n (past (not (eqb kind 0)) fs) room)
   unfolding from_number
-  from-number-is = simp (sym (of-form (λ f. f.number) verb), sym kind-is, sym says)
+  from-number-is = simp (sym kind-is)
 
-  pub from-number-bad : r ≡ number.Bad → (c : Command) (d : List ℕ) → c ≡ bad_line.command → line_as c d ≡ from_number verb acceptor marks fs room
-  from-number-bad h c d e = bad-line c d e ∙ sym (from-number-is ∙ rw h)
+  pub from-number-bad : nothing ≡ number_in kind fs → bad_line ≡ from_number verb acceptor marks fs room
+  from-number-bad h = sym (from-number-is ∙ rw (← h))
 
-  pub from-number-good : (n : ℕ) → r ≡ number.Is n → (gs : List (List ℕ)) → gs ≡ past (not (eqb kind 0)) fs → (x : Line)
+  pub from-number-good : (n : ℕ) → is n ≡ number_in kind fs → (b : Bool) → b ≡ not (eqb kind 0) → (gs : List (List ℕ)) → gs ≡ past b fs → (x : Line)
       → x ≡ from_id verb acceptor marks n gs room → x ≡ from_number verb acceptor marks fs room
-  from-number-good n h gs e x x-is = x-is ∙ rw e (sym (from-number-is ∙ rw h))
+  from-number-good n h b b-is gs e x x-is = x-is ∙ rw (e, b-is) (sym (from-number-is ∙ rw (← h)))
 
-module _ (verb end marks : ℕ) (fs : List (List ℕ)) (room : ℕ) where
-  pub called-nowhere : end ≡ 0 → (c : Command) (d : List ℕ) → c ≡ bad_line.command → line_as c d ≡ called verb end marks fs room
-  unfolding called
-  called-nowhere h c d e = bad-line c d e ∙ rw (eq-eqb _ _ h)
+-- the places of words, in the words of the code
+pub place_verbs : (w : List ℕ) → place_of w verbs
+    ≡ cond (pointwise eqb w (quoted "offer")) 1
+    (cond (pointwise eqb w (quoted "reply")) 2
+    (cond (pointwise eqb w (quoted "metadata")) 3
+    (cond (pointwise eqb w (quoted "exchange")) 4
+    (cond (pointwise eqb w (quoted "verify")) 5
+    (cond (pointwise eqb w (quoted "alert")) 6
+    (cond (pointwise eqb w (quoted "read")) 7
+    (cond (pointwise eqb w (quoted "choose")) 8 0)))))))
+unfolding place_from fields_of
+place_verbs w = simp compared
 
-  module _ (somewhere : end ≡ 0 → ⊥) where
-    pub called-nothing : verb ≡ 0 → (c : Command) (d : List ℕ) → c ≡ bad_line.command → line_as c d ≡ called verb end marks fs room
-    unfolding called
-    called-nothing h c d e = bad-line c d e ∙ rw (ne_eqb _ _ somewhere, eq-eqb _ _ h)
+pub choose-or-none : (b : Bool) → 0 ≡ call_verb (cond b 8 0)
+choose-or-none true = refl
+choose-or-none false = refl
 
-    pub called-some : (verb ≡ 0 → ⊥) → (x : Line) → x ≡ from_number verb (eqb end 2) marks fs room → x ≡ called verb end marks fs room
-    unfolding called
-    called-some h x e = rw (ne_eqb _ _ somewhere, ne_eqb _ _ h) e
+pub place_ends : (w : List ℕ) → place_of w ends ≡ cond (pointwise eqb w (quoted "i")) 1 (cond (pointwise eqb w (quoted "a")) 2 0)
+unfolding place_from fields_of
+place_ends w = simp compared
 
-module _ (s : List ℕ) (from v p : ℕ) (v-is : v ≡ p) where
-  pub verb-more : from ≤ length s → v ≡ verb_of p (fields_from s from)
+pub place_speeches : (w : List ℕ) → place_of w speeches
+    ≡ cond (pointwise eqb w (quoted "exchange")) 1 (cond (pointwise eqb w (quoted "verify")) 2 (cond (pointwise eqb w (quoted "alert")) 3 0))
+unfolding place_from fields_of
+place_speeches w = simp compared
+
+module _ (s : List ℕ) (from p : ℕ) where
+  pub verb_more : from ≤ length s → verb_of p (fields_from s from) ≡ p
   unfolding verb_of
-  verb-more h = rw (field-there s from h) v-is
+  verb_more h = rw (field_there s from h)
 
-  module _ (alone : length s < from) where
-    pub verb-turn : v ≡ 7 → 9 ≡ verb_of p (fields_from s from)
-    unfolding verb_of
-    verb-turn h = rw (past-none s from alone, ← v-is, eq-eqb _ _ h)
+  pub verb_alone : length s < from → verb_of p (fields_from s from) ≡ cond (eqb p 7) 9 p
+  unfolding verb_of
+  verb_alone h = rw (past_none s from h)
 
-    pub verb-alone : (v ≡ 7 → ⊥) → v ≡ verb_of p (fields_from s from)
-    unfolding verb_of
-    verb-alone h = rw (past-none s from alone, ← v-is, ne_eqb _ _ h)
+-- `choose`, whatever stands behind it, and no other word
+chosen-word : (fs : List (List ℕ)) → verb_of (place_of (quoted "choose") verbs) fs ≡ 8
+unfolding verb_of place_from fields_of same_octets
+chosen-word [] = refl
+chosen-word (f ∷ fs) = refl
+
+pub choose-verb : (w : List ℕ) (fs : List (List ℕ)) → pointwise eqb w (quoted "choose") ≡ true → verb_of (place_of w verbs) fs ≡ 8
+choose-verb w fs h = rw (same-eq w (quoted "choose") (sym (compared w (quoted "choose")) ∙ h)) (chosen-word fs)
+
+abbrev place_by : Bool → Bool → Bool → Bool → Bool → Bool → Bool → ℕ
+place_by a b c d e f g = cond a 1 (cond b 2 (cond c 3 (cond d 4 (cond e 5 (cond f 6 (cond g 7 0))))))
+
+no-choose : (a b c d e f g : Bool) (fs : List (List ℕ)) → call_verb (verb_of (place_by a b c d e f g) fs) ≡ verb_of (place_by a b c d e f g) fs
+unfolding verb_of
+no-choose true b c d e f g [] = refl
+no-choose true b c d e f g (x ∷ fs) = refl
+no-choose false true c d e f g [] = refl
+no-choose false true c d e f g (x ∷ fs) = refl
+no-choose false false true d e f g [] = refl
+no-choose false false true d e f g (x ∷ fs) = refl
+no-choose false false false true e f g [] = refl
+no-choose false false false true e f g (x ∷ fs) = refl
+no-choose false false false false true f g [] = refl
+no-choose false false false false true f g (x ∷ fs) = refl
+no-choose false false false false false true g [] = refl
+no-choose false false false false false true g (x ∷ fs) = refl
+no-choose false false false false false false true [] = refl
+no-choose false false false false false false true (x ∷ fs) = refl
+no-choose false false false false false false false [] = refl
+no-choose false false false false false false false (x ∷ fs) = refl
+
+pub other-verb : (w : List ℕ) (fs : List (List ℕ)) → pointwise eqb w (quoted "choose") ≡ false
+    → call_verb (verb_of (place_of w verbs) fs) ≡ verb_of (place_of w verbs) fs
+other-verb w fs h = rw (place_verbs w, h) (no-choose _ _ _ _ _ _ _ fs)
+
+-- a verb and an end
+verb-some : (v : Verb) → eqb (number_of_verb v) 0 ≡ false
+verb-some call.Offer = refl
+verb-some call.Reply = refl
+verb-some call.Metadata = refl
+verb-some call.Exchange = refl
+verb-some call.Verify = refl
+verb-some call.Alert = refl
+verb-some call.Read = refl
+verb-some call.Turn = refl
+verb-some call.Open = refl
+verb-some call.ChooseExchange = refl
+verb-some call.ChooseVerify = refl
+verb-some call.ChooseAlert = refl
+
+called-some : (v : Verb) (a : Bool) (marks : ℕ) (fs : List (List ℕ)) (room : ℕ)
+    → called (number_of_verb v) (number_of_end (Some a)) marks fs room ≡ from_number (number_of_verb v) a marks fs room
+unfolding called
+called-some v false marks fs room = rw (verb-some v)
+called-some v true marks fs room = rw (verb-some v)
+
+called-none : (a : Bool) (marks : ℕ) (fs : List (List ℕ)) (room : ℕ) → called 0 (number_of_end (Some a)) marks fs room ≡ bad_line
+unfolding called
+called-none false marks fs room = refl
+called-none true marks fs room = refl
+
+called-nowhere : (v marks : ℕ) (fs : List (List ℕ)) (room : ℕ) → called v 0 marks fs room ≡ bad_line
+unfolding called
+called-nowhere v marks fs room = refl
 
 -- `choose`, from MARKS on
-module _ (end : ℕ) (fs : List (List ℕ)) (room : ℕ) (r : Number) (says : number_of r ≡ number_in 2 fs) where
-  chosen_is : chosen end fs room ≡ number_then (number_of r)
-      (λ m. called (speech_verb (place_of (first (others fs)) speeches)) end m (others (others fs)) room)
+module _ (a : Bool) (fs : List (List ℕ)) (room : ℕ) where
+  pub chosen-bad : nothing ≡ number_in 2 fs → bad_line ≡ chosen (number_of_end (Some a)) fs room
   unfolding chosen
-  chosen_is = rw (← says)
+  chosen-bad h = rw (← h)
 
-  pub chosen-bad : r ≡ number.Bad → (c : Command) (d : List ℕ) → c ≡ bad_line.command → line_as c d ≡ chosen end fs room
-  chosen-bad h c d e = bad-line c d e ∙ sym (chosen_is ∙ rw h)
+  module _ (m : ℕ) (h : is m ≡ number_in 2 fs) (gs : List (List ℕ)) (gs-is : gs ≡ others fs) (w : List ℕ) (w-is : w ≡ first gs) where
+    chosen-by : chosen (number_of_end (Some a)) fs room ≡ called (speech_verb (place_of w speeches)) (number_of_end (Some a)) m (others gs) room
+    unfolding chosen
+    chosen-by = rw (← h, w-is, gs-is)
 
-  pub chosen-good : (m : ℕ) → r ≡ number.Is m → (gs hs : List (List ℕ)) → gs ≡ others fs → hs ≡ others gs → (w : List ℕ) → w ≡ first gs → (verb : ℕ)
-      → verb ≡ speech_verb (place_of w speeches)
-      → (x : Line) → x ≡ called verb end m hs room → x ≡ chosen end fs room
-  chosen-good m h gs hs g-is h-is w w-is verb v-is x x-is = x-is ∙ rw (v-is, w-is, h-is, g-is) (sym (chosen_is ∙ rw h))
+    pub chosen-nothing : 0 ≡ speech_verb (place_of w speeches) → bad_line ≡ chosen (number_of_end (Some a)) fs room
+    chosen-nothing v = sym (chosen-by ∙ rw (← v) (called-none a m (others gs) room))
 
-module _ (k : ℕ) where
-  pub speech-exchange : k ≡ 1 → 11 ≡ speech_verb k
-  speech-exchange h = rw h
+    pub chosen-good : (u : Verb) → number_of_verb u ≡ speech_verb (place_of w speeches) → (hs : List (List ℕ)) → hs ≡ others gs → (x : Line)
+        → x ≡ from_number (number_of_verb u) a m hs room → x ≡ chosen (number_of_end (Some a)) fs room
+    chosen-good u v hs hs-is x e = e ∙ sym (chosen-by ∙ rw (← v, ← hs-is) (called-some u a m hs room))
 
-  module _ (a : k ≡ 1 → ⊥) where
-    pub speech-verify : k ≡ 2 → 12 ≡ speech_verb k
-    speech-verify h = rw h
+chosen-nowhere : (fs : List (List ℕ)) (room : ℕ) → chosen 0 fs room ≡ bad_line
+unfolding chosen
+chosen-nowhere fs room = go (number_in 2 fs) where
+  go : (x : Numeral) → number_then x (λ m. called (speech_verb (place_of (first (others fs)) speeches)) 0 m (others (others fs)) room) ≡ bad_line
+  go (is m) = called-nowhere (speech_verb (place_of (first (others fs)) speeches)) m (others (others fs)) room
+  go nothing = refl
 
-    module _ (b : k ≡ 2 → ⊥) where
-      pub speech-alert : k ≡ 3 → 13 ≡ speech_verb k
-      speech-alert h = rw h
-
-      pub speech-bad : (k ≡ 3 → ⊥) → 0 ≡ speech_verb k
-      speech-bad h = rw (ne_eqb _ _ a, ne_eqb _ _ b, ne_eqb _ _ h)
-
-pub speech-of : (j k : ℕ) → j ≡ k → (v : ℕ) → v ≡ speech_verb j → v ≡ speech_verb k
-speech-of j k e v h = h ∙ ap speech_verb e
+not-eight : (v : Verb) → eqb (number_of_verb v) 8 ≡ false
+not-eight call.Offer = refl
+not-eight call.Reply = refl
+not-eight call.Metadata = refl
+not-eight call.Exchange = refl
+not-eight call.Verify = refl
+not-eight call.Alert = refl
+not-eight call.Read = refl
+not-eight call.Turn = refl
+not-eight call.Open = refl
+not-eight call.ChooseExchange = refl
+not-eight call.ChooseVerify = refl
+not-eight call.ChooseAlert = refl
 
 -- the line of two fields and those behind them, of which the second may be missing
 abbrev by_verb : ℕ → ℕ → List (List ℕ) → ℕ → Line
@@ -251,46 +289,54 @@ line-is w [] room = sym (rw (no_end 10 [] room, no-verb (place_of w ends) room) 
 line-is w (x ∷ fs) room = refl
 
 module _ (s : List ℕ) (at from : ℕ) (at-is : fields_from s at ≡ others (fields_from s 0)) (from_is : fields_from s from ≡ others (fields_from s at))
-    (w x : List ℕ) (w-is : w ≡ first (fields_from s 0)) (x-is : x ≡ first (fields_from s at)) (b : Bool) (b-is : b ≡ same_octets w (quoted "open"))
+    (w x : List ℕ) (w-is : w ≡ first (fields_from s 0)) (x-is : x ≡ first (fields_from s at)) (b : Bool) (b-is : b ≡ pointwise eqb w (quoted "open"))
     (room : ℕ) (l : Line) where
   command-is : command_of s room ≡ cond b (called 10 (place_of x ends) 0 (fields_from s from) room)
       (by_verb (verb_of (place_of x verbs) (fields_from s from)) (place_of w ends) (fields_from s from) room)
   unfolding command_of
   command-is =
-      ap (λ (fs : List (List ℕ)). fields_line fs room) (sym (from_start s) ∙ field-there s 0 (omega arith))
+      ap (λ (fs : List (List ℕ)). fields_line fs room) (sym (from_start s) ∙ field_there s 0 (omega arith))
       ∙ line-is (first (fields_from s 0)) (others (fields_from s 0)) room
-      ∙ simp (b-is, w-is, x-is, from_is, at-is)
+      ∙ simp (b-is, compared, w-is, x-is, from_is, at-is)
 
-  pub command-open : b ≡ true → (end : ℕ) → end ≡ place_of x ends → l ≡ called 10 end 0 (fields_from s from) room → l ≡ command_of s room
-  command-open h end e l-is = l-is ∙ rw e (sym (command-is ∙ rw h))
+  module _ (h : b ≡ true) where
+    pub command-open-bad : 0 ≡ place_of x ends → bad_line ≡ command_of s room
+    command-open-bad e = sym (command-is ∙ rw (h, ← e) (called-nowhere 10 0 (fields_from s from) room))
 
-  module _ (h : b ≡ false) (verb : ℕ) (v : verb ≡ verb_of (place_of x verbs) (fields_from s from)) (end : ℕ) (e : end ≡ place_of w ends) where
-    pub command-choose : verb ≡ 8 → l ≡ chosen end (fields_from s from) room → l ≡ command_of s room
-    command-choose z l-is = l-is ∙ rw e (sym (command-is ∙ rw (h, ← v, z)))
+    pub command-open : (a : Bool) → number_of_end (Some a) ≡ place_of x ends → l ≡ from_number 10 a 0 (fields_from s from) room → l ≡ command_of s room
+    command-open a e l-is = l-is ∙ sym (command-is ∙ rw (h, ← e) (called-some call.Open a 0 (fields_from s from) room))
 
-    pub command-call : (verb ≡ 8 → ⊥) → l ≡ called verb end 0 (fields_from s from) room → l ≡ command_of s room
-    command-call z l-is = l-is ∙ rw (e, v) (sym (command-is ∙ rw (h, ← v, ne_eqb _ _ z) refl))
+  module _ (h : b ≡ false) where
+    pub command-nowhere : 0 ≡ place_of w ends → bad_line ≡ command_of s room
+    command-nowhere e =
+        sym (command-is
+        ∙ rw (h, ← e) (rw (chosen-nowhere (fields_from s from) room, called-nowhere (verb_of (place_of x verbs) (fields_from s from)) 0 (fields_from s from) room)
+        (either-bad (eqb (verb_of (place_of x verbs) (fields_from s from)) 8))))
 
-pub ruleset commands = (command-open, command-choose, command-call)
+    module _ (a : Bool) (e : number_of_end (Some a) ≡ place_of w ends) (o : Bool) (o-is : o ≡ pointwise eqb x (quoted "choose")) where
+      pub command-choose : o ≡ true → l ≡ chosen (number_of_end (Some a)) (fields_from s from) room → l ≡ command_of s room
+      command-choose z l-is = l-is ∙ sym (command-is ∙ rw (h, ← e, choose-verb x (fields_from s from) (sym o-is ∙ z)))
 
-pub ruleset choices = (chosen-bad, chosen-good)
+      module _ (z : o ≡ false) where
+        same-verb : (n : ℕ) → n ≡ call_verb (verb_of (place_of x verbs) (fields_from s from)) → verb_of (place_of x verbs) (fields_from s from) ≡ n
+        same-verb n v = sym (v ∙ other-verb x (fields_from s from) (sym o-is ∙ z))
 
-pub ruleset speech-words = (speech-of, speech-exchange, speech-verify, speech-alert, speech-bad)
+        pub command-nothing : 0 ≡ call_verb (verb_of (place_of x verbs) (fields_from s from)) → bad_line ≡ command_of s room
+        command-nothing v = sym (command-is ∙ rw (h, ← e, same-verb 0 v) (called-none a 0 (fields_from s from) room))
+
+        pub command-call : (u : Verb) → number_of_verb u ≡ call_verb (verb_of (place_of x verbs) (fields_from s from))
+            → l ≡ from_number (number_of_verb u) a 0 (fields_from s from) room → l ≡ command_of s room
+        command-call u v l-is =
+            l-is ∙ sym (command-is ∙ rw (h, ← e, same-verb (number_of_verb u) v) (rw (not-eight u) (called-some u a 0 (fields_from s from) room)))
+
+pub ruleset commands = (command-open-bad, command-open, command-nowhere, command-choose, command-nothing, command-call)
+
+pub ruleset choices = (chosen-bad, chosen-nothing, chosen-good)
 
 pub ruleset pasts = (past-read, past-not)
 
-pub ruleset numbers = (number-none, number-room, number-marks, number-code)
+pub ruleset from-rests = (form-rest, from-rest-extensions, from-rest-alerts, from-rest-bad, from-rest-good)
 
-pub ruleset named-ids = (has-own, has-conversation, has-none, id-some, id-none)
+pub ruleset from-ids = (form-id, from-id-bad, from-id-good)
 
-pub ruleset rests = (rest-ids, rest-octets, rest_more, rest-none)
-
-pub ruleset from-rests = (from-rest-extensions, from-rest-alerts, from-rest-bad)
-
-pub ruleset from-ids = (from-id-bad, from-id-good)
-
-pub ruleset from-numbers = (from-number-bad, from-number-good)
-
-pub ruleset calleds = (called-nowhere, called-nothing, called-some)
-
-pub ruleset verb-words = (verb-more, verb-turn, verb-alone)
+pub ruleset from-numbers = (form-number, some-kind, from-number-bad, from-number-good)

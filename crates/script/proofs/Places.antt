@@ -12,9 +12,8 @@ use lib.Dec.{eqb, ltb, leb-suc-suc}
 use borrow.Author.Tests.{ltb-true, ltb-false, lt-ltb, le-ltb}
 use Rattle.octets.proofs.Bools.{which}
 use Rattle.scan.specs.Scan.{index_of, index_after, slice}
-use Rattle.octets.specs.Octets.{same_octets}
 use Rattle.fields.specs.Fields.{part}
-use Rattle.script.specs.Grammar.{longer, fields_of, first, others, only, place_from, place_of}
+use Rattle.script.specs.Grammar.{longer, fields_of, first, others, only}
 use Rattle.script.specs.Places.{fields_from}
 use Rattle.script.specs.Steps.{end_of}
 
@@ -44,9 +43,9 @@ split (c ∷ t) = split_at c t (index_of 32 t) (eqb c 32) (split t)
 
 module _ (s : List ℕ) (from : ℕ) where
   module _ (outside : length s < from) where
-    pub past-none : fields_from s from ≡ []
+    pub past_none : fields_from s from ≡ []
     unfolding fields_from
-    past-none = rw (lt-ltb _ _ outside)
+    past_none = rw (lt-ltb _ _ outside)
 
   module _ (inside : from ≤ length s) where
     tail_of_lem : slice from (length s) s ≡ drop from s
@@ -86,7 +85,7 @@ module _ (s : List ℕ) (from : ℕ) where
       → (from ≤ length s → P (part s from (end_of s from) ∷ fields_from s (end_of s from + 1))) → P (fields_from s from)
   at_place P f g =
       ⊎_elim
-      (λ e. let h : length s < from = ltb-true _ _ e in subst P (sym (past-none h)) (f h))
+      (λ e. let h : length s < from = ltb-true _ _ e in subst P (sym (past_none h)) (f h))
       (λ e. let h : from ≤ length s = ltb-false _ _ e in subst P (sym (fields_at h)) (g h))
       (which (ltb (length s) from))
 
@@ -100,7 +99,7 @@ module _ (s : List ℕ) (from end : ℕ) (end_is : end ≡ end_of s from) where
   pub others-are : fields_from s (end + 1) ≡ others (fields_from s from)
   others-are =
       at_place s from (λ (fs : List (List ℕ)). fields_from s (end + 1) ≡ others fs)
-      (λ h. past-none s (end + 1) (let w = end-past s from h in omega arith))
+      (λ h. past_none s (end + 1) (let w = end-past s from h in omega arith))
       (λ h. ap (λ (k : ℕ). fields_from s (k + 1)) end_is)
 
   pub only_none : end < length s → take 0 s ≡ only (fields_from s from)
@@ -115,7 +114,7 @@ module _ (s : List ℕ) (from end : ℕ) (end_is : end ≡ end_of s from) where
       at_place s from (λ (fs : List (List ℕ)). x ≡ only fs) (λ g. e ∙ outside-end g)
       (λ g.
       let k : length s < end_of s from + 1 = omega arith in
-      e ∙ ap (part s from) end_is ∙ ap (λ (fs : List (List ℕ)). only (part s from (end_of s from) ∷ fs)) (sym (past-none s (end_of s from + 1) k)))
+      e ∙ ap (part s from) end_is ∙ ap (λ (fs : List (List ℕ)). only (part s from (end_of s from) ∷ fs)) (sym (past_none s (end_of s from + 1) k)))
 
 pub ruleset parts = (end-past, end-found, first-is, only_none, only-is)
 
@@ -124,27 +123,5 @@ pub from_start : (s : List ℕ) → fields_from s 0 ≡ fields_of s
 from_start s = opened s 0 (omega arith)
 
 -- a field stands at every place of the line, and none behind its end
-pub field-there : (s : List ℕ) (from : ℕ) → from ≤ length s → fields_from s from ≡ first (fields_from s from) ∷ others (fields_from s from)
-field-there s from h = at_place s from (λ (fs : List (List ℕ)). fs ≡ first fs ∷ others fs) (λ g. absurd (omega arith)) (λ g. refl)
-
--- looking a word up among the fields of a text
-pub place-start : (w text : List ℕ) → place_of w (fields_of text) ≡ place_from 1 w (fields_from text 0)
-place-start w text = ap (place_from 1 w) (sym (from_start text))
-
-module _ (w text : List ℕ) (k at p : ℕ) (inv : p ≡ place_from k w (fields_from text at)) where
-  pub place_none : length text < at → 0 ≡ p
-  unfolding place_from
-  place_none h = sym (inv ∙ rw (past-none text at h))
-
-  module _ (more : at ≤ length text) (x : List ℕ) (x-is : x ≡ first (fields_from text at)) (b : Bool) (b-is : b ≡ same_octets w x) where
-    there : p ≡ cond b k (place_from (k + 1) w (others (fields_from text at)))
-    unfolding place_from
-    there = inv ∙ ap (place_from k w) (field-there text at more) ∙ rw (← x-is, ← b-is)
-
-    pub place_found : b ≡ true → k ≡ p
-    place_found h = sym (there ∙ rw h)
-
-    pub place-more : b ≡ false → (r : ℕ) → fields_from text r ≡ others (fields_from text at) → p ≡ place_from (k + 1) w (fields_from text r)
-    place-more h r e = there ∙ rw (h, ← e)
-
-pub ruleset places = (place-start, place_none, place_found, place-more)
+pub field_there : (s : List ℕ) (from : ℕ) → from ≤ length s → fields_from s from ≡ first (fields_from s from) ∷ others (fields_from s from)
+field_there s from h = at_place s from (λ (fs : List (List ℕ)). fs ≡ first fs ∷ others fs) (λ g. absurd (omega arith)) (λ g. refl)

@@ -9,7 +9,11 @@
 --                      nothing behind it; CHOOSE: the word `choose`; CHOOSE-EXCHANGE, CHOOSE-VERIFY and CHOOSE-ALERT: the calls that it begins
 --   NONE               no field behind a verb; ROOM, MARKS, CODE, ID, CONVERSATION, OCTETS and IDS: the fields that there are; TYPE is read as CODE;
 --                      EXTENSIONS: RANDOM and the EXT behind it; ALERTS: the ALERT ..
---   Form, forms        which fields a call has, by its verb: its number, its id and the rest of its line; form builds one, form_of is that of a verb
+--   number_of_verb     the verb of a call of src/; verb_named: of one that a word may name, BAD where it is none; number_of_end: the place of an end among
+--                      ends; kind_of: the field of a kind of src/; kind_of_rest: the same of the rest of a line
+--   call_verb v        the verb v, where it is that of a call: CHOOSE alone is none
+--   Form, forms        which fields a call has, by its verb: its number, its id and the rest of its line; form builds one, form_of is that of a verb;
+--                      form_as: that of an answer of src/
 --   ends, verbs        the words; speeches: those behind `choose MARKS`; place_of w ws: the place of the word w among ws, from 1, or 0 where it is none of
 --                      them; place_from: from another number
 --                      on
@@ -22,20 +26,28 @@
 --   elements_of xs     the number, types and sizes of the items xs, as the library takes them: a type and a size for each of the first eight, zeros
 --                      behind them; filled k ns: the first k of ns; size_of n: a size as a number of 32 bits
 --   test_in fs         the word `test` stands in front of the first of the EXT
+--   Call               a command, its verb by its number
 --   Line               a command, and the octets that it is given; line builds one; bad_line: that of a bad line
---   line_as c d        the same of an answer, whose octets stand at the front of the slice d
+--   line_as c d        the same of an answer of src/, whose octets stand at the front of the slice d
 --   number_then        the line, where a number is good; octets_then: an id or RANDOM; front_then: octets at the front of the lent slice; items_then: items,
 --                      whose values stand behind the octets o; a bad line where it is not
 --   from_number        the line from its number on; from_id: from its id on; from_rest: from its rest on; from_random: from RANDOM on
 --   called             the line of a verb at an end, with the marks of a choice; chosen: that of `choose`, from MARKS on; fields_line: that of its fields
 --   command_of s room  what the line s says, where a slice of `room` octets is lent
-use Rattle.std.specs.Prelude.{ℕ, zero, suc, ◌+◌, min, Bool, true, false, cond, not, ◌&&◌, ◌||◌, List, [], ◌∷◌, ◌++◌, map, length, take, get_or, replicate, eqb}
+use Rattle.std.specs.Prelude.{ℕ, zero, suc, ◌+◌, min, Bool, true, false, cond, not, ◌&&◌, ◌||◌, List, [], ◌∷◌, ◌++◌, map, length, take, get_or, replicate, eqb, Option, Some, None}
 use Rattle.octets.specs.Octets.{same_octets}
 use Rattle.put.specs.Put.{joined}
 use Rattle.text.specs.Text.{quoted}
 use Rattle.elements.specs.declared.Elements.{Elements}
 use Rattle.elements.specs.Elements.{Item, item_values, no_elements}
 use Rattle.script.specs.declared.Command.{Command}
+use Rattle.script.specs.declared.Verb.{Verb}
+use Rattle.script.specs.declared.Verb.TheVariants as call
+use Rattle.script.specs.declared.Kind.{Kind}
+use Rattle.script.specs.declared.Kind.TheVariants as kind
+use Rattle.script.specs.declared.Rest.{Rest}
+use Rattle.script.specs.declared.Rest.TheVariants as rest
+use Rattle.script.specs.declared.Form.{Form as FormText}
 use Rattle.fields.specs.Fields.{part, Numeral, is, nothing, hexadecimal_of, room_of, Octets, of, none, Front, front, bad, fit, octets_of, random_of, id_of, behind_all}
 
 abbrev pub longer : ℕ → List (List ℕ) → List (List ℕ)
@@ -102,6 +114,29 @@ CHOOSE-VERIFY = 12
 abbrev pub CHOOSE-ALERT : ℕ
 CHOOSE-ALERT = 13
 
+abbrev pub number_of_verb : Verb → ℕ
+number_of_verb call.Offer = OFFER
+number_of_verb call.Reply = REPLY
+number_of_verb call.Metadata = METADATA
+number_of_verb call.Exchange = EXCHANGE
+number_of_verb call.Verify = VERIFY
+number_of_verb call.Alert = ALERT
+number_of_verb call.Read = READ
+number_of_verb call.Turn = TURN
+number_of_verb call.Open = OPEN
+number_of_verb call.ChooseExchange = CHOOSE-EXCHANGE
+number_of_verb call.ChooseVerify = CHOOSE-VERIFY
+number_of_verb call.ChooseAlert = CHOOSE-ALERT
+
+abbrev pub verb_named : Option Verb → ℕ
+verb_named (Some v) = number_of_verb v
+verb_named None = BAD
+
+abbrev pub number_of_end : Option Bool → ℕ
+number_of_end (Some false) = 1
+number_of_end (Some true) = 2
+number_of_end None = 0
+
 abbrev pub NONE : ℕ
 NONE = 0
 
@@ -131,6 +166,21 @@ IDS = 8
 
 abbrev pub ALERTS : ℕ
 ALERTS = 9
+
+abbrev pub kind_of : Option Kind → ℕ
+kind_of (Some kind.Room) = ROOM
+kind_of (Some kind.Marks) = MARKS
+kind_of (Some kind.Code) = CODE
+kind_of (Some kind.Id) = ID
+kind_of (Some kind.Conversation) = CONVERSATION
+kind_of (Some kind.Octets) = OCTETS
+kind_of (Some kind.Ids) = IDS
+kind_of None = NONE
+
+abbrev pub kind_of_rest : Rest → ℕ
+kind_of_rest rest.Extensions = EXTENSIONS
+kind_of_rest rest.Alerts = ALERTS
+kind_of_rest (rest.Plain k) = kind_of k
 
 pub record Form : Type 0 where
   pub number : ℕ
@@ -164,6 +214,9 @@ forms =
 unfoldable pub form_of : ℕ → Form
 form_of verb = get_or forms verb (form NONE NONE NONE)
 
+abbrev pub form_as : FormText → Form
+form_as f = form (kind_of f.number) (kind_of f.id) (kind_of_rest f.rest)
+
 unfoldable pub place_from : ℕ → List ℕ → List (List ℕ) → ℕ
 place_from k w [] = 0
 place_from k w (x ∷ ws) = cond (same_octets w x) k (place_from (k + 1) w ws)
@@ -189,6 +242,9 @@ speech_verb place = cond (eqb place 1) CHOOSE-EXCHANGE (cond (eqb place 2) CHOOS
 unfoldable pub verb_of : ℕ → List (List ℕ) → ℕ
 verb_of verb [] = cond (eqb verb READ) TURN verb
 verb_of verb (f ∷ fs) = verb
+
+abbrev pub call_verb : ℕ → ℕ
+call_verb verb = cond (eqb verb CHOOSE) BAD verb
 
 abbrev pub both : Octets → Octets → Octets
 both (of o) x = behind_all o x
@@ -269,12 +325,19 @@ test_in [] = false
 test_in (f ∷ []) = false
 test_in (f ∷ g ∷ fs) = same_octets f (quoted "test")
 
-pub record Line : Type 0 where
-  pub command : Command
-  pub octets : List ℕ
+pub record Call : Type 0 where
+  pub verb : ℕ
+  pub acceptor : Bool
+  pub marks : ℕ
+  pub number : ℕ
+  pub id : List ℕ
+  pub test : Bool
+  pub elements : Elements
+  pub length : ℕ
 
-abbrev pub line_as : Command → List ℕ → Line
-line_as c d = record { command = c; octets = take c.length d }
+pub record Line : Type 0 where
+  pub command : Call
+  pub octets : List ℕ
 
 abbrev pub line : ℕ → Bool → ℕ → ℕ → List ℕ → Bool → Elements → ℕ → List ℕ → Line
 line verb acceptor marks number id test elements length octets =
@@ -286,6 +349,10 @@ line verb acceptor marks number id test elements length octets =
 
 abbrev pub bad_line : Line
 bad_line = line BAD false 0 0 (replicate 16 0) false no_elements 0 []
+
+abbrev pub line_as : Option Command → List ℕ → Line
+line_as (Some c) d = line (number_of_verb c.verb) c.acceptor c.marks c.number c.id c.test c.elements c.length (take c.length d)
+line_as None d = bad_line
 
 abbrev pub number_then : Numeral → (ℕ → Line) → Line
 number_then (is n) f = f n

@@ -1,11 +1,11 @@
 // The fields of a line. A field starts at a place of the line and ends before the next space or at the line's end; a place behind the line's end starts
 // none.
 ghost use Rattle.std.specs.Prelude.{◌≡◌};
-ghost use Rattle.script.specs.Grammar.{fields_of, first, only, place_of, past as Grammar·past};
+ghost use Rattle.script.specs.Grammar.{first, only, past as Grammar·past};
 ghost use Rattle.script.specs.Places.{fields_from, Behind};
 ghost use Rattle.script.specs.Steps.{FieldEnd};
 
-use fields::{is_word, part};
+use fields::part;
 use scan::find;
 
 // Where the field that starts at `from` ends.
@@ -22,8 +22,7 @@ fn field_end(s: &[u8], from: usize) -> usize
 pub fn field(s: &[u8], from: usize) -> &[u8]
     ensures { result.now ≡ first (fields_from s.now from) }
 {
-    let end = field_end(s, from);
-    part(s, from, end)
+    part(s, from, field_end(s, from))
 }
 
 // The field that starts at `from`, where it is the line's last; else nothing.
@@ -48,24 +47,5 @@ pub fn behind(s: &[u8], from: usize) -> usize
 pub(crate) fn past(s: &[u8], from: usize, read: bool) -> usize
     ensures { fields_from s.now result ≡ Grammar·past read (fields_from s.now from) }
 {
-    if read {
-        return behind(s, from);
-    }
-    from
-}
-
-// The place of a word among the fields of a text, from 1; 0 where it is none of them.
-pub(crate) fn place(word: &[u8], text: &[u8]) -> usize
-    ensures { result ≡ place_of word.now (fields_of text.now) }
-{
-    let mut at = 0;
-    let mut k = 1;
-    while at <= text.len() {
-        if is_word(word, field(text, at)) {
-            return k;
-        }
-        at = behind(text, at);
-        k += 1;
-    }
-    0
+    if read { behind(s, from) } else { from }
 }

@@ -6,50 +6,34 @@ ghost use Rattle.script.specs.Steps.{ItemRead, one_more};
 
 use super::field::{behind, field};
 use elements::Elements;
-use fields::hex::{Decoded, octets};
-use fields::number::{Number, hexadecimal};
-use fields::{is_word, octet, part};
+use fields::hex::octets;
+use fields::number::hexadecimal;
+use fields::{octet, part};
 
-// What a field that should be an extension or an alert says: its type, and how many octets its value has.
+// An extension or an alert: its type, and how many octets its value has.
 #[derive(Clone, Copy)]
 pub(crate) struct ItemText {
-    pub(crate) ok: bool,
     pub(crate) kind: u32,
     pub(crate) size: usize,
 }
 
 // The extension or alert in a field. Its value is put at the front of d.
-pub(crate) fn item(s: &[u8], d: &mut [u8]) -> ItemText
+pub(crate) fn item(s: &[u8], d: &mut [u8]) -> Option<ItemText>
     ensures { ItemRead s.now d.old result d.new }
 {
-    let none = ItemText {
-        ok: false,
-        kind: 0,
-        size: 0,
-    };
     if octet(s, 8) != b':' {
-        return none;
+        return None;
     }
-    let number = hexadecimal(part(s, 0, 8), 8, 4294967295);
-    let Number::Is(kind) = number else {
-        return none;
-    };
-    let value = octets(part(s, 9, s.len()), d);
-    let Decoded::Octets(size) = value else {
-        return none;
-    };
-    ItemText {
-        ok: true,
-        kind,
-        size,
-    }
+    let kind = hexadecimal(part(s, 0, 8), 8, 4294967295)?;
+    let size = octets(part(s, 9, s.len()), d)?;
+    Some(ItemText { kind, size })
 }
 
 // A size in 32 bits.
 fn size_of(n: usize) -> u32
     ensures { result ≡ size_of n }
 {
-    if n < 4294967295 { n as u32 } else { 4294967295 }
+    n.min(4294967295) as u32
 }
 
 // Elements with one more behind them, whose value has n octets. Only the first eight have a place.
@@ -71,8 +55,5 @@ pub(crate) fn added(e: Elements, kind: u32, n: usize) -> Elements
 pub(crate) fn is_test(line: &[u8], from: usize) -> bool
     ensures { result ≡ test_in (fields_from line.now from) }
 {
-    if line.len() < behind(line, from) {
-        return false;
-    }
-    is_word(field(line, from), b"test")
+    behind(line, from) <= line.len() && field(line, from) == b"test".as_slice()
 }

@@ -1,15 +1,13 @@
 // The text of a script: a line read into one command.
 #![tactic(auto)]
 
-ghost use Rattle.std.specs.Prelude.{◌≡◌, ◌≤◌, length, take};
+ghost use Rattle.std.specs.Prelude.{◌≡◌, ◌≤◌, length, take, Some};
 ghost use Rattle.script.specs.Places.{fields_from};
-ghost use Rattle.script.specs.Grammar.{verbs, ends, speeches, place_of, verb_of, speech_verb, has_id, items_in, line_as, line as Grammar·line, bad_line, items_then, from_random, from_rest, from_id, from_number, called, chosen, command_of};
+ghost use Rattle.script.specs.Grammar.{verbs, ends, speeches, place_of, speech_verb, has_id, items_in, line_as, line as Grammar·line, items_then, from_random, from_rest, from_id, from_number, chosen, command_of, number_of_verb, number_of_end, kind_of, form_as, form_of, verb_named, call_verb, verb_of as Grammar·verb_of};
 
 use elements::Elements;
-use field::{behind, field as field_at, past, place};
-use fields::hex::{Decoded, random};
-use fields::number::Number;
-use fields::{is_word, octet};
+use field::{behind, field as field_at, past};
+use fields::hex::random;
 use item::{added, is_test, item};
 use value::{id_in, number_in, rest_in};
 
@@ -17,12 +15,61 @@ pub mod field;
 mod item;
 pub mod value;
 
+// The calls.
+#[derive(Clone, Copy, PartialEq, Eq)]
+pub enum Verb {
+    Offer,
+    Reply,
+    Metadata,
+    Exchange,
+    Verify,
+    Alert,
+    Read,
+    // `read` with nothing behind it
+    Turn,
+    Open,
+    ChooseExchange,
+    ChooseVerify,
+    ChooseAlert,
+}
+
+// The fields behind a verb.
+#[derive(Clone, Copy)]
+pub enum Kind {
+    Room,
+    Marks,
+    // TYPE is read so too
+    Code,
+    Id,
+    Conversation,
+    Octets,
+    Ids,
+}
+
+// The rest of a call's line.
+#[derive(Clone, Copy)]
+enum Rest {
+    // RANDOM and the EXT behind it
+    Extensions,
+    Alerts,
+    // octets alone, or nothing
+    Plain(Option<Kind>),
+}
+
+// Which number a call has, which id, and the rest of its line.
+#[derive(Clone, Copy)]
+struct Form {
+    number: Option<Kind>,
+    id: Option<Kind>,
+    rest: Rest,
+}
+
 // What a line says: the call, its end, the MARKS of a choice, its number (ROOM, a reply's MARKS, TYPE or CODE), its id (CONVERSATION or ID), whether it is a
 // test call, its extensions or alerts, and how many octets it is given (RANDOM and the values of the extensions, the values of the alerts, OCTETS, or the
 // ids of a list). A field that a call does not have is zero.
 #[derive(Clone, Copy)]
 pub struct Command {
-    pub verb: usize,
+    pub verb: Verb,
     pub acceptor: bool,
     pub marks: u32,
     pub number: u32,
@@ -32,215 +79,130 @@ pub struct Command {
     pub length: usize,
 }
 
-impl Command {
-    pub const BAD: usize = 0;
-
-    pub const OFFER: usize = 1;
-
-    pub const REPLY: usize = 2;
-
-    pub const METADATA: usize = 3;
-
-    pub const EXCHANGE: usize = 4;
-
-    pub const VERIFY: usize = 5;
-
-    pub const ALERT: usize = 6;
-
-    pub const READ: usize = 7;
-
-    // the word that begins the calls that choose
-    pub const CHOOSE: usize = 8;
-
-    // `read` with nothing behind it
-    pub const TURN: usize = 9;
-
-    pub const OPEN: usize = 10;
-
-    pub const CHOOSE_EXCHANGE: usize = 11;
-
-    pub const CHOOSE_VERIFY: usize = 12;
-
-    pub const CHOOSE_ALERT: usize = 13;
-}
-
-// The fields behind a verb.
-const NONE: u8 = 0;
-
-const ROOM: u8 = 1;
-
-pub const MARKS: u8 = 2;
-
-const CODE: u8 = 3;
-
-const ID: u8 = 4;
-
-const CONVERSATION: u8 = 5;
-
-const EXTENSIONS: u8 = 6;
-
-const OCTETS: u8 = 7;
-
-pub const IDS: u8 = 8;
-
-const ALERTS: u8 = 9;
-
-// By verb: which number a call has, which id, and what the rest of its line is.
-const NUMBERS: [u8; 14] = [
-    NONE, NONE, MARKS, NONE, NONE, CODE, CODE, NONE, NONE, NONE, ROOM, NONE, CODE, CODE,
-];
-
-const NAMES: [u8; 14] = [
-    NONE,
-    NONE,
-    NONE,
-    ID,
-    NONE,
-    NONE,
-    NONE,
-    NONE,
-    NONE,
-    NONE,
-    CONVERSATION,
-    NONE,
-    NONE,
-    NONE,
-];
-
-const RESTS: [u8; 14] = [
-    NONE, EXTENSIONS, EXTENSIONS, OCTETS, OCTETS, OCTETS, ALERTS, OCTETS, NONE, NONE, IDS, OCTETS,
-    OCTETS, ALERTS,
-];
-
-// A line that is none of the calls.
-fn bad() -> Command
-    ensures { result ≡ bad_line.command }
-{
-    let elements = Elements::none();
-    Command {
-        verb: 0,
-        acceptor: false,
-        marks: 0,
-        number: 0,
-        id: [0u8; 16],
-        test: false,
-        elements,
-        length: 0,
+impl Verb {
+    // The fields of a call.
+    #[tactic(auto, unfolding(crate::specs::Grammar::form_of))]
+    fn form(self) -> Form
+        ensures { form_as result ≡ form_of (number_of_verb self) }
+    {
+        let (number, id, rest) = match self {
+            Verb::Offer => (None, None, Rest::Extensions),
+            Verb::Reply => (Some(Kind::Marks), None, Rest::Extensions),
+            Verb::Metadata => (None, Some(Kind::Id), Rest::Plain(Some(Kind::Octets))),
+            Verb::Exchange | Verb::Read | Verb::ChooseExchange => {
+                (None, None, Rest::Plain(Some(Kind::Octets)))
+            }
+            Verb::Verify | Verb::ChooseVerify => {
+                (Some(Kind::Code), None, Rest::Plain(Some(Kind::Octets)))
+            }
+            Verb::Alert | Verb::ChooseAlert => (Some(Kind::Code), None, Rest::Alerts),
+            Verb::Turn => (None, None, Rest::Plain(None)),
+            Verb::Open => (
+                Some(Kind::Room),
+                Some(Kind::Conversation),
+                Rest::Plain(Some(Kind::Ids)),
+            ),
+        };
+        Form { number, id, rest }
     }
 }
 
 // A command with extensions or alerts, whose values are put one behind the other, from `start` on.
-fn with_items(c: Command, line: &[u8], from: usize, start: usize, lent: &mut [u8]) -> Command
+fn with_items(
+    c: Command,
+    line: &[u8],
+    from: usize,
+    start: usize,
+    lent: &mut [u8],
+) -> Option<Command>
     requires { start ≤ length lent.old }
     ensures { line_as result lent.new ≡ items_then (length lent.old) (take start lent.old)
-        (items_in (fields_from line.now from)) (Grammar·line c.verb c.acceptor c.marks c.number c.id c.test) }
+        (items_in (fields_from line.now from)) (Grammar·line (number_of_verb c.verb) c.acceptor c.marks c.number c.id c.test) }
 {
     let mut elements = Elements::none();
     let mut at = from;
-    let mut filled = start;
+    let mut length = start;
+    // No range: the step of a turn is a field's length.
     while at <= line.len() {
-        let next = item(field_at(line, at), &mut lent[filled..]);
-        if next.ok {} else {
-            return bad();
-        }
+        let next = item(field_at(line, at), &mut lent[length..])?;
         elements = added(elements, next.kind, next.size);
-        filled += next.size;
+        length += next.size;
         at = behind(line, at);
     }
-    let mut given = c;
-    given.elements = elements;
-    given.length = filled;
-    given
+    Some(Command {
+        elements,
+        length,
+        ..c
+    })
 }
 
 // A command with RANDOM and extensions.
-fn with_random(c: Command, line: &[u8], from: usize, lent: &mut [u8]) -> Command
+fn with_random(c: Command, line: &[u8], from: usize, lent: &mut [u8]) -> Option<Command>
     ensures { line_as result lent.new ≡ from_random (fields_from line.now from) (length lent.old)
-        (Grammar·line c.verb c.acceptor c.marks c.number c.id) }
+        (Grammar·line (number_of_verb c.verb) c.acceptor c.marks c.number c.id) }
 {
-    let value = random(field_at(line, from), lent);
-    let Decoded::Octets(n) = value else {
-        return bad();
-    };
+    let n = random(field_at(line, from), lent)?;
     let at = behind(line, from);
     let test = is_test(line, at);
-    let mut next = c;
-    next.test = test;
-    with_items(next, line, past(line, at, test), n, lent)
+    with_items(Command { test, ..c }, line, past(line, at, test), n, lent)
 }
 
 // A command with the rest of its line.
-fn with_rest(c: Command, line: &[u8], from: usize, lent: &mut [u8]) -> Command
-    ensures { line_as result lent.new ≡ from_rest c.verb c.acceptor c.marks c.number c.id
+fn with_rest(c: Command, line: &[u8], from: usize, lent: &mut [u8]) -> Option<Command>
+    ensures { line_as result lent.new ≡ from_rest (number_of_verb c.verb) c.acceptor c.marks c.number c.id
         (fields_from line.now from)
         (length lent.old) }
 {
-    let kind = octet(&RESTS, c.verb);
-    if kind == EXTENSIONS {
-        return with_random(c, line, from, lent);
-    }
-    let none = Elements::none();
-    let mut next = c;
-    next.test = false;
-    next.elements = none;
-    if kind == ALERTS {
-        return with_items(next, line, from, 0, lent);
-    }
-    let rest = rest_in(line, from, kind, lent);
-    let Decoded::Octets(length) = rest else {
-        return bad();
+    let plain = Command {
+        test: false,
+        elements: Elements::none(),
+        ..c
     };
-    next.length = length;
-    next
+    match c.verb.form().rest {
+        Rest::Extensions => with_random(c, line, from, lent),
+        Rest::Alerts => with_items(plain, line, from, 0, lent),
+        Rest::Plain(kind) => {
+            let length = rest_in(line, from, kind, lent)?;
+            Some(Command { length, ..plain })
+        }
+    }
 }
 
 // Whether a call at an end has an id: an initiator alone has a CONVERSATION.
-fn has_id(kind: u8, acceptor: bool) -> bool
-    ensures { result ≡ has_id kind acceptor }
+fn has_id(kind: Option<Kind>, acceptor: bool) -> bool
+    ensures { result ≡ has_id (kind_of kind) acceptor }
 {
-    if kind == ID {
-        return true;
+    match kind {
+        Some(Kind::Id) => true,
+        Some(Kind::Conversation) => !acceptor,
+        _ => false,
     }
-    if kind == CONVERSATION {
-        return !acceptor;
-    }
-    false
 }
 
 // A command with its id, and what is behind it.
-fn with_id(c: Command, line: &[u8], from: usize, lent: &mut [u8]) -> Command
-    ensures { line_as result lent.new ≡ from_id c.verb c.acceptor c.marks c.number (fields_from line.now from)
+fn with_id(c: Command, line: &[u8], from: usize, lent: &mut [u8]) -> Option<Command>
+    ensures { line_as result lent.new ≡ from_id (number_of_verb c.verb) c.acceptor c.marks c.number (fields_from line.now from)
         (length lent.old) }
 {
-    let some = has_id(octet(&NAMES, c.verb), c.acceptor);
-    let id = id_in(line, from, some);
-    if id.ok {} else {
-        return bad();
-    }
-    let mut next = c;
-    let octets = id.octets;
-    next.id = octets;
-    with_rest(next, line, past(line, from, some), lent)
+    let some = has_id(c.verb.form().id, c.acceptor);
+    let id = id_in(line, from, some)?;
+    with_rest(Command { id, ..c }, line, past(line, from, some), lent)
 }
 
-// A command of a verb with its number, and what is behind it.
+// A command of a verb at an end with its number, and what is behind it.
 fn with_number(
-    verb: usize,
+    verb: Verb,
     acceptor: bool,
     marks: u32,
     line: &[u8],
     from: usize,
     lent: &mut [u8],
-) -> Command
-    ensures { line_as result lent.new ≡ from_number verb acceptor marks (fields_from line.now from)
+) -> Option<Command>
+    ensures { line_as result lent.new ≡ from_number (number_of_verb verb) acceptor marks (fields_from line.now from)
         (length lent.old) }
 {
-    let kind = octet(&NUMBERS, verb);
-    let numeral = number_in(line, from, kind);
-    let Number::Is(number) = numeral else {
-        return bad();
-    };
-    let elements = Elements::none();
+    let kind = verb.form().number;
+    let number = number_in(line, from, kind)?;
     let command = Command {
         verb,
         acceptor,
@@ -248,93 +210,101 @@ fn with_number(
         number,
         id: [0u8; 16],
         test: false,
-        elements,
+        elements: Elements::none(),
         length: 0,
     };
-    with_id(command, line, past(line, from, kind != NONE), lent)
+    with_id(command, line, past(line, from, kind.is_some()), lent)
 }
 
-// A command of a verb at an end, by their places: 0 is none, and the acceptor is 2.
-fn call(verb: usize, end: usize, marks: u32, line: &[u8], from: usize, lent: &mut [u8]) -> Command
-    ensures { line_as result lent.new ≡ called verb end marks (fields_from line.now from) (length lent.old) }
+// The verb of a word alone. `choose` is none: the verb stands behind its MARKS.
+#[tactic(auto, using(crate::proofs::Lines::place_verbs))]
+fn named(word: &[u8]) -> Option<Verb>
+    ensures { verb_named result ≡ call_verb (place_of word.now verbs) }
 {
-    if end == 0 {
-        return bad();
+    if word == b"offer".as_slice() {
+        Some(Verb::Offer)
+    } else if word == b"reply".as_slice() {
+        Some(Verb::Reply)
+    } else if word == b"metadata".as_slice() {
+        Some(Verb::Metadata)
+    } else if word == b"exchange".as_slice() {
+        Some(Verb::Exchange)
+    } else if word == b"verify".as_slice() {
+        Some(Verb::Verify)
+    } else if word == b"alert".as_slice() {
+        Some(Verb::Alert)
+    } else if word == b"read".as_slice() {
+        Some(Verb::Read)
+    } else {
+        None
     }
-    if verb == 0 {
-        return bad();
-    }
-    with_number(verb, end == 2, marks, line, from, lent)
 }
 
 // The verb of a word behind which the fields from `from` on stand.
-fn verb(word: &[u8], line: &[u8], from: usize) -> usize
-    ensures { result ≡ verb_of (place_of word.now verbs) (fields_from line.now from) }
+#[tactic(auto, using(crate::proofs::Lines::verb_alone, crate::proofs::Lines::verb_more))]
+fn verb_of(word: &[u8], line: &[u8], from: usize) -> Option<Verb>
+    ensures { verb_named result ≡ call_verb (Grammar·verb_of (place_of word.now verbs) (fields_from line.now from)) }
 {
-    let named = place(
-        word,
-        b"offer reply metadata exchange verify alert read choose",
-    );
-    if from <= line.len() {
-        return named;
+    match named(word) {
+        Some(Verb::Read) if line.len() < from => Some(Verb::Turn),
+        verb => verb,
     }
-    if named == Command::READ {
-        return Command::TURN;
-    }
-    named
 }
 
-// The place of an end's letter: 1 for the initiator, 2 for the acceptor, 0 for any other word.
-fn end_place(word: &[u8]) -> usize
-    ensures { result ≡ place_of word.now ends }
+// Whether the end of a letter is the acceptor.
+#[tactic(auto, using(crate::proofs::Lines::place_ends))]
+fn is_acceptor(letter: &[u8]) -> Option<bool>
+    ensures { number_of_end result ≡ place_of letter.now ends }
 {
-    place(word, b"i a")
+    if letter == b"i".as_slice() {
+        Some(false)
+    } else if letter == b"a".as_slice() {
+        Some(true)
+    } else {
+        None
+    }
 }
 
 // The verb of a word behind `choose MARKS`.
-fn speech(word: &[u8]) -> usize
-    ensures { result ≡ speech_verb (place_of word.now speeches) }
+#[tactic(auto, using(crate::proofs::Lines::place_speeches))]
+fn speech(word: &[u8]) -> Option<Verb>
+    ensures { verb_named result ≡ speech_verb (place_of word.now speeches) }
 {
-    let named = place(word, b"exchange verify alert");
-    if named == 1 {
-        return Command::CHOOSE_EXCHANGE;
+    if word == b"exchange".as_slice() {
+        Some(Verb::ChooseExchange)
+    } else if word == b"verify".as_slice() {
+        Some(Verb::ChooseVerify)
+    } else if word == b"alert".as_slice() {
+        Some(Verb::ChooseAlert)
+    } else {
+        None
     }
-    if named == 2 {
-        return Command::CHOOSE_VERIFY;
-    }
-    if named == 3 {
-        return Command::CHOOSE_ALERT;
-    }
-    Command::BAD
 }
 
 // A command that chooses, at an end, from its MARKS on.
-fn choice(end: usize, line: &[u8], from: usize, lent: &mut [u8]) -> Command
-    ensures { line_as result lent.new ≡ chosen end (fields_from line.now from) (length lent.old) }
+fn choice(acceptor: bool, line: &[u8], from: usize, lent: &mut [u8]) -> Option<Command>
+    ensures { line_as result lent.new ≡ chosen (number_of_end (Some acceptor)) (fields_from line.now from) (length lent.old) }
 {
-    let numeral = number_in(line, from, MARKS);
-    let Number::Is(marks) = numeral else {
-        return bad();
-    };
+    let marks = number_in(line, from, Some(Kind::Marks))?;
     let at = behind(line, from);
-    let verb = speech(field_at(line, at));
-    call(verb, end, marks, line, behind(line, at), lent)
+    let verb = speech(field_at(line, at))?;
+    with_number(verb, acceptor, marks, line, behind(line, at), lent)
 }
 
 // The command of a line. Its octets are put at the front of the lent slice; what then stands behind them, or in the slice of a bad line, is left open.
-pub fn read_command(line: &[u8], lent: &mut [u8]) -> Command
+pub fn read_command(line: &[u8], lent: &mut [u8]) -> Option<Command>
     ensures { line_as result lent.new ≡ command_of line.now (length lent.old) }
 {
     let word = field_at(line, 0);
     let at = behind(line, 0);
     let next = field_at(line, at);
     let from = behind(line, at);
-    if is_word(word, b"open") {
-        return call(Command::OPEN, end_place(next), 0, line, from, lent);
+    if word == b"open".as_slice() {
+        return with_number(Verb::Open, is_acceptor(next)?, 0, line, from, lent);
     }
-    let verb = verb(next, line, from);
-    if verb == Command::CHOOSE {
-        return choice(end_place(word), line, from, lent);
+    let acceptor = is_acceptor(word)?;
+    if next == b"choose".as_slice() {
+        return choice(acceptor, line, from, lent);
     }
-    call(verb, end_place(word), 0, line, from, lent)
+    with_number(verb_of(next, line, from)?, acceptor, 0, line, from, lent)
 }

@@ -1,5 +1,5 @@
 // What the lines of a text have said so far. The octets of all fields stand one behind the other in one store, in the order of the lines.
-use envelope_script::{CHECKSUM, FLAGS, MECHANISM, TOKEN};
+use envelope_script::Field;
 use text::append;
 
 // What the first line says that the text is; nothing before it, and no more once a line has another form.
@@ -85,13 +85,13 @@ pub(crate) fn with_state(d: Draft, n: u32) -> Draft {
 }
 
 // The place of a field among those of an envelope, where it has one.
-fn place_of(kind: Kind, field: u8) -> Option<Place> {
+fn place_of(kind: Kind, field: Field) -> Option<Place> {
     match (kind, field) {
-        (Kind::Init, MECHANISM) => Some(Place::First),
-        (Kind::Init, FLAGS) => Some(Place::Second),
-        (Kind::Resp, MECHANISM) => Some(Place::Second),
-        (Kind::Init | Kind::Resp, TOKEN) => Some(Place::Token),
-        (Kind::Init | Kind::Resp, CHECKSUM) => Some(Place::Checksum),
+        (Kind::Init, Field::Mechanism) => Some(Place::First),
+        (Kind::Init, Field::Flags) => Some(Place::Second),
+        (Kind::Resp, Field::Mechanism) => Some(Place::Second),
+        (Kind::Init | Kind::Resp, Field::Token) => Some(Place::Token),
+        (Kind::Init | Kind::Resp, Field::Checksum) => Some(Place::Checksum),
         _ => None,
     }
 }
@@ -120,7 +120,7 @@ fn with_mechanism(d: Draft, n: usize, to: usize, sizes: &mut [usize]) -> Draft {
 // A field's octets, which are put into the store.
 pub(crate) fn with_octets(
     d: Draft,
-    field: u8,
+    field: Field,
     v: &[u8],
     store: &mut [u8],
     sizes: &mut [usize],

@@ -23,11 +23,13 @@ fn with_line(
         return draft;
     }
     match read_line(line, lent) {
-        Line::Bad => bad(draft),
-        Line::Init => started(draft, Kind::Init),
-        Line::Resp => started(draft, Kind::Resp),
-        Line::State(n) => with_state(draft, n),
-        Line::Octets(field, n) => with_octets(draft, field, part(lent, 0, n), store, sizes),
+        None => bad(draft),
+        Some(Line::Init) => started(draft, Kind::Init),
+        Some(Line::Resp) => started(draft, Kind::Resp),
+        Some(Line::State(n)) => with_state(draft, n),
+        Some(Line::Octets(field, n)) => {
+            with_octets(draft, field, part(lent, 0, n), store, sizes)
+        }
     }
 }
 

@@ -1,15 +1,21 @@
-use Rattle.replay_case.proofs.Cases.{case-read}
+use Rattle.replay_case.proofs.Cases.{no-initiator, no-acceptor, no-i, no-a, case-good}
 use Rattle.replay_case.proofs.read_case.Goals as goal
 
+pub returns-in_err-initiator : goal.returns-in_err-initiator
+returns-in_err-initiator c = rw c.from_residual-in_err-initiator.ensures (no-initiator _ _ _ _ _ _ _ c.in_ok-first.ensures c.in_err-initiator.ensures)
+
+pub returns-in_err-acceptor : goal.returns-in_err-acceptor
+returns-in_err-acceptor c =
+    rw c.from_residual-in_err-acceptor.ensures (no-acceptor _ _ _ _ _ _ _ c.in_ok-first.ensures _ c.in_ok-initiator.ensures c.in_err-acceptor.ensures)
+
+pub returns-in_err-i : goal.returns-in_err-i
+returns-in_err-i c =
+    rw c.from_residual-in_err-i.ensures (no-i _ _ _ _ _ _ _ c.in_ok-first.ensures _ c.in_ok-initiator.ensures _ c.in_ok-acceptor.ensures c.in_err-i.ensures)
+
+pub returns-in_err-a : goal.returns-in_err-a
+returns-in_err-a c =
+    rw c.from_residual-in_err-a.ensures
+    (no-a _ _ _ _ _ _ _ c.in_ok-first.ensures _ c.in_ok-initiator.ensures _ c.in_ok-acceptor.ensures _ _ _ c.in_ok-i.ensures c.in_err-a.ensures)
+
 pub returns : goal.returns
-returns c =
-    case-read _ _ _ _
-    c.four_lines-lines.ensures
-    _ c.part.ensures
-    c.read_given-igiven.result
-    _ c.read_given-igiven.ensures
-    _ c.part-2.ensures
-    c.read_given-agiven.result
-    _ c.read_given-agiven.ensures
-    _ _ c.both.ensures
-    c.both-2.ensures
+returns c = case-good _ _ _ _ _ _ _ c.in_ok-first.ensures _ c.in_ok-initiator.ensures _ c.in_ok-acceptor.ensures _ _ _ c.in_ok-i.ensures _ _ _ c.in_ok-a.ensures

@@ -1,8 +1,9 @@
+use borrow.Author.Rules.{rules}
 use Rattle.script.proofs.Lines.{from-numbers}
 use Rattle.script.proofs.with_number.Goals as goal
 
-pub returns-in_default : goal.returns-in_default
-returns-in_default c = search from-numbers
+pub returns-in_err-number : goal.returns-in_err-number
+returns-in_err-number c = rw c.from_residual.ensures (search (rules, from-numbers))
 
 pub returns : goal.returns
-returns c = search from-numbers
+returns c = search (rules, from-numbers)

@@ -1,11 +1,11 @@
+use borrow.Author.Rules.{rules}
+use Rattle.script.specs.Grammar.{from_random}
 use Rattle.script.proofs.Items.{randoms}
 use Rattle.script.proofs.with_random.Goals as goal
 
-pub returns-in_default : goal.returns-in_default
-returns-in_default c = search randoms
-
-pub with_items-requires : goal.with_items-requires
-with_items-requires c = search randoms
+pub returns-in_err-n : goal.returns-in_err-n
+returns-in_err-n c = rw c.from_residual.ensures (search (rules, randoms))
 
 pub returns : goal.returns
-returns c = search randoms
+unfolding from_random
+returns c = search (rules, randoms)

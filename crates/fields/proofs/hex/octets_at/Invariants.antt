@@ -1,13 +1,10 @@
-use Prim.Native.Nat.{◌-◌}
 use mathlib.Core.Path.{◌≡◌}
 use lib.ListN.{length, take, drop}
 use Rattle.fields.specs.Fields.{behind_all, octets_at}
 use Rattle.fields.proofs.hex.octets_at.Given as goal
 
 abbrev pub invariant-loop-i : goal.invariant-loop-i
-invariant-loop-i l =
-    (length l.places ≡ 16) × (length l.octets ≡ 16)
-    × (octets_at l.s l.places ≡ behind_all (take l.i l.octets) (octets_at l.s (drop l.i l.places)))
-
-abbrev pub decreases-loop-i : goal.decreases-loop-i
-decreases-loop-i l = 16 - l.i
+invariant-loop-i l = record {
+  room : length l.octets ≡ 16;
+  told : octets_at l.s l.places ≡ behind_all (take l.i l.octets) (octets_at l.s (drop l.i l.places));
+}

@@ -1,11 +1,13 @@
-use Prim.Native.Nat.{◌-◌, ◌≤◌}
+use Prim.Native.Nat.{◌≤◌}
 use mathlib.Core.Path.{◌≡◌}
-use lib.ListN.{length, drop}
-use Rattle.fields.specs.Fields.{numeral_from}
+use lib.ListN.{drop}
+use Rattle.fields.specs.Fields.{base_of, numeral_from}
 use Rattle.fields.proofs.number.numeral.Given as goal
 
-abbrev pub invariant-loop-i : goal.invariant-loop-i
-invariant-loop-i l = (l.number ≤ l.most) × (numeral_from l.base l.most 0 l.s ≡ numeral_from l.base l.most l.number (drop l.i l.s))
-
-abbrev pub decreases-loop-i : goal.decreases-loop-i
-decreases-loop-i l = length l.s - l.i
+abbrev pub invariant-loop-c : goal.invariant-loop-c
+invariant-loop-c l = record {
+  most : l.number ≤ l.most;
+  small : l.base ≤ 16;
+  base : l.base ≡ base_of l.fn.base;
+  told : numeral_from (base_of l.fn.base) l.most 0 l.s ≡ numeral_from l.base l.most l.number (drop l.c-index l.s);
+}

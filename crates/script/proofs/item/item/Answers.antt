@@ -1,14 +1,15 @@
+use borrow.Author.Rules.{rules}
 use Rattle.script.proofs.Items.{item-texts}
 use Rattle.script.proofs.item.item.Goals as goal
 
 pub returns-then-octet-ne58 : goal.returns-then-octet-ne58
 returns-then-octet-ne58 c = search item-texts
 
-pub returns-in_default : goal.returns-in_default
-returns-in_default c = search item-texts
+pub returns-in_err-kind : goal.returns-in_err-kind
+returns-in_err-kind c = rw c.from_residual.ensures (search (rules, item-texts))
 
-pub returns-in_default-value : goal.returns-in_default-value
-returns-in_default-value c = search item-texts
+pub returns-in_err-size : goal.returns-in_err-size
+returns-in_err-size c = rw c.from_residual-in_err-size.ensures (search (rules, item-texts))
 
 pub returns : goal.returns
-returns c = search item-texts
+returns c = search (rules, item-texts)

@@ -1,9 +1,0 @@
-use borrow.Author.Rules.{rules}
-use mathlib.Core.Path.{refl}
-use Rattle.playing.proofs.play.play_lines.Goals as goal
-
-pub loop-from-init : goal.loop-from-init
-loop-from-init c = (refl, refl)
-
-pub loop-from-preserved : goal.loop-from-preserved
-loop-from-preserved c = (search rules, search rules)
