@@ -20,9 +20,6 @@ use Rattle.entries.specs.declared.Entry.{Entry}
 use Rattle.entries.specs.Entries.{entry_octets}
 use Rattle.entries.proofs.Walked.{octets-length}
 use Rattle.envelope_token.specs.declared.Carried.{Carried}
-use Rattle.std.specs.Prelude.{Result, Ok, Err}
-use Rattle.refusal.specs.declared.Refusal.{Refusal}
-use Rattle.refusal.specs.Refusals.{number_of}
 use Rattle.envelope_token.specs.Tokens.{Span, carried_of, said}
 use Rattle.faults.specs.Faults.{fault_of}
 use Rattle.replies.specs.Replies.{Reply, given, refused, and_then, reading_reply, messages_reply, fits, answer_of, lent, written_in}
@@ -36,7 +33,8 @@ module _ (e : Entry) (d : List ℕ) where
       let few : length d < length (entry_octets (e ∷ [])) = omega (arith, octets-length (e ∷ [])) in
       sym (simp (lt-leb _ _ few))
 
-  pub entry-written : 24 ≤ length d → (d' : List ℕ) (r : ℕ) → Written d 0 24 (entry_octets (e ∷ [])) d' r → lent (pos r) d' ≡ written_in d (fits (length d) (entry_octets (e ∷ [])))
+  pub entry-written : 24 ≤ length d → (d' : List ℕ) (r : ℕ) → Written d 0 24 (entry_octets (e ∷ [])) d' r
+      → lent (pos r) d' ≡ written_in d (fits (length d) (entry_octets (e ∷ [])))
   entry-written h d' r w =
       let room : length (entry_octets (e ∷ [])) ≤ length d = omega (arith, octets-length (e ∷ [])) in
       let r-is : r ≡ length (entry_octets (e ∷ [])) = omega (arith, w.after, w.size) in
