@@ -5,14 +5,12 @@ use mathlib.Core.Path.{◌≡◌, sym, ap, subst, ◌∙◌}
 use mathlib.Core.List.{List, [], ◌∷◌, ◌++◌}
 use native.Mathlib.Omega.{arith}
 use lib.ListN.{length, length-append}
-use lib.IntN.{ℤ, pos}
-use mir.Syntax.{w64}
-use mir.Val.{SFits, to_z, of_z}
+use lib.IntN.{pos}
 use Rattle.message.specs.Show.{first_of}
 use Rattle.token.specs.Token.{Placed, Reading, token_of}
 use Rattle.token.specs.Walk.{messages_of, Accepts}
 use Rattle.token.proofs.Cuts.{behind}
-use Rattle.token.proofs.Walks.{Left, turn, turn-fits, turn-less, accepted-short, Walk, walk-begun, walk-ended, walk-passed}
+use Rattle.token.proofs.Walks.{Left, turn, accepted-short, Walk, walk-begun, walk-ended, walk-passed}
 use Rattle.lines.specs.Lines.{message_lines, end_line}
 use Rattle.lines.specs.Fit.{Fit, shape_in, lines_in}
 use Rattle.windows.specs.Windows.{texts}
@@ -22,7 +20,6 @@ use Rattle.listing.proofs.Turns.{message-fit}
 use Rattle.listing.proofs.Bounds.{few-lines}
 use Rattle.replies.specs.Replies.{given, and_then, reading_reply, answer_of}
 use Rattle.host.specs.Host.{lines_answer}
-use Rattle.replies.proofs.Answers.{same}
 
 -- the last line stands behind those of the messages
 module _ (s : List ℕ) (a : Accepts s) where
@@ -43,10 +40,9 @@ module _ (s : List ℕ) (a : Accepts s) where
     pub lines-small : n + 1 < 2 ^ 63
     lines-small = omega (arith, lines-few)
 
-    pub lines-given : (z : ℤ) → SFits w64 z → z ≡ pos (n + 1) → to_z w64 (of_z w64 z) ≡ lines_answer s
-    lines-given z f e =
-        same z f (pos (n + 1)) e
-        ∙ ap pos (ap (λ (x : ℕ). x + 1) n-is ∙ sym lines-number)
+    pub lines-given : pos (n + 1) ≡ lines_answer s
+    lines-given =
+        ap pos (ap (λ (x : ℕ). x + 1) n-is ∙ sym lines-number)
         ∙ sym (ap (λ (r : Reading). answer_of (and_then (reading_reply r) (λ ms. given (length (lines_of s))))) a)
 
 -- what is left of a token, and the lines counted so far
@@ -96,4 +92,4 @@ module _ (total : ℕ) (rest : List ℕ) (n : ℕ) (on : Counted total rest n) w
 
 pub ruleset totals = (lines-room, lines-small, lines-given)
 
-pub ruleset counting = (count-begin, count-end, count_left, turn-fits, turn-less, count-fit, count_small, count-on)
+pub ruleset counting = (count-begin, count-end, count_left, count-fit, count_small, count-on)

@@ -9,9 +9,7 @@ use native.Mathlib.Omega.{arith}
 use lib.ListN.{length, drop, get_or, length-take}
 use lib.Seq.{get_or-take, get_or-drop}
 use lib.Dec.{leb, ltb}
-use lib.IntN.{ℤ, pos, neg_ℤ}
-use mir.Syntax.{w64}
-use mir.Val.{SFits, to_z, of_z}
+use lib.IntN.{pos, neg_ℤ}
 use borrow.Author.Tests.{leb-true, leb-false, le-leb, lt-leb, lt-ltb, le-ltb}
 use Rattle.octets.proofs.Bools.{which}
 use Rattle.token.specs.Token.{Reading, token_of}
@@ -24,7 +22,6 @@ use Rattle.windows.proofs.Covers.{gets-on, window-octets}
 use Rattle.listing.specs.Listing.{all_lines, lines_of}
 use Rattle.replies.specs.Replies.{Reply, given, refused, and_then, reading_reply, fits, lent, written_in}
 use Rattle.host.specs.Host.{window_text, window_answer}
-use Rattle.replies.proofs.Answers.{same}
 use Rattle.replies.proofs.Messages.{item-given, item_refused}
 use Rattle.host.proofs.Counting.{lines-number}
 
@@ -87,13 +84,12 @@ module _ (s : List ℕ) (a : Accepts s) (n : ℕ) (n-is : n ≡ length (all_line
   answer-is : written_in d (window_text (lines_of s) first end (length d)) ≡ window_answer s first end d
   answer-is = sym (ap (λ (r : Reading). written_in d (and_then (reading_reply r) (λ ms. window_text (lines_of s) first end (length d)))) a)
 
-  pub window-beyond : n < first → (z : ℤ) → SFits w64 z → z ≡ neg_ℤ (pos 19) → lent (to_z w64 (of_z w64 z)) d ≡ window_answer s first end d
-  window-beyond h z f e =
-      ap (λ (x : ℤ). lent x d) (same z f (neg_ℤ (pos 19)) e)
-      ∙ sym (ap (written_in d) (text-beyond (lines_of s) first end d (omega (arith, lines-number s a))))
+  pub window-beyond : n < first → lent (neg_ℤ (pos 19)) d ≡ window_answer s first end d
+  window-beyond h =
+      sym (ap (written_in d) (text-beyond (lines_of s) first end d (omega (arith, lines-number s a))))
       ∙ answer-is
 
-  module _ (inside : first ≤ n) (w : Shown) (d' : List ℕ) (w-is : as_window w d' ≡ window_of (lines_of s) first end d) (z : ℤ) (f : SFits w64 z) where
+  module _ (inside : first ≤ n) (w : Shown) (d' : List ℕ) (w-is : as_window w d' ≡ window_of (lines_of s) first end d) where
     held : first < length (lines_of s)
     held = omega (arith, lines-number s a)
 
@@ -109,10 +105,9 @@ module _ (s : List ℕ) (a : Accepts s) (n : ℕ) (n-is : n ≡ length (all_line
     unfolding window_of shown_by
     buffer-is = ap (λ (x : Window). x.buffer) w-is
 
-    pub window-some : (w.lines ≡ 0 → ⊥) → z ≡ pos w.octets → lent (to_z w64 (of_z w64 z)) d' ≡ window_answer s first end d
-    window-some h e =
-        ap (λ (x : ℤ). lent x d') (same z f (pos w.octets) e)
-        ∙ ap (λ (x : ℕ). lent (pos x) d') octets-are
+    pub window-some : (w.lines ≡ 0 → ⊥) → lent (pos w.octets) d' ≡ window_answer s first end d
+    window-some h =
+        ap (λ (x : ℕ). lent (pos x) d') octets-are
         ∙ ap (lent (pos (length (joined (shown_by (lines_of s) first end d))))) buffer-is
         ∙ sym (ap (written_in d) (text-some (lines_of s) first end d held (omega (arith, lines_are))))
         ∙ answer-is
@@ -124,17 +119,15 @@ module _ (s : List ℕ) (a : Accepts s) (n : ℕ) (n-is : n ≡ length (all_line
         go [] h e = e ∙ put-none d 0
         go (l ∷ ls) h e = absurd (omega arith)
 
-      pub window-full : first < end → z ≡ neg_ℤ (pos 16) → lent (to_z w64 (of_z w64 z)) d' ≡ window_answer s first end d
-      window-full h e =
-          ap (λ (x : ℤ). lent x d') (same z f (neg_ℤ (pos 16)) e)
-          ∙ ap (lent (neg_ℤ (pos 16))) unchanged
+      pub window-full : first < end → lent (neg_ℤ (pos 16)) d' ≡ window_answer s first end d
+      window-full h =
+          ap (lent (neg_ℤ (pos 16))) unchanged
           ∙ sym (ap (written_in d) (text-full (lines_of s) first end d held h (sym lines_are ∙ none)))
           ∙ answer-is
 
-      pub window-none : end ≤ first → z ≡ pos 0 → lent (to_z w64 (of_z w64 z)) d' ≡ window_answer s first end d
-      window-none h e =
-          ap (λ (x : ℤ). lent x d') (same z f (pos 0) e)
-          ∙ ap (lent (pos 0)) (unchanged ∙ sym (put-none d 0))
+      pub window-none : end ≤ first → lent (pos 0) d' ≡ window_answer s first end d
+      window-none h =
+          ap (lent (pos 0)) (unchanged ∙ sym (put-none d 0))
           ∙ sym (ap (written_in d) (text-none (lines_of s) first end d held h))
           ∙ answer-is
 

@@ -1,7 +1,7 @@
 -- Answers as signed numbers, and the two outcomes of the structural reading. In the words of the code.
 -- Assumes nothing.
 use Prim.Native.Nat.{ℕ, zero, suc, ◌-◌, ◌<◌, ◌^◌}
-use mathlib.Core.Path.{◌≡◌, refl, sym, ap, ◌∙◌}
+use mathlib.Core.Path.{◌≡◌, refl, sym, ap, subst, ◌∙◌}
 use mathlib.Core.Logic.{inl, inr}
 use mathlib.Core.List.{List}
 use native.Mathlib.Omega.{arith}
@@ -11,12 +11,15 @@ use lib.IntN.{ℤ, pos, neg_ℤ, ◌-ℤ◌}
 use mir.Syntax.{w64}
 use mir.Val.{SFits, to_z, of_z}
 use mir.Facts.{to_z_pos, to_z-of_z}
-use Rattle.vector.specs.declared.TokenPlace.{TokenPlace}
-use Rattle.token.specs.declared.Answer.{Answer}
-use Rattle.token.specs.declared.Answer.TheVariants as answer
-use Rattle.token.specs.Token.{Placed, Reading, token_of, outcome_of, told}
+use Rattle.std.proofs.Common.{Result, Ok, Err, MatchResult}
+use Rattle.std.specs.Prelude.{IsErrAnd}
+use Rattle.std.proofs.lemmas.Result.{err_from_is_err_and}
+use Rattle.refusal.specs.declared.Refusal.{Refusal}
+use Rattle.refusal.specs.Refusals.{number_of}
+use Rattle.token.specs.declared.Refused.{Refused}
+use Rattle.token.specs.Token.{Placed, Reading, token_of, outcome_of, told as Token·told}
 use Rattle.token.specs.Split.{join}
-use Rattle.token.specs.Walk.{messages_of}
+use Rattle.token.specs.Walk.{messages_of, Accepts}
 use Rattle.token.proofs.Splits.{refused-stops}
 use Rattle.token.proofs.Walks.{answer-accepts, answer-number, answer-refuses}
 use Rattle.replies.specs.Replies.{Reply, given, refused, and_then, reading_reply, messages_reply, answer_of, lent, written_in, messages_answer, fault_place, place_answer}
@@ -42,37 +45,19 @@ module _ (z : ℤ) (f : SFits w64 z) where
   same y e = to_z-of_z f ∙ e
 
 -- ---- the two outcomes of the structural reading
-module _ (s : List ℕ) (r : Answer) (r-is : told r ≡ outcome_of (token_of s)) where
-  module _ (n : ℕ) (here : r ≡ answer.Messages n) where
-    pub reply-given : messages_reply s ≡ given (messages_of (token_of s))
-    reply-given = ap reading_reply (answer-accepts s r r-is n here)
+module _ (s : List ℕ) (r : Result ℕ Refused) (r-is : Token·told r ≡ outcome_of (token_of s)) where
+  pub reply-refused : (f : Refused) → r ≡ Err f → messages_reply s ≡ refused (number_of f.refusal)
+  reply-refused f here = ap reading_reply (answer-refuses s r r-is f here)
 
-    pub messages-number : (z : ℤ) → SFits w64 z → z ≡ pos n → to_z w64 (of_z w64 z) ≡ messages_answer s
-    messages-number z f e =
-        same z f (pos n) e ∙ ap pos (sym (answer-number s r r-is n here))
-        ∙ sym (ap (λ (x : Reply (List Placed)). answer_of (and_then x (λ ms. given (length ms)))) reply-given)
+  pub place_none : (n : ℕ) → r ≡ Ok n → pos 0 ≡ place_answer s
+  place_none n here = sym (ap (λ (x : Reading). pos (fault_place x)) (answer-accepts s r r-is n here))
 
-    pub place_none : (z : ℤ) → SFits w64 z → z ≡ pos 0 → to_z w64 (of_z w64 z) ≡ place_answer s
-    place_none z f e = same z f (pos 0) e ∙ sym (ap (λ (x : Reading). pos (fault_place x)) (answer-accepts s r r-is n here))
+  module _ (f : Refused) (here : r ≡ Err f) where
+    pub place-fault : pos f.place.0 ≡ place_answer s
+    place-fault = sym (ap (λ (x : Reading). pos (fault_place x)) (answer-refuses s r r-is f here))
 
-  module _ (n : ℕ) (place : TokenPlace) (here : r ≡ answer.Refused n place) where
-    pub reply-refused : messages_reply s ≡ refused n
-    reply-refused = ap reading_reply (answer-refuses s r r-is n place here)
-
-    pub any-refused : (f : List Placed → Reply ℕ) (z : ℤ) → SFits w64 z → z ≡ neg_ℤ (pos n)
-        → to_z w64 (of_z w64 z) ≡ answer_of (and_then (messages_reply s) f)
-    any-refused f z g e = same z g (neg_ℤ (pos n)) e ∙ sym (ap (λ (x : Reply (List Placed)). answer_of (and_then x f)) reply-refused)
-
-    pub lent-refused : (f : List Placed → Reply (List ℕ)) (d : List ℕ) (z : ℤ) → SFits w64 z → z ≡ neg_ℤ (pos n)
-        → lent (to_z w64 (of_z w64 z)) d ≡ written_in d (and_then (messages_reply s) f)
-    lent-refused f d z g e =
-        ap (λ (x : ℤ). lent x d) (same z g (neg_ℤ (pos n)) e) ∙ sym (ap (λ (x : Reply (List Placed)). written_in d (and_then x f)) reply-refused)
-
-    pub place-fault : (z : ℤ) → SFits w64 z → z ≡ pos place.0 → to_z w64 (of_z w64 z) ≡ place_answer s
-    place-fault z f e = same z f (pos place.0) e ∙ sym (ap (λ (x : Reading). pos (fault_place x)) (answer-refuses s r r-is n place here))
-
-    pub fault-small : place.0 < 2 ^ 63
-    fault-small = elim (refused-stops s n place.0 (answer-refuses s r r-is n place here)) [
+    pub fault-small : f.place.0 < 2 ^ 63
+    fault-small = elim (refused-stops s (number_of f.refusal) f.place.0 (answer-refuses s r r-is f here)) [
       | inl h ↦ omega (arith, h)
       | inr h ↦ elim h [
         | inl g ↦ omega (arith, g)
@@ -80,4 +65,29 @@ module _ (s : List ℕ) (r : Answer) (r-is : told r ≡ outcome_of (token_of s))
       ]
     ]
 
-pub ruleset answers = (answer-accepts, messages-number, place_none, any-refused, lent-refused, place-fault, fault-small)
+pub ruleset answers = (place_none, place-fault, fault-small)
+
+-- ---- what is accepted, and what refuses
+abbrev pub Taken : List ℕ → Result ℕ Refusal → Type 0
+Taken s r =
+    MatchResult r (λ n. Accepts s × (n ≡ length (messages_of (token_of s)))) (λ e. messages_reply s ≡ refused (number_of e))
+
+pub takes : (s : List ℕ) (r : Result ℕ Refused) (q : Result ℕ Refusal) (P : Refused → Refusal → Type 0)
+    → ((f : Refused) (e : Refusal) → P f e → e ≡ f.refusal) → Token·told r ≡ outcome_of (token_of s)
+    → MatchResult r (λ n. q ≡ Ok n) (λ f. IsErrAnd q (P f)) → Taken s q
+takes s (Ok n) q P is e h = subst (Taken s) (sym h) (answer-accepts s (Ok n) e n refl, sym (answer-number s (Ok n) e n refl))
+takes s (Err f) q P is e h =
+    let w = err_from_is_err_and q h in
+    subst (Taken s) (sym w.1) (reply-refused s (Err f) e f refl ∙ ap (λ (x : Refusal). refused (number_of x)) (sym (is f w.0 w.2)))
+
+module _ (s : List ℕ) (n : ℕ) (a : Accepts s) (n-is : n ≡ length (messages_of (token_of s))) where
+  pub messages-number : pos n ≡ messages_answer s
+  messages-number =
+      ap pos n-is ∙ sym (ap (λ (x : Reading). answer_of (and_then (reading_reply x) (λ ms. given (length ms)))) a)
+
+module _ (s : List ℕ) (n : ℕ) (e : messages_reply s ≡ refused n) where
+  pub any-refused : (f : List Placed → Reply ℕ) → neg_ℤ (pos n) ≡ answer_of (and_then (messages_reply s) f)
+  any-refused f = sym (ap (λ (x : Reply (List Placed)). answer_of (and_then x f)) e)
+
+  pub lent-refused : (f : List Placed → Reply (List ℕ)) (d : List ℕ) → lent (neg_ℤ (pos n)) d ≡ written_in d (and_then (messages_reply s) f)
+  lent-refused f d = sym (ap (λ (x : Reply (List Placed)). written_in d (and_then x f)) e)

@@ -7,24 +7,18 @@ use mathlib.Core.List.{List, [], ◌∷◌}
 use native.Mathlib.Omega.{arith}
 use lib.ListN.{length, take, drop, get_or, length-append, length-take, length-drop, get_or-eq_default}
 use lib.Dec.{leb}
-use lib.IntN.{ℤ, pos, neg_ℤ}
-use mir.Syntax.{w64}
-use mir.Val.{SFits, to_z, of_z}
+use lib.IntN.{pos, neg_ℤ}
 use borrow.Author.Tests.{leb-true, leb-false, le-leb, lt-leb}
 use Rattle.octets.proofs.Bools.{which}
-use Rattle.vector.specs.declared.TokenPlace.{TokenPlace}
 use Rattle.message.specs.Layout.{head_of}
-use Rattle.token.specs.declared.Answer.{Answer}
-use Rattle.token.specs.declared.Answer.TheVariants as answer
-use Rattle.token.specs.Token.{Placed, Reading, Accepted, Refused, token_of, outcome_of, told}
+use Rattle.token.specs.Token.{Placed, Reading, Accepted, Refused, token_of}
 use Rattle.token.specs.Split.{Message, Numbered, join, placed_from}
-use Rattle.token.specs.Walk.{messages_of, message_at}
+use Rattle.token.specs.Walk.{messages_of, message_at, Accepts}
 use Rattle.token.proofs.Splits.{message-length}
-use Rattle.token.proofs.Walks.{whole, accepted-short, answer-accepts, answer-refuses}
+use Rattle.token.proofs.Walks.{whole, accepted-short}
 use Rattle.put.specs.Put.{put, Written}
 use Rattle.table.specs.Table.{placed_at, fields_in}
-use Rattle.replies.specs.Replies.{Reply, given, refused, and_then, reading_reply, item_at, fits, message_in, lack_of, answer_of, lent, written_in, field_answer, conversation_answer}
-use Rattle.replies.proofs.Answers.{same}
+use Rattle.replies.specs.Replies.{Reply, given, refused, and_then, reading_reply, messages_reply, item_at, fits, message_in, answer_of, lent, written_in, field_answer, conversation_answer}
 
 -- ---- item k of a list
 pub item-given : {A : Type 0} (xs : List A) (k : ℕ) (d : A) → k < length xs → item_at xs k ≡ given (get_or xs k d)
@@ -93,15 +87,17 @@ message-early s k p e = elim (inside-or-not k (length (messages_of (token_of s))
   | inr h ↦ omega (arith, ap (λ (m : Placed). m.place) (none s k h))
 ]
 
--- `lack` answers the number that refuses what is not there
-module _ (s : List ℕ) (r : Answer) (r-is : told r ≡ outcome_of (token_of s)) where
-  pub lacks-index : (n : ℕ) → r ≡ answer.Messages n → 19 ≡ lack_of (token_of s)
-  lacks-index n here = sym (ap lack_of (answer-accepts s r r-is n here))
+-- a token that is refused has no message
+pub none-refused : (s : List ℕ) (k n : ℕ) → messages_reply s ≡ refused n → message_in s k ≡ refused n
+unfolding message_in
+none-refused s k n e = ap (λ (r : Reply (List Placed)). and_then r (λ ms. item_at ms k)) e
 
-  pub lacks-all : (n : ℕ) (place : TokenPlace) → r ≡ answer.Refused n place → n ≡ lack_of (token_of s)
-  lacks-all n place here = sym (ap lack_of (answer-refuses s r r-is n place here))
+module _ (s : List ℕ) (k n : ℕ) (e : message_in s k ≡ refused n) where
+  pub message-lacks : (g : Placed → Reply ℕ) → neg_ℤ (pos n) ≡ answer_of (and_then (message_in s k) g)
+  message-lacks g = sym (ap (λ (x : Reply Placed). answer_of (and_then x g)) e)
 
-pub ruleset lacks = (lacks-index, lacks-all)
+  pub lacks-lent : (d : List ℕ) (g : Placed → Reply (List ℕ)) → lent (neg_ℤ (pos n)) d ≡ written_in d (and_then (message_in s k) g)
+  lacks-lent d g = sym (ap (λ (x : Reply Placed). written_in d (and_then x g)) e)
 
 -- m is what `message_at` answers
 module _ (s : List ℕ) (k : ℕ) (m : List ℕ) (m-is : m ≡ (message_at s k).octets) where
@@ -113,22 +109,9 @@ module _ (s : List ℕ) (k : ℕ) (m : List ℕ) (m-is : m ≡ (message_at s k).
       | inr h ↦ h
     ]
 
-    pub no-message : message_in s k ≡ refused (lack_of (token_of s))
+    pub none-beyond : Accepts s → message_in s k ≡ refused 19
     unfolding message_in
-    no-message = go (token_of s) outside where
-      go : (r : Reading) → length (messages_of r) ≤ k → and_then (reading_reply r) (λ ms. item_at ms k) ≡ refused (lack_of r)
-      go (Accepted ms) h = item_refused ms k h
-      go (Refused n p) h = refl
-
-    module _ (n : ℕ) (n-is : n ≡ lack_of (token_of s)) (z : ℤ) (f : SFits w64 z) (z-is : z ≡ neg_ℤ (pos n)) where
-      lack-is : to_z w64 (of_z w64 z) ≡ neg_ℤ (pos (lack_of (token_of s)))
-      lack-is = same z f (neg_ℤ (pos n)) z-is ∙ ap (λ (x : ℕ). neg_ℤ (pos x)) n-is
-
-      pub message-lacks : (g : Placed → Reply ℕ) → to_z w64 (of_z w64 z) ≡ answer_of (and_then (message_in s k) g)
-      message-lacks g = lack-is ∙ sym (ap (λ (x : Reply Placed). answer_of (and_then x g)) no-message)
-
-      pub lacks-lent : (d : List ℕ) (g : Placed → Reply (List ℕ)) → lent (to_z w64 (of_z w64 z)) d ≡ written_in d (and_then (message_in s k) g)
-      lacks-lent d g = ap (λ (x : ℤ). lent x d) lack-is ∙ sym (ap (λ (x : Reply Placed). written_in d (and_then x g)) no-message)
+    none-beyond a = ap (λ (r : Reading). and_then (reading_reply r) (λ ms. item_at ms k)) a ∙ item_refused (messages_of (token_of s)) k outside
 
   module _ (some : length m ≡ 0 → ⊥) where
     inside : k < length (messages_of (token_of s))
@@ -153,18 +136,16 @@ module _ (s : List ℕ) (k : ℕ) (m : List ℕ) (m-is : m ≡ (message_at s k).
       message-is : placed_at p m ≡ message_at s k
       message-is = rw (p-is, m-is)
 
-      module _ (xs : List ℕ) (xs-is : xs ≡ fields_in (placed_at p m)) (i : ℕ) (z : ℤ) (f : SFits w64 z) where
-        pub field-given : i < 5 → z ≡ pos (get_or xs i 0) → to_z w64 (of_z w64 z) ≡ field_answer s k i
-        field-given h e =
-            same z f (pos (get_or xs i 0)) e
-            ∙ ap (λ (l : List ℕ). pos (get_or l i 0)) (xs-is ∙ ap fields_in message-is)
+      module _ (xs : List ℕ) (xs-is : xs ≡ fields_in (placed_at p m)) (i : ℕ) where
+        pub field-given : i < 5 → pos (get_or xs i 0) ≡ field_answer s k i
+        field-given h =
+            ap (λ (l : List ℕ). pos (get_or l i 0)) (xs-is ∙ ap fields_in message-is)
             ∙ sym (ap (λ (x : Reply Placed). answer_of (and_then x (λ m. item_at (fields_in m) i))) message-given
             ∙ ap answer_of (item-given (fields_in (message_at s k)) i 0 h))
 
-        pub field-beyond : 5 ≤ i → z ≡ neg_ℤ (pos 19) → to_z w64 (of_z w64 z) ≡ field_answer s k i
-        field-beyond h e =
-            same z f (neg_ℤ (pos 19)) e
-            ∙ sym (ap (λ (x : Reply Placed). answer_of (and_then x (λ m. item_at (fields_in m) i))) message-given
+        pub field-beyond : 5 ≤ i → neg_ℤ (pos 19) ≡ field_answer s k i
+        field-beyond h =
+            sym (ap (λ (x : Reply Placed). answer_of (and_then x (λ m. item_at (fields_in m) i))) message-given
             ∙ ap answer_of (item_refused (fields_in (message_at s k)) i h))
 
     -- the conversation, where it fits
@@ -172,24 +153,32 @@ module _ (s : List ℕ) (k : ℕ) (m : List ℕ) (m-is : m ≡ (message_at s k).
     unfolding head_of
     id-long = let e : length m ≡ length (message_at s k).octets = ap length m-is in simp (length-take, length-drop) (omega (arith, message-long))
 
-    module _ (d : List ℕ) (z : ℤ) (f : SFits w64 z) where
-      pub conversation-full : length d < 16 → z ≡ neg_ℤ (pos 16) → lent (to_z w64 (of_z w64 z)) d ≡ conversation_answer s k d
-      conversation-full h e =
-          ap (λ (x : ℤ). lent x d) (same z f (neg_ℤ (pos 16)) e)
-          ∙ sym (ap (λ (x : Reply Placed). written_in d (and_then x (λ m. fits (length d) (head_of m.octets).conversation))) message-given
+    module _ (d : List ℕ) where
+      pub conversation-full : length d < 16 → lent (neg_ℤ (pos 16)) d ≡ conversation_answer s k d
+      conversation-full h =
+          sym (ap (λ (x : Reply Placed). written_in d (and_then x (λ m. fits (length d) (head_of m.octets).conversation))) message-given
           ∙ (let g : length d < length (head_of (message_at s k).octets).conversation = omega (arith, id-long) in simp (lt-leb _ _ g)))
 
-      pub conversation-put : 16 ≤ length d → (d' v : List ℕ) (n : ℕ) → v ≡ take 16 (drop 24 m) → Written d 0 (length v) v d' n → z ≡ pos n
-          → lent (to_z w64 (of_z w64 z)) d' ≡ conversation_answer s k d
-      conversation-put h d' v n v-is w e =
-          let c = (head_of (message_at s k).octets).conversation in
-          let is : v ≡ c = v-is ∙ ap (λ (l : List ℕ). take 16 (drop 24 l)) m-is ∙ (unfold head_of in refl) in
-          let g : length c ≤ length d = omega (arith, id-long) in
-          let after : n ≡ length v = omega (arith, w.after) in
-          ap (λ (x : ℤ). lent x d') (same z f (pos n) e)
-          ∙ ap (λ (x : ℕ). lent (pos x) d') (after ∙ ap length is)
-          ∙ ap (lent (pos (length c))) (w.holds ∙ ap (put d 0) is)
-          ∙ sym (ap (λ (x : Reply Placed). written_in d (and_then x (λ m. fits (length d) (head_of m.octets).conversation))) message-given
-          ∙ simp (le-leb _ _ g))
+      module _ (h : 16 ≤ length d) (d' v : List ℕ) (n : ℕ) (v-is : v ≡ take 16 (drop 24 m)) (w : Written d 0 (length v) v d' n) where
+        abbrev c : List ℕ
+        c = (head_of (message_at s k).octets).conversation
 
-pub ruleset messages = (conversation-full, conversation-put, message-lacks, lacks-lent, message-long, message-early, field-given, field-beyond)
+        is : v ≡ c
+        is = v-is ∙ ap (λ (l : List ℕ). take 16 (drop 24 l)) m-is ∙ (unfold head_of in refl)
+
+        after : n ≡ length v
+        after = omega (arith, w.after)
+
+        pub conversation-short : n < 2 ^ 63
+        conversation-short = omega (arith, after, ap length is, id-long)
+
+        pub conversation-put : lent (pos n) d' ≡ conversation_answer s k d
+        conversation-put =
+            let g : length c ≤ length d = omega (arith, id-long) in
+            ap (λ (x : ℕ). lent (pos x) d') (after ∙ ap length is)
+            ∙ ap (lent (pos (length c))) (w.holds ∙ ap (put d 0) is)
+            ∙ sym (ap (λ (x : Reply Placed). written_in d (and_then x (λ m. fits (length d) (head_of m.octets).conversation))) message-given
+            ∙ simp (le-leb _ _ g))
+
+pub ruleset messages =
+    (conversation-full, conversation-short, conversation-put, message-lacks, lacks-lent, message-long, message-early, field-given, field-beyond)

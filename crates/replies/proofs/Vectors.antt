@@ -9,9 +9,7 @@ use lib.ListN.{length}
 use lib.Dec.{eqb}
 use borrow.Author.Tests.{eqb-false}
 use Rattle.octets.proofs.Bools.{which}
-use lib.IntN.{ℤ, pos, neg_ℤ}
-use mir.Syntax.{w64}
-use mir.Val.{SFits, to_z, of_z}
+use lib.IntN.{pos, neg_ℤ}
 use Rattle.vector.specs.declared.Vector.{Vector}
 use Rattle.vector.specs.Vector.{extent}
 use Rattle.token.specs.Token.{Placed}
@@ -22,7 +20,6 @@ use Rattle.table.specs.Table.{vector_place, Held}
 use Rattle.table.proofs.Numbers.{lies-inside, vector-short}
 use Rattle.table.proofs.Entries.{message-held, vectors-small}
 use Rattle.replies.specs.Replies.{Reply, given, and_then, item_at, message_in, answer_of, vectors_answer, vector_place_answer, vector_length_answer}
-use Rattle.replies.proofs.Answers.{same}
 use Rattle.replies.proofs.Messages.{item-given, item_refused, message-given, message-early, stand}
 
 -- m is what `message_at` answers
@@ -55,9 +52,9 @@ module _ (s : List ℕ) (k : ℕ) (m : List ℕ) (m-is : m ≡ (message_at s k).
     pub vectors-few : n < 2 ^ 63
     vectors-few = omega (arith, vectors-small (message_at s k).place m (held (message_at s k).place refl) n n-is)
 
-    pub vectors-number : (z : ℤ) → SFits w64 z → z ≡ pos n → to_z w64 (of_z w64 z) ≡ vectors_answer s k
-    vectors-number z f e =
-        same z f (pos n) e ∙ ap pos (n-is ∙ ap (λ (l : List ℕ). length (vectors_in l)) m-is)
+    pub vectors-number : pos n ≡ vectors_answer s k
+    vectors-number =
+        ap pos (n-is ∙ ap (λ (l : List ℕ). length (vectors_in l)) m-is)
         ∙ sym (ap (λ (x : Reply Placed). answer_of (and_then x (λ m. given (length (vectors_in m.octets))))) (message-given s k m m-is some))
 
     module _ (i : ℕ) where
@@ -67,18 +64,17 @@ module _ (s : List ℕ) (k : ℕ) (m : List ℕ) (m-is : m ≡ (message_at s k).
           ap (λ (x : Reply Placed). and_then x (λ x. and_then (item_at (vectors_in x.octets) i) (g x))) (message-given s k m m-is some)
           ∙ ap (λ (l : List ℕ). and_then (item_at (vectors_in l) i) (g (message_at s k))) (sym m-is)
 
-      module _ (beyond : n ≤ i) (z : ℤ) (f : SFits w64 z) (z-is : z ≡ neg_ℤ (pos 19)) where
+      module _ (beyond : n ≤ i) where
         pub vector-beyond : (g : Placed → Vector → Reply ℕ)
-            → to_z w64 (of_z w64 z) ≡ answer_of (and_then (message_in s k) (λ x. and_then (item_at (vectors_in x.octets) i) (g x)))
+            → neg_ℤ (pos 19) ≡ answer_of (and_then (message_in s k) (λ x. and_then (item_at (vectors_in x.octets) i) (g x)))
         vector-beyond g =
-            same z f (neg_ℤ (pos 19)) z-is
-            ∙ sym (ap answer_of
+            sym (ap answer_of
             (here g ∙ ap (λ (x : Reply Vector). and_then x (g (message_at s k))) (item_refused (vectors_in m) i (omega (arith, n-is)))))
 
-        pub place-beyond : to_z w64 (of_z w64 z) ≡ vector_place_answer s k i
+        pub place-beyond : neg_ℤ (pos 19) ≡ vector_place_answer s k i
         place-beyond = vector-beyond (λ x v. given (vector_place x.place v))
 
-        pub length-beyond : to_z w64 (of_z w64 z) ≡ vector_length_answer s k i
+        pub length-beyond : neg_ℤ (pos 19) ≡ vector_length_answer s k i
         length-beyond = vector-beyond (λ x v. given (extent v))
 
       module _ (inside : i < n) (v : Vector) (v-is : v ≡ vector_in m i) where
@@ -92,13 +88,13 @@ module _ (s : List ℕ) (k : ℕ) (m : List ℕ) (m-is : m ≡ (message_at s k).
             ∙ sym (here g ∙ ap (λ (x : Reply Vector). and_then x (g (message_at s k))) (item-given (vectors_in m) i no_vector inside-all))
 
         module _ (a : ℕ) (a-is : a ≡ extent v) where
-          pub length-given : (z : ℤ) → SFits w64 z → z ≡ pos a → to_z w64 (of_z w64 z) ≡ vector_length_answer s k i
-          length-given z f e = same z f (pos a) e ∙ ap pos a-is ∙ ap answer_of (given_is (λ x v. given (extent v)))
+          pub length-given : pos a ≡ vector_length_answer s k i
+          length-given = ap pos a-is ∙ ap answer_of (given_is (λ x v. given (extent v)))
 
         module _ (p : ℕ) (p-is : p ≡ (message_at s k).place) (a : ℕ) (a-is : a ≡ vector_place p v) where
-          pub place-given : (z : ℤ) → SFits w64 z → z ≡ pos a → to_z w64 (of_z w64 z) ≡ vector_place_answer s k i
-          place-given z f e =
-              same z f (pos a) e ∙ ap pos (a-is ∙ ap (λ (x : ℕ). vector_place x v) p-is)
+          pub place-given : pos a ≡ vector_place_answer s k i
+          place-given =
+              ap pos (a-is ∙ ap (λ (x : ℕ). vector_place x v) p-is)
               ∙ ap answer_of (given_is (λ x v. given (vector_place x.place v)))
 
 pub ruleset counts = (vectors-few, vectors-number)

@@ -7,9 +7,10 @@
 --   item_at xs k           item k of a list, 19 beyond it
 --   fits room v            the octets v, 16 where they don't fit into the room
 --   message_in s k         message k of the token s
---   lack_of r              the number that refuses a message which a reading has not
 --   answer_of r            a reply in numbers as one signed number: a refusal is its number negated
+--   told r                 what an answer of src/ comes to as one signed number; Tells r z: it is z, and its number is short enough for that
 --   Lent                   an answer, with the caller's buffer afterwards; lent gives it for those of src/
+--   TellsLent r d w        an answer of src/, with the caller's buffer d afterwards, tells w
 --   written_in d r         the octets of a reply at the front of the buffer d, their number as answer; a refusal leaves the buffer as it was
 --   messages_answer s      the number of messages
 --   fault_place r          the place of a reading's refusal, 0 where it accepts; place_answer s: that of the token s
@@ -19,7 +20,9 @@
 --   vector_place_answer s k i   the token place of vector i of message k; vector_length_answer: its length in octets
 --   table_answer s d       the table of all messages, at the front of the buffer d
 --   FrontAccepted          what lies before the message at fault, where anything does, is an accepted token
-use Rattle.std.specs.Prelude.{ℕ, zero, suc, ◌<◌, ◌≡◌, cond, List, [], ◌∷◌, length, take, leb, ℤ, pos, neg_ℤ}
+use Rattle.std.specs.Prelude.{ℕ, zero, suc, ◌<◌, ◌^◌, ◌≡◌, cond, List, [], ◌∷◌, length, take, leb, ℤ, pos, neg_ℤ, Result, Ok, Err, IfOk}
+use Rattle.refusal.specs.declared.Refusal.{Refusal}
+use Rattle.refusal.specs.Refusals.{number_of}
 use Rattle.vector.specs.Vector.{extent}
 use Rattle.message.specs.Layout.{head_of}
 use Rattle.token.specs.Token.{Placed, Reading, Accepted, Refused, token_of}
@@ -59,14 +62,17 @@ fits room v = cond (leb (length v) room) (given v) (refused 16)
 unfoldable pub message_in : List ℕ → ℕ → Reply Placed
 message_in s k = and_then (messages_reply s) (λ ms. item_at ms k)
 
-abbrev pub lack_of : Reading → ℕ
-lack_of (Accepted ms) = 19
-lack_of (Refused n place) = n
-
 -- "a handful of functions .. on numbers and byte slices"
 abbrev pub answer_of : Reply ℕ → ℤ
 answer_of (given n) = pos n
 answer_of (refused n) = neg_ℤ (pos n)
+
+abbrev pub told : Result ℕ Refusal → ℤ
+told (Ok n) = pos n
+told (Err e) = neg_ℤ (pos (number_of e))
+
+abbrev pub Tells : Result ℕ Refusal → ℤ → Type 0
+Tells r z = (told r ≡ z) × IfOk r (λ n. n < 2 ^ 63)
 
 pub record Lent : Type 0 where
   pub answer : ℤ
@@ -74,6 +80,9 @@ pub record Lent : Type 0 where
 
 abbrev pub lent : ℤ → List ℕ → Lent
 lent z d = record { answer = z; buffer = d }
+
+abbrev pub TellsLent : Result ℕ Refusal → List ℕ → Lent → Type 0
+TellsLent r d w = (lent (told r) d ≡ w) × IfOk r (λ n. n < 2 ^ 63)
 
 -- "with the octets written as answer; their buffer behind these stays as it was"
 abbrev pub written_in : List ℕ → Reply (List ℕ) → Lent

@@ -6,10 +6,8 @@ use mathlib.Core.Bool.{cond}
 use mathlib.Core.List.{List}
 use native.Mathlib.Omega.{arith}
 use lib.ListN.{length, take, drop, get_or, length-take, length-drop}
-use lib.IntN.{ℤ, pos, neg_ℤ}
+use lib.IntN.{pos, neg_ℤ}
 use lib.Dec.{leb}
-use mir.Syntax.{w64}
-use mir.Val.{SFits, to_z, of_z}
 use borrow.Author.Tests.{le-leb, lt-leb}
 use Rattle.token.specs.Token.{Reading, token_of}
 use Rattle.token.specs.Walk.{messages_of, Accepts}
@@ -20,7 +18,6 @@ use Rattle.entries.specs.Entries.{entries_of, entry_octets}
 use Rattle.entries.specs.Lookup.{no_entry, Filled}
 use Rattle.entries.proofs.Walked.{entries-few}
 use Rattle.replies.specs.Replies.{Reply, given, refused, and_then, reading_reply, item_at, answer_of, lent, written_in}
-use Rattle.replies.proofs.Answers.{same}
 use Rattle.replies.proofs.Messages.{item-given, item_refused}
 use Rattle.viewing.specs.Viewing.{entry_count_answer, entries_window, entries_answer}
 
@@ -28,18 +25,17 @@ module _ (s : List ℕ) (a : Accepts s) (n : ℕ) (n-is : n ≡ length (entries_
   pub count_small : n < 2 ^ 63
   count_small = omega (arith, entries-few s (messages_of (token_of s)) a, accepted-short s a)
 
-  pub count-given : (z : ℤ) → SFits w64 z → z ≡ pos n → to_z w64 (of_z w64 z) ≡ entry_count_answer s
-  count-given z f e =
-      same z f (pos n) e ∙ ap pos n-is ∙ sym (ap (λ (r : Reading). answer_of (and_then (reading_reply r) (λ ms. given (length (entries_of ms))))) a)
+  pub count-given : pos n ≡ entry_count_answer s
+  count-given =
+      ap pos n-is ∙ sym (ap (λ (r : Reading). answer_of (and_then (reading_reply r) (λ ms. given (length (entries_of ms))))) a)
 
   module _ (k : ℕ) (d : List ℕ) where
     answer-is : written_in d (entries_window (entries_of (messages_of (token_of s))) k (length d)) ≡ entries_answer s k d
     answer-is = sym (ap (λ (r : Reading). written_in d (and_then (reading_reply r) (λ ms. entries_window (entries_of ms) k (length d)))) a)
 
-    pub entries-beyond : n ≤ k → (z : ℤ) → SFits w64 z → z ≡ neg_ℤ (pos 19) → lent (to_z w64 (of_z w64 z)) d ≡ entries_answer s k d
-    entries-beyond h z f e =
-        ap (λ (x : ℤ). lent x d) (same z f (neg_ℤ (pos 19)) e)
-        ∙ sym (ap
+    pub entries-beyond : n ≤ k → lent (neg_ℤ (pos 19)) d ≡ entries_answer s k d
+    entries-beyond h =
+        sym (ap
         (λ (r : Reply Entry). written_in d
         (and_then r
         (λ e. cond (leb 24 (length d)) (given (entry_octets (take (length d / 24) (drop k (entries_of (messages_of (token_of s))))))) (refused 16))))
@@ -61,21 +57,20 @@ module _ (s : List ℕ) (a : Accepts s) (n : ℕ) (n-is : n ≡ length (entries_
           (refused 16)))) here)
           ∙ answer-is
 
-      pub entries-full : length d < 24 → (z : ℤ) → SFits w64 z → z ≡ neg_ℤ (pos 16) → lent (to_z w64 (of_z w64 z)) d ≡ entries_answer s k d
-      entries-full g z f e = ap (λ (x : ℤ). lent x d) (same z f (neg_ℤ (pos 16)) e) ∙ sym (simp (lt-leb _ _ g)) ∙ window-is
+      pub entries-full : length d < 24 → lent (neg_ℤ (pos 16)) d ≡ entries_answer s k d
+      entries-full g = sym (simp (lt-leb _ _ g)) ∙ window-is
 
-      pub entries-written : 24 ≤ length d → (d' : List ℕ) (r : ℕ) → Filled d 0 (drop k (entries_of (messages_of (token_of s)))) d' r → (z : ℤ)
-          → SFits w64 z → z ≡ pos r → lent (to_z w64 (of_z w64 z)) d' ≡ entries_answer s k d
+      pub entries-written : 24 ≤ length d → (d' : List ℕ) (r : ℕ) → Filled d 0 (drop k (entries_of (messages_of (token_of s)))) d' r
+          → lent (pos r) d' ≡ entries_answer s k d
       unfolding Filled
-      entries-written g d' r w z f e =
+      entries-written g d' r w =
           let room : length d - 0 ≡ length d = omega arith in
           let A = take (length d / 24) (drop k (entries_of (messages_of (token_of s)))) in
           let v : Written d 0 (24 * length A) (entry_octets A) d' r =
           subst (λ (j : ℕ). Written d 0 (24 * length (take (j / 24) (drop k (entries_of (messages_of (token_of s))))))
           (entry_octets (take (j / 24) (drop k (entries_of (messages_of (token_of s)))))) d' r) room w in
           let r-is : r ≡ length (entry_octets A) = omega (arith, v.after, v.size) in
-          ap (λ (x : ℤ). lent x d') (same z f (pos r) e)
-          ∙ ap (λ (x : ℕ). lent (pos x) d') r-is
+          ap (λ (x : ℕ). lent (pos x) d') r-is
           ∙ ap (lent (pos (length (entry_octets A)))) v.holds
           ∙ sym (simp (le-leb _ _ g))
           ∙ window-is

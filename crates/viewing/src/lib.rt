@@ -1,88 +1,52 @@
-// What a viewer is answered of a token as entries: a number, or a refusal's number negated.
+// What is said of a token as entries, and of an envelope's token: a number, or what refuses it.
 #![tactic(auto)]
 
-ghost use Rattle.std.specs.Prelude.{◌≡◌, ◌∷◌, [], length, replicate};
+ghost use Rattle.std.specs.Prelude.{◌≡◌, length};
 ghost use Rattle.token.specs.Walk.{Accepts};
 ghost use Rattle.blanking.specs.Masked.{coverage_of};
-ghost use Rattle.entries.specs.Entries.{entry_octets};
-ghost use Rattle.faults.specs.Faults.{fault_of};
-ghost use Rattle.replies.specs.Replies.{fits, lent, written_in};
+ghost use Rattle.replies.specs.Replies.{Tells, TellsLent};
 ghost use Rattle.viewing.specs.Viewing.{entry_count_answer, entries_answer, fault_answer, coverage_answer, envelope_place_answer, envelope_length_answer};
 
 use blanking::covering::cover;
 use entries::{SIZE, count_entries, put_entries, put_entry};
 use envelope_token::find_token;
 use faults::fault;
-use replies::{number, refusal, wide_number};
-use token::{Answer, read_token};
+use refusal::Refusal;
+use replies::{accepted, number, refusal};
 
 // The number of entries.
-pub fn entry_count(token: &[u8]) -> i64
-    ensures { result ≡ entry_count_answer token.now }
+pub fn entry_count(token: &[u8]) -> Result<usize, Refusal>
+    ensures { Tells result (entry_count_answer token.now) }
 {
-    let reading = read_token(token);
-    match reading {
-        Answer::Messages(_) => wide_number(count_entries(token)),
-        Answer::Refused(n, _) => refusal(n),
-    }
-}
-
-// Entries of an accepted token.
-fn fill_entries(token: &[u8], first: usize, buffer: &mut [u8]) -> i64
-    requires { Accepts token.now }
-    ensures { lent result buffer.new ≡ entries_answer token.now first buffer.old }
-{
-    if count_entries(token) <= first {
-        return refusal(19);
-    }
-    if buffer.len() < SIZE {
-        return refusal(16);
-    }
-    wide_number(put_entries(buffer, token, first))
+    accepted(token)?;
+    Ok(count_entries(token))
 }
 
 // As many whole entries from number `first` on as fit, at the buffer's front.
-pub fn write_entries(token: &[u8], first: usize, buffer: &mut [u8]) -> i64
-    ensures { lent result buffer.new ≡ entries_answer token.now first buffer.old }
+pub fn write_entries(token: &[u8], first: usize, buffer: &mut [u8]) -> Result<usize, Refusal>
+    ensures { TellsLent result buffer.new (entries_answer token.now first buffer.old) }
 {
-    let reading = read_token(token);
-    match reading {
-        Answer::Messages(_) => fill_entries(token, first, buffer),
-        Answer::Refused(n, _) => refusal(n),
+    accepted(token)?;
+    if count_entries(token) <= first {
+        return Err(Refusal::Argument);
     }
-}
-
-// The fault of a refused token.
-fn fill_fault(token: &[u8], buffer: &mut [u8]) -> i64
-    ensures { lent result buffer.new ≡ written_in buffer.old
-        (fits (length buffer.old) (entry_octets (fault_of token.now ∷ []))) }
-{
     if buffer.len() < SIZE {
-        return refusal(16);
+        return Err(Refusal::Room);
     }
-    wide_number(put_entry(buffer, 0, fault(token)))
+    Ok(put_entries(buffer, token, first))
 }
 
 // The octets at fault, as one entry at the buffer's front; nothing where the token is accepted.
-pub fn write_fault(token: &[u8], buffer: &mut [u8]) -> i64
-    ensures { lent result buffer.new ≡ fault_answer token.now buffer.old }
+pub fn write_fault(token: &[u8], buffer: &mut [u8]) -> Result<usize, Refusal>
+    ensures { TellsLent result buffer.new (fault_answer token.now buffer.old) }
 {
-    let reading = read_token(token);
-    match reading {
-        Answer::Messages(_) => number(0),
-        Answer::Refused(_, _) => fill_fault(token, buffer),
+    if accepted(token).is_ok() {
+        return Ok(0);
     }
-}
-
-// Ones.
-fn fill_ones(d: &mut [u8])
-    ensures { d.new ≡ replicate (length d.old) 1 }
-{
-    let mut i: usize = 0;
-    while i < d.len() {
-        d[i] = 1;
-        i += 1;
+    if buffer.len() < SIZE {
+        return Err(Refusal::Room);
     }
+    Ok(put_entry(buffer, 0, fault(token)))
 }
 
 // The coverage of an accepted token, in a mask as long as it.
@@ -90,32 +54,21 @@ fn mask_token(token: &[u8], mask: &mut [u8])
     requires { Accepts token.now × (length mask.old ≡ length token.now) }
     ensures { mask.new ≡ coverage_of token.now }
 {
-    fill_ones(mask);
-    cover(token, mask);
-}
-
-// The coverage of an accepted token.
-fn fill_coverage(token: &[u8], buffer: &mut [u8]) -> i64
-    requires { Accepts token.now }
-    ensures { lent result buffer.new ≡ coverage_answer token.now buffer.old }
-{
-    let length = token.len();
-    if buffer.len() < length {
-        return refusal(16);
-    }
-    mask_token(token, &mut buffer[..length]);
-    wide_number(length)
+    mask.fill(1);
+    let _ = cover(token, mask);
 }
 
 // An octet for each of the token's: 1 where it is covered, 0 where nothing covers it.
-pub fn write_coverage(token: &[u8], buffer: &mut [u8]) -> i64
-    ensures { lent result buffer.new ≡ coverage_answer token.now buffer.old }
+pub fn write_coverage(token: &[u8], buffer: &mut [u8]) -> Result<usize, Refusal>
+    ensures { TellsLent result buffer.new (coverage_answer token.now buffer.old) }
 {
-    let reading = read_token(token);
-    match reading {
-        Answer::Messages(_) => fill_coverage(token, buffer),
-        Answer::Refused(n, _) => refusal(n),
+    accepted(token)?;
+    let length = token.len();
+    if buffer.len() < length {
+        return Err(Refusal::Room);
     }
+    mask_token(token, &mut buffer[..length]);
+    Ok(length)
 }
 
 // The place of the token in an envelope.

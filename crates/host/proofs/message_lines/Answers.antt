@@ -1,26 +1,19 @@
+use Rattle.std.proofs.Common.{rules}
+use Rattle.messages.proofs.Steps.{some_left, left_behind, none_left}
 use Rattle.host.proofs.Counting.{counting}
 use Rattle.host.proofs.message_lines.Goals as goal
 
-pub loop-rest-init : goal.loop-rest-init
-loop-rest-init c = search counting
+pub loop-m-init : goal.loop-m-init
+loop-m-init c = (tt, tt, search (rules, counting))
 
 pub count-lines-requires : goal.count-lines-requires
-count-lines-requires c = search counting
+count-lines-requires c = search (counting, some_left, c.in-Some.ensures.steps)
 
 pub overflow_add-lines : goal.overflow_add-lines
-overflow_add-lines c = record { fits = search counting }
+overflow_add-lines c = record { fits = search (counting, some_left, c.in-Some.ensures.steps) }
 
-pub slice_bounds-rest-count : goal.slice_bounds-rest-count
-slice_bounds-rest-count c = search counting
-
-pub slice_bounds-rest-start : goal.slice_bounds-rest-start
-slice_bounds-rest-start c = search counting
-
-pub loop-rest-smaller : goal.loop-rest-smaller
-loop-rest-smaller c = search counting
-
-pub loop-rest-preserved : goal.loop-rest-preserved
-loop-rest-preserved c = search counting
+pub loop-m-preserved : goal.loop-m-preserved
+loop-m-preserved c = (tt, tt, rw (left_behind c.in-Some.ensures.steps) (search (counting, some_left, c.in-Some.ensures.steps)))
 
 pub returns : goal.returns
-returns c = search counting
+returns c = search (counting, none_left, c.in-None.ensures.steps.0)

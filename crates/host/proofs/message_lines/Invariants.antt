@@ -5,8 +5,7 @@ use Rattle.listing.specs.Listing.{all_lines}
 use Rattle.host.proofs.Counting.{Counted}
 use Rattle.host.proofs.message_lines.Given as goal
 
-abbrev pub invariant-loop-rest : goal.invariant-loop-rest
-invariant-loop-rest l = Counted (length (all_lines (messages_of (token_of l.token)))) l.rest l.lines
-
-abbrev pub decreases-loop-rest : goal.decreases-loop-rest
-decreases-loop-rest l = length l.rest
+abbrev pub invariant-loop-m : goal.invariant-loop-m
+invariant-loop-m l =
+    (goal.iterator-loop-m).can_next l.m-iterator × (goal.iterator-loop-m).is_finite l.m-iterator
+    × Counted (length (all_lines (messages_of (token_of l.token)))) l.m-iterator.rest.now l.lines

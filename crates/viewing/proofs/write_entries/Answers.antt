@@ -1,8 +1,11 @@
-use Rattle.replies.proofs.Answers.{answers}
+use Rattle.viewing.proofs.Windows.{windows}
 use Rattle.viewing.proofs.write_entries.Goals as goal
 
-pub fill_entries-requires : goal.fill_entries-requires
-fill_entries-requires c = search answers
+pub returns-then-count_entries-first : goal.returns-then-count_entries-first
+returns-then-count_entries-first c = (search (windows, c.in_ok-accepted.ensures.0), tt)
 
-pub returns-in-Refused : goal.returns-in-Refused
-returns-in-Refused c = search answers
+pub returns-then-buffer-lt-SIZE : goal.returns-then-buffer-lt-SIZE
+returns-then-buffer-lt-SIZE c = (search (windows, c.in_ok-accepted.ensures.0), tt)
+
+pub returns : goal.returns
+returns c = (search (windows, c.in_ok-accepted.ensures.0), search (windows, c.in_ok-accepted.ensures.0))
