@@ -8,7 +8,6 @@ use native.Mathlib.Omega.{arith}
 use lib.ListN.{length}
 use lib.Dec.{eqb, leb}
 use borrow.Author.Tests.{le-leb, lt-leb, leb-true, ne_eqb}
-use Rattle.vector.specs.declared.TokenPlace.{TokenPlace}
 use Rattle.message.specs.Layout.{size, front}
 use Rattle.message.specs.Check.{first_failing}
 use Rattle.message.proofs.Tables.{AllTrue}
@@ -26,8 +25,9 @@ use Rattle.conversation.specs.Admitting.{Admitted, on, stop, admit}
 use Rattle.conversation.specs.Reading.{conversation_of, start_of, Judged, whole, then_judge, judge, judged, taken, taken_as, accepted, finish, token_rows, reading_token}
 use Rattle.conversation.proofs.Rows.{true-behind}
 use Rattle.conversation.proofs.Tokens.{judged-first}
-use Rattle.receiving.specs.declared.Judgement.{Judgement}
-use Rattle.receiving.specs.declared.Judgement.TheVariants as judgement
+use Rattle.std.proofs.Common.{Result, Ok, Err}
+use Rattle.refusal.specs.declared.Refusal.TheVariants as refusal
+use Rattle.token.specs.declared.Refused.{Refused}
 use Rattle.calls.specs.Calls.{room_for, call_refusal, Inside}
 use Rattle.calls.proofs.Refusals.{limits-inside, limits-stop, limits-on, call-refused, call-given, call-passed}
 use Rattle.receiving.specs.Receiving.{judged_as, Taking, Judging, halted_as}
@@ -91,13 +91,9 @@ module _ (r : Record) (n : ℕ) where
 pub ruleset closings = (closed-now, closed-not)
 
 -- the answer to a token that is halted
-module _ (r : Record) (j : Judgement) where
-  pub halted-answer : (n : ℕ) (p : TokenPlace) → j ≡ judgement.Halted n p → (next : Record) → next ≡ closed_by n r → (a : Answer)
-      → a ≡ answered n p.0 next → a ≡ halted_as r (judged_as j)
-  halted-answer n p e next next-is a a-is = a-is ∙ ap (answered n p.0) next-is ∙ sym (ap (λ (z : Judgement). halted_as r (judged_as z)) e)
-
-  pub whole-answer : (n : ℕ) (c : Scan) → j ≡ judgement.Whole n c → (a : Answer) → a ≡ answered 0 0 r → a ≡ halted_as r (judged_as j)
-  whole-answer n c e a a-is = a-is ∙ sym (ap (λ (z : Judgement). halted_as r (judged_as z)) e)
+pub halted-answer : (r : Record) (f : Refused) (n : ℕ) → n ≡ number_of f.refusal → (next : Record) → next ≡ closed_by n r → (a : Answer) → a ≡ answered n f.place.0 next
+    → a ≡ halted_as r (judged_as (Err f))
+halted-answer r f n n-is next next-is a a-is = rw (sym n-is) (a-is ∙ ap (answered n f.place.0) next-is)
 
 -- an accepted token
 pub accept-is : (r : Record) (d t : List ℕ) (n : ℕ) (c : Scan) (d' : List ℕ) (next : ℕ) → Written d r.used (length t) t d' next → (after : Record)
@@ -105,13 +101,13 @@ pub accept-is : (r : Record) (d t : List ℕ) (n : ℕ) (c : Scan) (d' : List �
 accept-is r d t n c d' next w after after_is = rw (w.holds, after_is)
 
 -- 16
-module _ (r : Record) (d t : List ℕ) (j : Judgement) where
-  pub finish-halted : (n : ℕ) (p : TokenPlace) → j ≡ judgement.Halted n p → (a : Answer) → a ≡ halted_as r (judged_as j)
+module _ (r : Record) (d t : List ℕ) (j : Result (ℕ × Scan) Refused) where
+  pub finish-halted : (f : Refused) → j ≡ Err f → (a : Answer) → a ≡ halted_as r (judged_as (Err f))
       → ◌≡◌ {A = Outcome} (record { answer = a; transcript = d }) (finish r d t (judged_as j))
   unfolding finish
-  finish-halted n p e a a-is = rw (a-is, e)
+  finish-halted f e a a-is = rw (a-is, e)
 
-  module _ (n : ℕ) (c : Scan) (j-whole : j ≡ judgement.Whole n c) where
+  module _ (n : ℕ) (c : Scan) (j-whole : j ≡ Ok (n, c)) where
     pub finish-taking : Judging r t j → Taking r (length t) n
     finish-taking w =
         let e : judged r t ≡ whole n c = sym w.says ∙ ap judged_as j-whole in
@@ -121,7 +117,7 @@ module _ (r : Record) (d t : List ℕ) (j : Judgement) where
       room : room_for r.used (length t) (length d) ≡ b
       room = let e : length t ≡ 0 + length t = omega arith in rw e (sym b-is)
 
-      pub finish-16 : b ≡ false → (a : Answer) → a ≡ answered 16 0 r
+      pub finish-16 : b ≡ false → (a : Answer) → a ≡ answered (number_of refusal.Room) 0 r
           → ◌≡◌ {A = Outcome} (record { answer = a; transcript = d }) (finish r d t (judged_as j))
       unfolding finish
       finish-16 e a a-is = rw (a-is, j-whole, room, e)
@@ -133,7 +129,7 @@ module _ (r : Record) (d t : List ℕ) (j : Judgement) where
       unfolding finish
       finish-accepted e x x-is = x-is ∙ rw (j-whole, room, e)
 
-pub ruleset finishes = (halted-answer, whole-answer, accept-is, finish-halted, finish-taking, finish-16, finish-room, finish-accepted)
+pub ruleset finishes = (halted-answer, accept-is, finish-halted, finish-taking, finish-16, finish-room, finish-accepted)
 
 -- the whole call
 module _ (r : Record) (d t : List ℕ) where
@@ -152,7 +148,7 @@ module _ (r : Record) (d t : List ℕ) where
     pub read_short : length t ≤ 65535
     read_short = leb-true _ _ (true-behind (limit_rows r ++ (row 18 (may_read r) ∷ [])) (row 1 (leb (length t) 65535)) [] given)
 
-    module _ (j : Judgement) (j-is : judged_as j ≡ judged r t) where
+    module _ (j : Result (ℕ × Scan) Refused) (j-is : judged_as j ≡ judged r t) where
       pub read-judging : Judging r t j
       read-judging = record { inside = read-inside; short = read_short; says = j-is }
 

@@ -32,16 +32,6 @@ use Rattle.std.proofs.Common.{Result, Ok, Err}
 use Rattle.refusal.specs.declared.Refusal.{Refusal}
 use Rattle.admitting.specs.Admissions.{admitted}
 use Rattle.admitting.proofs.Admits.{admitted-named}
-use Rattle.receiving.specs.declared.Judgement.{Judgement}
-use Rattle.receiving.specs.Receiving.{judged_as, cut_by, halted_by}
-
--- a refusal, at its place
-module _ (place : ℕ) where
-  pub cut-here : (m : Result Header Refusal) (f : Refusal) → m ≡ Err f → (n : ℕ) → n ≡ number_of f → halted n place ≡ cut_by (said m) place
-  cut-here m f e n n-is = ap (λ (k : ℕ). halted k place) n-is ∙ sym (ap (λ (z : Result Header Refusal). cut_by (said z) place) e)
-
-  pub cut-not : (m : Result Header Refusal) (h : Header) → m ≡ Ok h → halted 0 place ≡ cut_by (said m) place
-  cut-not m h e = sym (ap (λ (z : Result Header Refusal). cut_by (said z) place) e)
 
 -- what is carried into the first message
 module _ (r : Record) (c : Scan) (c-is : c ≡ start_of r) where
@@ -75,11 +65,9 @@ module _ (rest : List ℕ) (q : ℕ) (v : List ℕ) (m : Result Header Refusal) 
         (size_is rest q v m m-is h m-reads)
         ∙ ap (λ (z : Admitted). then_judge z at (λ d. judge r t (n + 1) d (chain_of (drop h.length rest) 0 (at + h.length) (q + 1) v))) (sym a-is)
 
-    pub judge-stopped : (at n : ℕ) (x : Judged) → x ≡ judge r t n c (chain_of rest 0 at q v) → (k : Refusal) → a ≡ Err k → (y : Judgement)
-        → judged_as y ≡ halted_by (admitted a) at → judged_as y ≡ x
-    judge-stopped at n x inv k e y y-is =
-        y-is ∙ ap (λ (z : Result Scan Refusal). halted_by (admitted z) at) e
-        ∙ sym (inv ∙ judged-here at n
+    pub judge-stopped : (at n : ℕ) (x : Judged) → x ≡ judge r t n c (chain_of rest 0 at q v) → (k : Refusal) → a ≡ Err k → halted (number_of k) at ≡ x
+    judge-stopped at n x inv k e =
+        sym (inv ∙ judged-here at n
         ∙ ap (λ (z : Result Scan Refusal). then_judge (admitted z) at
         (λ d. judge r t (n + 1) d (chain_of (drop h.length rest) 0 (at + h.length) (q + 1) v))) e)
 
@@ -110,15 +98,12 @@ module _ (r : Record) (t rest : List ℕ) (at q : ℕ) (v : List ℕ) (n : ℕ) 
     go [] w = unfold chain_of judge in refl
     go (y ∷ l) w = absurd (omega arith)
 
-  pub judge-cut : 0 < length rest → (m : Result Header Refusal) → said m ≡ next_verdict rest q v → (f : Refusal) → m ≡ Err f → (y : Judgement)
-      → judged_as y ≡ cut_by (said m) at → judged_as y ≡ x
-  judge-cut some m m-is f e y y-is =
-      y-is ∙ ap (λ (z : Result Header Refusal). cut_by (said z) at) e ∙ ap (λ (j : ℕ). halted j at) (sym failed.1)
+  pub judge-cut : 0 < length rest → (m : Result Header Refusal) → said m ≡ next_verdict rest q v → (f : Refusal) → m ≡ Err f → halted (number_of f) at ≡ x
+  judge-cut some m m-is f e =
+      ap (λ (j : ℕ). halted j at) (sym failed.1)
       ∙ sym (inv ∙ cut-chain r t rest at q v n c some failed.0) where
         failed : (passes rest q v ≡ false) × (first_failing (next_rows rest q v) ≡ number_of f)
         failed = unfold next_verdict in verdict-refused (next_rows rest q v) (fields_of (head_of rest)) (number_of f) (sym m-is ∙ ap said e)
-
-pub ruleset refusals = (cut-here, cut-not)
 
 pub ruleset judgings = (
   start-named,

@@ -2,36 +2,24 @@
 --
 -- Glossary
 --   judged_as          what an answer of src/ says of a token
---   cut_by, halted_by  a message's refusal by 2 to 13, or by 14 and 15, at its place
 --   Taking r size n    what the record after a token of n messages relies on
 --   with_sets          a record with another common set and other kept places
 --   moved_by           what every accepted token changes in a record
 --   Judging            what 16 and the record rely on after the messages
 --   halted_as          the answer to a token that is halted
-use Rattle.std.specs.Prelude.{ℕ, ◌≤◌, ◌≡◌, List, length}
-use Rattle.message.specs.Check.{Verdict, read, refused as V·refused}
+use Rattle.std.specs.Prelude.{ℕ, ◌≤◌, ◌≡◌, List, length, Result, Ok, Err}
+use Rattle.refusal.specs.Refusals.{number_of}
+use Rattle.token.specs.declared.Refused.{Refused}
 use Rattle.conversation.specs.declared.Record.{Record}
 use Rattle.conversation.specs.declared.Scan.{Scan}
 use Rattle.conversation.specs.declared.Answer.{Answer}
 use Rattle.conversation.specs.Outcomes.{answered, closed_by}
-use Rattle.conversation.specs.Admitting.{Admitted, on, stop}
 use Rattle.conversation.specs.Reading.{Judged, whole, halted, judged, taken}
 use Rattle.calls.specs.Calls.{Inside}
-use Rattle.receiving.specs.declared.Judgement.{Judgement}
-use Rattle.receiving.specs.declared.Judgement.TheVariants as judgement
 
-abbrev pub judged_as : Judgement → Judged
-judged_as (judgement.Whole n c) = whole n c
-judged_as (judgement.Halted n p) = halted n p.0
-
--- a message that is read has no refusal, and 0 stands for that
-abbrev pub cut_by : Verdict → ℕ → Judged
-cut_by (read h) place = halted 0 place
-cut_by (V·refused n) place = halted n place
-
-abbrev pub halted_by : Admitted → ℕ → Judged
-halted_by (on c) place = halted 0 place
-halted_by (stop n) place = halted n place
+abbrev pub judged_as : Result (ℕ × Scan) Refused → Judged
+judged_as (Ok p) = whole p.0 p.1
+judged_as (Err f) = halted (number_of f.refusal) f.place.0
 
 pub record Taking (r : Record) (size n : ℕ) : Type 0 where
   pub inside : Inside r
@@ -63,7 +51,7 @@ with_sets r x k = record {
 abbrev pub moved_by : Record → List ℕ → ℕ → Scan → Record
 moved_by r t n c = with_sets (taken r t n c) r.common r.kept
 
-pub record Judging (r : Record) (t : List ℕ) (j : Judgement) : Type 0 where
+pub record Judging (r : Record) (t : List ℕ) (j : Result (ℕ × Scan) Refused) : Type 0 where
   pub inside : Inside r
   pub short : length t ≤ 65535
   pub says : judged_as j ≡ judged r t

@@ -1,42 +1,19 @@
 // A peer's token, judged message by message.
 ghost use Rattle.std.specs.Prelude.{◌≡◌, cond, ◌≤◌, length, eqb};
 ghost use Rattle.octets.specs.Octets.{octets};
-ghost use Rattle.message.specs.Check.{said};
 ghost use Rattle.token.specs.Token.{chain_of};
 ghost use Rattle.conversation.specs.Reading.{start_of, conversation_of, judge, judged};
 ghost use Rattle.calls.specs.Calls.{Inside};
-ghost use Rattle.admitting.specs.Admissions.{admitted};
-ghost use Rattle.receiving.specs.Receiving.{judged_as, cut_by, halted_by};
+ghost use Rattle.receiving.specs.Receiving.{judged_as};
 
-use super::Judgement;
 use admitting::admit::admit_message;
 use conversation::turns::reading_token;
 use conversation::{Record, Scan, Turn};
-use message::{Header, field};
+use message::field;
 use refusal::Refusal;
 use schemes::list::id_at;
-use token::read_next;
+use token::{Refused, read_next};
 use vector::{MessageOffset, TokenPlace, in_token};
-
-// A message that 2 to 13 refuse, at its place.
-fn cut_at(reading: Result<Header, Refusal>, place: TokenPlace) -> Judgement
-    ensures { judged_as result ≡ cut_by (said reading) place.0 }
-{
-    match reading {
-        Err(refusal) => Judgement::Halted(refusal.number(), place),
-        Ok(_) => Judgement::Halted(0, place),
-    }
-}
-
-// A message that 14 or 15 stop, at its place.
-fn halted_at(admission: Result<Scan, Refusal>, place: TokenPlace) -> Judgement
-    ensures { judged_as result ≡ halted_by (admitted admission) place.0 }
-{
-    match admission {
-        Err(refusal) => Judgement::Halted(refusal.number(), place),
-        Ok(_) => Judgement::Halted(0, place),
-    }
-}
 
 // What is carried into the first message.
 fn start_of(r: Record) -> Scan
@@ -52,7 +29,7 @@ fn start_of(r: Record) -> Scan
 }
 
 // The messages of a token, each by 2 to 13 and then by 14 and 15.
-fn judge_messages(r: Record, t: &[u8], conversation: &[u8]) -> Judgement
+fn judge_messages(r: Record, t: &[u8], conversation: &[u8]) -> Result<(u32, Scan), Refused>
     requires { Inside r × (length t.now ≤ 65535) }
     ensures { judged_as result ≡ judge r t.now 0 (start_of r) (chain_of t.now 0 0 r.sequence conversation.now) }
 {
@@ -61,15 +38,20 @@ fn judge_messages(r: Record, t: &[u8], conversation: &[u8]) -> Judgement
     let mut sequence = r.sequence as u64;
     let mut scan = start_of(r);
     let mut count: u32 = 0;
-    while 0 < rest.len() {
+    // no index is counted here: where the next message begins, each header says
+    while !rest.is_empty() {
         let reading = read_next(rest, sequence, conversation);
         let Ok(h) = reading else {
-            return cut_at(reading, place);
+            return reading
+                .map(|_| (count, scan))
+                .map_err(|refusal| Refused { refusal, place });
         };
         let length = h.length as usize;
         let admission = admit_message(r, t, scan, &rest[..length]);
         let Ok(next) = admission else {
-            return halted_at(admission, place);
+            return admission
+                .map(|_| (count, scan))
+                .map_err(|refusal| Refused { refusal, place });
         };
         rest = &rest[length..];
         place = in_token(place, MessageOffset(h.length));
@@ -77,7 +59,7 @@ fn judge_messages(r: Record, t: &[u8], conversation: &[u8]) -> Judgement
         scan = next;
         count += 1;
     }
-    Judgement::Whole(count, scan)
+    Ok((count, scan))
 }
 
 // The conversation that a token's messages must have: an acceptor takes it from the first.
@@ -104,12 +86,15 @@ fn expected<'a>(token: u8, t: &'a [u8], own: &'a [u8]) -> &'a [u8]
 }
 
 // 2 to 15, message by message.
-pub(crate) fn judge_token(r: Record, t: &[u8]) -> Judgement
+pub(crate) fn judge_token(r: Record, t: &[u8]) -> Result<(u32, Scan), Refused>
     requires { Inside r × (length t.now ≤ 65535) }
     ensures { judged_as result ≡ judged r t.now }
 {
     if t.len() < field::COMMON_HEADER {
-        return Judgement::Halted(2, TokenPlace(0));
+        return Err(Refused {
+            refusal: Refusal::TooShort,
+            place: TokenPlace(0),
+        });
     }
     let token = reading_token(r.acceptor, r.stage);
     judge_messages(r, t, expected(token, t, &r.conversation))

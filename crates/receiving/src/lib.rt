@@ -1,7 +1,7 @@
 // Reading a peer's token into a conversation record.
 #![tactic(auto)]
 
-ghost use Rattle.std.specs.Prelude.{◌≡◌, ◌+◌, ◌≤◌, length};
+ghost use Rattle.std.specs.Prelude.{◌≡◌, ◌+◌, ◌≤◌, length, Err};
 ghost use Rattle.refusal.specs.Refusals.{refusal_number};
 ghost use Rattle.conversation.specs.Outcomes.{leaving, closed_by};
 ghost use Rattle.conversation.specs.Reading.{accepted, finish, token_rows, reading_token};
@@ -16,17 +16,11 @@ use judge::judge_token;
 use put::put_octets;
 use refusal::Refusal;
 use taken::taken_record;
+use token::Refused;
 use vector::TokenPlace;
 
 mod judge;
 mod taken;
-
-// What 2 to 15 say of a token: the number of its messages, with what is carried out of it, or the first refusal with its place.
-#[derive(Clone, Copy)]
-pub enum Judgement {
-    Whole(u32, Scan),
-    Halted(u32, TokenPlace),
-}
 
 // 18 and 1, before any message is looked at.
 fn check_before(r: Record, size: usize) -> Result<(), Refusal>
@@ -49,19 +43,18 @@ fn closed_by(number: u32, r: Record) -> Record
     if number != 12 {
         return r;
     }
-    let mut next = r;
-    next.stage = Record::CLOSED;
-    next
+    Record {
+        stage: Record::CLOSED,
+        ..r
+    }
 }
 
 // A token's refusal, at its place.
-fn refuse_halted(r: Record, judgement: Judgement) -> Answer
-    ensures { result ≡ halted_as r (judged_as judgement) }
+fn refuse_halted(r: Record, halted: Refused) -> Answer
+    ensures { result ≡ halted_as r (judged_as (Err halted)) }
 {
-    match judgement {
-        Judgement::Halted(number, place) => answer(number, place, closed_by(number, r)),
-        Judgement::Whole(_, _) => answer(0, TokenPlace(0), r),
-    }
+    let number = halted.refusal.number();
+    answer(number, halted.place, closed_by(number, r))
 }
 
 // An accepted token: put at the transcript's end, and taken into the record.
@@ -74,7 +67,7 @@ fn accept(r: Record, transcript: &mut [u8], t: &[u8], messages: u32, scan: Scan)
     Answer {
         refusal: 0,
         place: TokenPlace(0),
-        messages: messages,
+        messages,
         choice: [0u8; 16],
         left: 0,
         next,
@@ -82,17 +75,24 @@ fn accept(r: Record, transcript: &mut [u8], t: &[u8], messages: u32, scan: Scan)
 }
 
 // 16, after all messages.
-fn finish_token(r: Record, transcript: &mut [u8], t: &[u8], judgement: Judgement) -> Answer
+fn finish_token(
+    r: Record,
+    transcript: &mut [u8],
+    t: &[u8],
+    judgement: Result<(u32, Scan), Refused>,
+) -> Answer
     requires { Judging r t.now judgement }
     ensures { leaving result transcript.new ≡ finish r transcript.old t.now (judged_as judgement) }
 {
-    let Judgement::Whole(messages, scan) = judgement else {
-        return refuse_halted(r, judgement);
-    };
-    if has_room(r.used, 0, t.len(), transcript.len()) {} else {
-        return answer(16, TokenPlace(0), r);
+    match judgement {
+        Err(halted) => refuse_halted(r, halted),
+        Ok((messages, scan)) => {
+            if !has_room(r.used, 0, t.len(), transcript.len()) {
+                return refused(Refusal::Room, r);
+            }
+            accept(r, transcript, t, messages, scan)
+        }
     }
-    accept(r, transcript, t, messages, scan)
 }
 
 // A peer's token, read into the record and put at the transcript's end.
