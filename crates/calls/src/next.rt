@@ -26,7 +26,7 @@ fn type_of(acceptor: bool, class: u8) -> Kind
     }
 }
 
-// The common fields of the next message.
+// The common fields of the next message. Each writer calls this, its own encoder and after_message: a closure for the one call between would be no plainer.
 pub fn heading_of(r: Record, class: u8) -> Heading
     ensures { result ≡ heading r class }
 {

@@ -24,6 +24,7 @@ pub const STDOUT: i32 = 1;
 pub const STDERR: i32 = 2;
 
 // Reads until the buffer is full or the input ends. A read that fails, as that of a folder, leaves nothing to list.
+// No `for`: each read goes on by as many octets as the system says.
 fn fill<F: Read>(file: &mut F, buf: &mut [u8]) -> Option<usize>
     ensures { Holds result buf.new }
 {

@@ -3,7 +3,7 @@
 
 ghost use Rattle.console.specs.Console.{Holds};
 
-use console::{STDOUT, load};
+use console::{STDOUT, load, with_file};
 use fields::part;
 use replay_case::{CaseText, read_case};
 use replaying::Marks;
@@ -60,27 +60,17 @@ fn replay_text<R: Files>(rt: &R, text: &[u8]) {
     );
 }
 
-// Replays the case in the first n octets of a buffer; one that fills it is too long.
-fn replay_front<R: Files>(rt: &R, buf: &[u8], n: usize) {
-    if n == buf.len() {
-        io::write_all(STDOUT, b"bad case\n");
-        return;
-    }
-    replay_text(rt, part(buf, 0, n));
-}
-
-// Replays the case in the file with a name, by way of a buffer that the caller lends, and writes what is to be seen of it to standard output.
+// Replays the case in the file with a name, by way of a buffer that the caller lends, and writes what is to be seen of it to standard output. A case that
+// fills the buffer is too long.
 pub fn replay_file<R: Files>(rt: &R, name: &[u8], buf: &mut [u8]) -> Option<usize>
     ensures { Holds result buf.new }
 {
-    let loaded = load(rt, name, buf);
-    match loaded {
-        Some(n) => {
-            replay_front(rt, buf, n);
+    let room = buf.len();
+    with_file(rt, STDOUT, name, buf, |text| {
+        if text.len() == room {
+            io::write_all(STDOUT, b"bad case\n");
+        } else {
+            replay_text(rt, text);
         }
-        None => {
-            io::write_all(STDOUT, b"no file\n");
-        }
-    }
-    loaded
+    })
 }

@@ -2,7 +2,7 @@
 ghost use Rattle.std.specs.Prelude.{◌≡◌, true, is_none};
 ghost use Rattle.replaying.specs.Playing.{summary, played_as, counted, rest_of, Fine};
 
-use console::STDOUT;
+use console::{Listed, STDOUT, walk};
 use conversation::Record;
 use fields::part;
 use replay_lines::{choice_line, end_line, turn_line};
@@ -11,45 +11,29 @@ use replaying::play::{play_turn, start};
 use replaying::{Marks, Replay};
 use schemes::list::id_of;
 
-// Writes the first n octets of d, where they are to be shown.
-fn print(d: &[u8], n: usize, shown: bool) {
-    if shown {
-        io::write_all(STDOUT, part(d, 0, n));
-    }
-}
-
-// Goes over the lines of a token's listing up to `end`, window by window, and answers their number.
-fn walk(token: &[u8], end: usize, shown: bool) -> usize {
-    let mut text = [0u8; 65536];
-    let mut first: usize = 0;
-    loop {
-        let window = listing::window(token, first, end, &mut text);
-        if window.lines == 0 {
-            return first;
-        }
-        print(&text, window.octets, shown);
-        first += window.lines;
-    }
+// Writes the first n octets of d.
+fn print(d: &[u8], n: usize) {
+    io::write_all(STDOUT, part(d, 0, n));
 }
 
 // Writes the listing of a turn without its last line.
 fn show_listing(token: &[u8]) {
-    let lines = walk(token, 18446744073709551615, false);
-    if 0 < lines {
-        walk(token, lines - 1, true);
-    }
+    let listed = Listed { token };
+    let lines = walk(&listed, usize::MAX, |_| {});
+    walk(&listed, lines.saturating_sub(1), |text| {
+        io::write_all(STDOUT, text);
+    });
 }
 
 // Writes the line of the initiator's choice so far.
 fn show_choice(r: Record, text: &mut [u8]) {
-    if r.chosen < 16 {
-        let list = r.list;
-        let end = choice_line(text, true, id_of(list, r.chosen as u32));
-        print(text, end, true);
-        return;
-    }
-    let end = choice_line(text, false, [0u8; 16]);
-    print(text, end, true);
+    let chosen = if r.chosen < 16 {
+        Some(id_of(r.list, r.chosen as u32))
+    } else {
+        None
+    };
+    let end = choice_line(text, chosen);
+    print(text, end);
 }
 
 // Writes what is to be seen of a turn, where one was accepted between two states of a replay.
@@ -58,7 +42,7 @@ fn show_turn(before: Replay, next: Replay, ifile: &[u8], afile: &[u8], text: &mu
         return;
     }
     let end = turn_line(text, before.turns, next.last);
-    print(text, end, true);
+    print(text, end);
     if next.last {
         show_listing(part(afile, before.aplace, next.aplace));
     } else {
@@ -92,7 +76,7 @@ fn show_turns(
 // Writes how a replay ended.
 fn show_end(r: Replay, text: &mut [u8]) {
     let end = end_line(text, r.end);
-    print(text, end, true);
+    print(text, end);
 }
 
 // Replays two files, and shows it. The transcript has all the room that a conversation has.

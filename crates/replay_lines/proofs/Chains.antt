@@ -2,13 +2,13 @@
 -- Assumes nothing.
 use Prim.Native.Nat.{ℕ}
 use mathlib.Core.Path.{◌≡◌, refl}
-use mathlib.Core.Bool.{Bool, true, false, cond}
+use mathlib.Core.Bool.{Bool, true, false}
 use mathlib.Core.List.{List, [], ◌∷◌}
-use mathlib.Core.Option.{none, some}
+use Rattle.std.specs.Prelude as std
 use Rattle.text.specs.Text.{quoted, decimal, decimal64, id_text, Text, written}
 use Rattle.text.proofs.Pieces.{then}
 use Rattle.sides.specs.Replay.{Whose, initiator, acceptor, finished, refused, unopened}
-use Rattle.replay_lines.specs.Lines.{side_text, turn_line, choice_line, refused_line, end_lines}
+use Rattle.replay_lines.specs.Lines.{side_text, turn_line, choice_as, choice_line, refused_line, end_lines}
 
 module _ (k : ℕ) (x : Bool) (t a u : Text) (first : a ≡ written (quoted "turn " ∷ decimal k ∷ []) t) where
   pub turn-acceptor : x ≡ true → u ≡ written (side_text acceptor ∷ []) a → u ≡ written (turn_line k x) t
@@ -21,15 +21,16 @@ module _ (k : ℕ) (x : Bool) (t a u : Text) (first : a ≡ written (quoted "tur
 
 pub ruleset turns = (turn-acceptor, turn-initiator)
 
-module _ (x : Bool) (i : List ℕ) (t u : Text) where
-  pub choice-none : x ≡ false → u ≡ written (quoted "choice none\n" ∷ []) t → u ≡ written (choice_line (cond x (some i) none)) t
+module _ (o : std.Option (List ℕ)) (t u : Text) where
+  pub choice-none : o ≡ std.None → u ≡ written (quoted "choice none\n" ∷ []) t → u ≡ written (choice_line (choice_as o)) t
   unfolding choice_line
   choice-none h e = rw h e
 
-  pub choice-some : x ≡ true → (a b : Text) → a ≡ written (quoted "choice " ∷ []) t → b ≡ written (id_text i) a → u ≡ written (quoted "\n" ∷ []) b
-      → u ≡ written (choice_line (cond x (some i) none)) t
+  pub choice-some : (i : List ℕ) → o ≡ std.Some i → (a b : Text) → a ≡ written (quoted "choice " ∷ []) t → b ≡ written (id_text i) a
+      → u ≡ written (quoted "\n" ∷ []) b
+      → u ≡ written (choice_line (choice_as o)) t
   unfolding choice_line
-  choice-some h a b f g k = rw h (then t a u _ _ f (then a b u _ _ g k))
+  choice-some i h a b f g k = rw h (then t a u _ _ f (then a b u _ _ g k))
 
 pub ruleset choices = (choice-none, choice-some)
 

@@ -3,10 +3,11 @@
 -- Glossary
 --   side_text w    the word for a side, with its line's end
 --   turn_line k a  the line of the turn k, of the acceptor or not
---   choice_line c  the line of a choice, or of none
+--   choice_line c  the line of a choice, or of none; choice_as: the choice that an answer of src/ stands for
 --   refused_line   the line of a refusal
 --   end_lines e    the line of an ending: none at the last turn
 use Rattle.std.specs.Prelude.{ℕ, Bool, List, [], ◌∷◌, ◌++◌}
+use Rattle.std.specs.Prelude as std
 use Rattle.std.proofs.Math.Option.{Option, none, some}
 use Rattle.text.specs.Text.{quoted, decimal, decimal64, id_text}
 use Rattle.schemes.specs.Lists.{Id}
@@ -20,6 +21,10 @@ side_text neither = quoted " neither\n"
 -- "`turn K initiator` or `turn K acceptor` (K from 0)"
 unfoldable pub turn_line : ℕ → Bool → List (List ℕ)
 turn_line k a = quoted "turn " ∷ decimal k ∷ side_text (by a) ∷ []
+
+abbrev pub choice_as : std.Option Id → Option Id
+choice_as std.None = none
+choice_as (std.Some i) = some i
 
 -- "`choice ID` or `choice none`"
 unfoldable pub choice_line : Option Id → List (List ℕ)

@@ -1,11 +1,10 @@
 // What a replay prints beside the listings of its turns, as lines of text from the front of a lent slice on.
 #![tactic(auto)]
 
-ghost use Rattle.std.specs.Prelude.{◌≡◌, cond, [], ◌∷◌};
-ghost use Rattle.std.proofs.Math.Option.{none, some};
+ghost use Rattle.std.specs.Prelude.{◌≡◌, [], ◌∷◌};
 ghost use Rattle.text.specs.Text.{text, written};
 ghost use Rattle.replaying.specs.Playing.{whose_as, ending_as};
-ghost use Rattle.replay_lines.specs.Lines.{side_text, turn_line, choice_line, refused_line, end_lines};
+ghost use Rattle.replay_lines.specs.Lines.{side_text, turn_line, choice_as, choice_line, refused_line, end_lines};
 
 use replaying::{Fault, Whose};
 use text::{append, field, id, wide_field};
@@ -33,12 +32,12 @@ pub fn turn_line(d: &mut [u8], k: u32, acceptor: bool) -> usize
 }
 
 // The line of a choice, or of none.
-pub fn choice_line(d: &mut [u8], chosen: bool, scheme: [u8; 16]) -> usize
-    ensures { text d.new result ≡ written (choice_line (cond chosen (some scheme) none)) (text d.old 0) }
+pub fn choice_line(d: &mut [u8], chosen: Option<[u8; 16]>) -> usize
+    ensures { text d.new result ≡ written (choice_line (choice_as chosen)) (text d.old 0) }
 {
-    if !chosen {
+    let Some(scheme) = chosen else {
         return append(d, 0, b"choice none\n");
-    }
+    };
     let id_start = append(d, 0, b"choice ");
     let id_end = id(d, id_start, &scheme);
     append(d, id_end, b"\n")

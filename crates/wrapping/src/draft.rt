@@ -28,7 +28,8 @@ pub(crate) struct Span {
 }
 
 // What is to be written, the last field, the octets used of the store, and the fields: of an Init `count` mechanisms, the first `list` octets of the store,
-// and its flags; of a Resp its state and its mechanism; of both the token and the checksum.
+// and its flags; of a Resp its state and its mechanism; of both the token and the checksum. The mechanisms' sizes stand in a lent slice, with their count here:
+// the project has no heap.
 #[derive(Clone, Copy)]
 pub(crate) struct Draft {
     pub(crate) kind: Kind,
