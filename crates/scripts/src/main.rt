@@ -1,42 +1,13 @@
 // Plays the scripts in the files whose names stand on standard input, one a line.
 #![tactic(auto)]
 
-ghost use Rattle.std.specs.Prelude.{◌<◌, length};
-
-use console::{STDIN, STDOUT};
+use console::{each_name, print_name};
 use playing::play::play_file;
-use scan::find;
-use std::rt::Files;
-
-// The name of a script, and what its calls answer.
-fn show<R: Files>(rt: &R, name: &[u8]) {
-    io::write_all(STDOUT, b"script ");
-    io::write_all(STDOUT, name);
-    io::write_all(STDOUT, b"\n");
-    let mut buf = [0u8; 262144];
-    play_file(rt, name, &mut buf);
-}
-
-// Shows the file whose name begins at a place, and answers where the next name begins.
-fn show_from<R: Files>(rt: &R, names: &[u8], from: usize) -> usize
-    requires { from < length names.now }
-    ensures { from < result }
-{
-    let end = find(names, from, names.len(), b'\n');
-    show(rt, &names[from..end]);
-    end + 1
-}
-
-// Shows the files of all names, one a line.
-fn show_all<R: Files>(rt: &R, names: &[u8]) {
-    let mut from = 0;
-    while from < names.len() {
-        from = show_from(rt, names, from);
-    }
-}
 
 fn main(rt: HostRuntime) {
-    let mut input = io::large_buffer();
-    let length = io::read_full(STDIN, &mut input);
-    show_all(&rt, &input[..length]);
+    each_name(|name| {
+        print_name(b"script ", name);
+        let mut buf = [0u8; 262144];
+        play_file(&rt, name, &mut buf);
+    });
 }
