@@ -11,11 +11,11 @@ body() { awk -v first="pub fn $1(" 'index($0, first) == 1 { on = 1 } on { print 
 for name in same_octets same_id; do
     body "$name" | head -n 1 | grep -qxF "pub fn $name(a: &[u8], b: &[u8]) -> bool" || complain "$name takes something else than two lent slices"
 done
-locals=$(body same_octets | grep -E '^ *let ' || true)
-printf '%s\n' "$locals" | grep -vxE '    let mut (same = true|i: usize = 0);' | grep . && complain 'same_octets has a local that is no flag and no index'
+locals=$(body same_octets | grep -E '^ *(let|for) ' || true)
+printf '%s\n' "$locals" | grep -vxE '    (let mut same = true;|for i in 0\.\.16 \{)' | grep . && complain 'same_octets has a local that is no flag and no index'
 [ "$(printf '%s\n' "$locals" | grep -c .)" -eq 2 ] || complain 'same_octets has not its two locals'
-body same_id | grep -E '^ *let ' && complain 'same_id has a local'
-body same_id | grep -qxF '    same_octets(a, b)' || complain 'same_id does not end with the one comparison'
+body same_id | grep -E '^ *(let|for) ' && complain 'same_id has a local'
+body same_id | grep -qxF '    a.len() == 16 && b.len() == 16 && same_octets(a, b)' || complain 'same_id does not end with the one comparison'
 
 # Its callers lend a slice of what the caller was lent, or of a field: an array of their own would be a copy.
 calls=$(grep -rnE 'same_(id|octets)\(' crates/*/src --include='*.rt' | grep -v 'pub fn same_' | grep -c .)

@@ -1,9 +1,12 @@
-use Rattle.std.proofs.Common.{◌∙◌}
-use Rattle.octets.proofs.Same.{whole, same-ids}
+use Rattle.octets.proofs.Same.{ids}
 use Rattle.octets.proofs.same_octets.Goals as goal
+use Rattle.octets.proofs.same_octets.Goals.{then-a-i, else-a-i}
+
+pub loop-i-init : goal.loop-i-init
+loop-i-init c = search ids
+
+pub loop-i-preserved : goal.loop-i-preserved
+loop-i-preserved c = elim c.if-a-i.branch [ then-a-i w ↦ search ids | else-a-i w ↦ search ids ]
 
 pub returns : goal.returns
-returns c =
-    let a = c.args.a.now in
-    let b = c.args.b.now in
-    rw (c.octets_at.ensures, c.octets_at-2.ensures, whole a c.requires.0, whole b c.requires.1) at c.eq.ensures ∙ same-ids a b c.requires.0
+returns c = search ids
