@@ -208,7 +208,8 @@ module _ (x token d₀ d : List ℕ) (at : ℕ) (on : Masking x token d₀ d at)
     pub mask-cells : at + length m - at ≤ length t
     mask-cells = omega (arith, fits, u.size)
 
-    module _ (kind : ℕ) (map : List ℕ) (marks : Marks kind (take (at + length m - at) (drop at t)) (take (length (take (at + length m - at) (drop at t))) map)) where
+    module _ (kind : ℕ) (map : List ℕ)
+        (marks : Marks kind (take (at + length m - at) (drop at t)) (take (length (take (at + length m - at) (drop at t))) map)) where
       pub mask-front-cells : length (take (at + length m - at) map) ≡ length (take (at + length m - at) (drop at d))
       mask-front-cells = ap (λ (n : ℕ). length (take n map)) (sym part_length) ∙ marks.0 ∙ sym mask-beside
 
@@ -224,8 +225,22 @@ module _ (x token d₀ d : List ℕ) (at : ℕ) (on : Masking x token d₀ d at)
 pub unread-mask : (x s d : List ℕ) (at : ℕ) → Masking x s s d at → Unread s d at
 unread-mask x s d at on = record { size = mask-length x s s d at on; rest = mask-rest x s s d at on }
 
-pub ruleset masks =
-    (mask_start, blank-start, unread-token, unread-mask, mask-length, mask_end, mask_fits, mask-within, mask-small, mask-less, mask-room, mask-cells, mask-front-cells, mask-turn)
+pub ruleset masks = (
+  mask_start,
+  blank-start,
+  unread-token,
+  unread-mask,
+  mask-length,
+  mask_end,
+  mask_fits,
+  mask-within,
+  mask-small,
+  mask-less,
+  mask-room,
+  mask-cells,
+  mask-front-cells,
+  mask-turn,
+)
 
 -- ---- `cover`
 module _ (s d : List ℕ) where

@@ -159,9 +159,12 @@ pub fn each_name<F: FnMut(&[u8])>(show: F)
     each_line(&input[..length], show);
 }
 
-// Writes a name's line: a word, and the name.
-pub fn print_name(word: &[u8], name: &[u8]) {
+// Writes a name's line, a word and the name, and hands the name on.
+pub fn print_name<'a>(word: &[u8], name: &'a [u8]) -> &'a [u8]
+    ensures { result.now ≡ name.now }
+{
     io::write_all(STDOUT, word);
     io::write_all(STDOUT, name);
     io::write_all(STDOUT, b"\n");
+    name
 }

@@ -126,7 +126,8 @@ module _ (m : List ℕ) (kind : ℕ) where
 
 -- the same by the layout that the code names
 module _ (m : List ℕ) (kind : ℕ) (r : D·Shape) (r-is : shape_as r ≡ shape_of kind) where
-  pub counts-nego : r ≡ form.Nego → (a : Vector) → a ≡ extension_vector m → (es : List ℕ) → es ≡ part m a → 2 + length es / 12 ≡ length (vectors_of (content_of (shape_of kind) m))
+  pub counts-nego : r ≡ form.Nego → (a : Vector) → a ≡ extension_vector m → (es : List ℕ) → es ≡ part m a → 2 + length es / 12
+      ≡ length (vectors_of (content_of (shape_of kind) m))
   unfolding shape_of
   counts-nego h a a-is es es-is = rw (sym r-is ∙ ap shape_as h) (count-nego m 0 (omega arith) a a-is es es-is)
 
@@ -138,7 +139,8 @@ module _ (m : List ℕ) (kind : ℕ) (r : D·Shape) (r-is : shape_as r ≡ shape
   unfolding shape_of
   counts-verify h = rw (sym r-is ∙ ap shape_as h) (count-one m 6 (omega arith) (omega arith))
 
-  pub counts-alert : r ≡ form.Alert → (a : Vector) → a ≡ alert_vector m → (es : List ℕ) → es ≡ part m a → 1 + length es / 12 ≡ length (vectors_of (content_of (shape_of kind) m))
+  pub counts-alert : r ≡ form.Alert → (a : Vector) → a ≡ alert_vector m → (es : List ℕ) → es ≡ part m a → 1 + length es / 12
+      ≡ length (vectors_of (content_of (shape_of kind) m))
   unfolding shape_of
   counts-alert h a a-is es es-is = rw (sym r-is ∙ ap shape_as h) (count-alert m 7 (omega arith) (omega arith) a a-is es es-is)
 

@@ -346,8 +346,21 @@ module _ (T : List Entry) (d : List ℕ) (from : ℕ) (rest : List ℕ) (place i
         (subst (λ (a : ℕ). Filled e next (drop skip (entries_in a i m)) e' next') p.stands
         (subst (λ (j : ℕ). Filled e next (drop skip (entries_in at j m)) e' next') k-is w)))))
 
-pub ruleset shows =
-    (shown-begin, shown-count, shown-end, shown-left, turn-fits, turn-less, shown-held, shown-message, shown-small, shown-place, shown-next, shown-room, shown-on)
+pub ruleset shows = (
+  shown-begin,
+  shown-count,
+  shown-end,
+  shown-left,
+  turn-fits,
+  turn-less,
+  shown-held,
+  shown-message,
+  shown-small,
+  shown-place,
+  shown-next,
+  shown-room,
+  shown-on,
+)
 
 -- ---- an accepted token has no more entries than octets
 few-from : (ms : List (List ℕ)) (place i q : ℕ) (v : List ℕ) → Numbered q v ms → place + length (join ms) ≤ 65535

@@ -23,5 +23,6 @@ left_behind {rest = rest} {m = m} p = p.left ∙ sym (tail_all rest (length m))
 pub none_left : (rest : List ℕ) → Left rest → first_of rest ≡ [] → length rest ≤ 0
 none_left rest w e = elim rest as (λ r. Left r → first_of r ≡ [] → length r ≤ 0) [
   | [] ↦ λ _ _. omega arith
-  | x ∷ xs ↦ λ v f. absurd (let t : Turn (x ∷ xs) v (first_of (x ∷ xs)) = turn (x ∷ xs) v (omega arith) (first_of (x ∷ xs)) refl in omega (arith, t.some, ap length f))
+  | x ∷ xs ↦ λ v f. absurd
+      (let t : Turn (x ∷ xs) v (first_of (x ∷ xs)) = turn (x ∷ xs) v (omega arith) (first_of (x ∷ xs)) refl in omega (arith, t.some, ap length f))
 ] w e

@@ -91,7 +91,8 @@ module _ (r : Record) (n : ℕ) where
 pub ruleset closings = (closed-now, closed-not)
 
 -- the answer to a token that is halted
-pub halted-answer : (r : Record) (f : Refused) (n : ℕ) → n ≡ number_of f.refusal → (next : Record) → next ≡ closed_by n r → (a : Answer) → a ≡ answered n f.place.0 next
+pub halted-answer : (r : Record) (f : Refused) (n : ℕ) → n ≡ number_of f.refusal → (next : Record) → next ≡ closed_by n r → (a : Answer) → a
+    ≡ answered n f.place.0 next
     → a ≡ halted_as r (judged_as (Err f))
 halted-answer r f n n-is next next-is a a-is = rw (sym n-is) (a-is ∙ ap (answered n f.place.0) next-is)
 

@@ -6,7 +6,31 @@ use Rattle.refusal.specs.Refusals.{number_of, NumberOnce, NumberSome}
 
 -- the refusal that a number stands for
 abbrev with_number : ℕ → Refusal
-with_number n = cond (eqb n 1) refusal.TooLong (cond (eqb n 2) refusal.TooShort (cond (eqb n 3) refusal.Signature (cond (eqb n 4) refusal.Type (cond (eqb n 5) refusal.HeaderLength (cond (eqb n 6) refusal.MessageLength (cond (eqb n 7) refusal.Sequence (cond (eqb n 8) refusal.Conversation (cond (eqb n 10) refusal.Version (cond (eqb n 11) refusal.Vector (cond (eqb n 12) refusal.CriticalExtension (cond (eqb n 13) refusal.Checksum (cond (eqb n 14) refusal.OutOfTurn (cond (eqb n 15) refusal.Scheme (cond (eqb n 16) refusal.Room (cond (eqb n 17) refusal.NoCommonScheme (cond (eqb n 18) refusal.Stage (cond (eqb n 19) refusal.Argument (cond (eqb n 20) refusal.Element (cond (eqb n 21) refusal.ElementLength (cond (eqb n 22) refusal.LeftOver (cond (eqb n 23) refusal.Mechanisms (cond (eqb n 24) refusal.Numbering (cond (eqb n 25) refusal.ContentLimit (cond (eqb n 26) refusal.CriticalWritten (cond (eqb n 27) refusal.Unopened refusal.Choice)))))))))))))))))))))))))
+with_number n =
+    cond (eqb n 1) refusal.TooLong
+    (cond (eqb n 2) refusal.TooShort
+    (cond (eqb n 3) refusal.Signature
+    (cond (eqb n 4) refusal.Type
+    (cond (eqb n 5) refusal.HeaderLength
+    (cond (eqb n 6) refusal.MessageLength
+    (cond (eqb n 7) refusal.Sequence
+    (cond (eqb n 8) refusal.Conversation
+    (cond (eqb n 10) refusal.Version
+    (cond (eqb n 11) refusal.Vector
+    (cond (eqb n 12) refusal.CriticalExtension
+    (cond (eqb n 13) refusal.Checksum
+    (cond (eqb n 14) refusal.OutOfTurn
+    (cond (eqb n 15) refusal.Scheme
+    (cond (eqb n 16) refusal.Room
+    (cond (eqb n 17) refusal.NoCommonScheme
+    (cond (eqb n 18) refusal.Stage
+    (cond (eqb n 19) refusal.Argument
+    (cond (eqb n 20) refusal.Element
+    (cond (eqb n 21) refusal.ElementLength
+    (cond (eqb n 22) refusal.LeftOver
+    (cond (eqb n 23) refusal.Mechanisms
+    (cond (eqb n 24) refusal.Numbering
+    (cond (eqb n 25) refusal.ContentLimit (cond (eqb n 26) refusal.CriticalWritten (cond (eqb n 27) refusal.Unopened refusal.Choice)))))))))))))))))))))))))
 
 same : (a : Refusal) → with_number (number_of a) ≡ a
 same refusal.TooLong = refl

@@ -88,9 +88,9 @@ message-early s k p e = elim (inside-or-not k (length (messages_of (token_of s))
 ]
 
 -- a token that is refused has no message
-pub none-refused : (s : List ℕ) (k n : ℕ) → messages_reply s ≡ refused n → message_in s k ≡ refused n
+pub message-refused : (s : List ℕ) (k n : ℕ) → messages_reply s ≡ refused n → message_in s k ≡ refused n
 unfolding message_in
-none-refused s k n e = ap (λ (r : Reply (List Placed)). and_then r (λ ms. item_at ms k)) e
+message-refused s k n e = ap (λ (r : Reply (List Placed)). and_then r (λ ms. item_at ms k)) e
 
 module _ (s : List ℕ) (k n : ℕ) (e : message_in s k ≡ refused n) where
   pub message-lacks : (g : Placed → Reply ℕ) → neg_ℤ (pos n) ≡ answer_of (and_then (message_in s k) g)

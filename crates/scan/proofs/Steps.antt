@@ -25,7 +25,8 @@ placed octet s = is_position_or_len (index_of octet) (λ x. x == octet) refl (λ
 
 -- what `position` answers, as the place in the whole
 pub found : (octet : ℕ) (s : List ℕ) (from to : ℕ) → from ≤ to → to ≤ length s → (r : Option ℕ)
-    → (let p = take (to - from) (drop from s) in r ≡ cond (ltb (position_or_len (λ x. x == octet) p) (length p)) (Some (position_or_len (λ x. x == octet) p)) None)
+    → (let p = take (to - from) (drop from s) in r
+    ≡ cond (ltb (position_or_len (λ x. x == octet) p) (length p)) (Some (position_or_len (λ x. x == octet) p)) None)
     → MatchOption r (to ≡ from + index_of octet (slice from to s)) (λ n. from + n ≡ from + index_of octet (slice from to s))
 found octet s from to h k r e = go (ltb (position_or_len (λ x. x == octet) p) (length p)) refl where
   p : List ℕ
@@ -34,7 +35,16 @@ found octet s from to h k r e = go (ltb (position_or_len (λ x. x == octet) p) (
   here : index_of octet (slice from to s) ≡ position_or_len (λ x. x == octet) p
   here = rw (← part s from to h) (placed octet p)
 
-  go : (b : Bool) → ltb (position_or_len (λ x. x == octet) p) (length p) ≡ b → MatchOption r (to ≡ from + index_of octet (slice from to s)) (λ n. from + n ≡ from + index_of octet (slice from to s))
+  go : (b : Bool) → ltb (position_or_len (λ x. x == octet) p) (length p) ≡ b
+      → MatchOption r (to ≡ from + index_of octet (slice from to s)) (λ n. from + n ≡ from + index_of octet (slice from to s))
   go true u = rw (e, u) (ap (λ (n : ℕ). from + n) (sym here))
   go false u =
-      rw (e, u) (omega (arith, here, prefix_len-le-length (λ x. not (x == octet)) p, ltb-false _ _ u, length-take (to - from) (drop from s), length-drop from s))
+      rw (e, u) (omega (
+        arith,
+        here,
+        prefix_len-le-length (λ x. not (x == octet)) p,
+        ltb-false _ _ u,
+        length-take (to - from) (drop from s),
+        length-drop from
+            s,
+      ))

@@ -37,13 +37,15 @@ chunk-none rest h = let e : length rest / 16 ≡ 0 = omega arith in rw e refl
 
 -- ---- all chunks
 pub ids-yielded : (s : ChunksExact ℕ) → chunks_exact_size s ≡ 16 → YieldsList (chunks_exact_steps {A = ℕ}) (λ x. x.now) s (ids_of (chunks_exact_rest s))
-ids-yielded s h = YieldsList-from_shown_while _ _ (λ (s : ChunksExact ℕ). ids_of (chunks_exact_rest s)) (λ (s : ChunksExact ℕ). chunks_exact_size s ≡ 16) none some s h where
-  none : (s t : ChunksExact ℕ) → chunks_exact_size s ≡ 16 → chunks_exact_steps s None t → length (ids_of (chunks_exact_rest s)) ≡ 0
-  none s t h e = rw (chunk-none (chunks_exact_rest s) (omega arith)) refl
+ids-yielded s h =
+    YieldsList-from_shown_while _ _ (λ (s : ChunksExact ℕ). ids_of (chunks_exact_rest s)) (λ (s : ChunksExact ℕ). chunks_exact_size s ≡ 16) none some s h
+  where
+    none : (s t : ChunksExact ℕ) → chunks_exact_size s ≡ 16 → chunks_exact_steps s None t → length (ids_of (chunks_exact_rest s)) ≡ 0
+    none s t h e = rw (chunk-none (chunks_exact_rest s) (omega arith)) refl
 
-  some : (s : ChunksExact ℕ) (x : Bor (List ℕ)) (t : ChunksExact ℕ) → chunks_exact_size s ≡ 16 → chunks_exact_steps s (Some x) t
-      → (chunks_exact_size t ≡ 16) × (ids_of (chunks_exact_rest s) ≡ x.now ∷ ids_of (chunks_exact_rest t))
-  some s x t h e = (e.0 ∙ h, ap ids_of e.1.0 ∙ chunk-first x.now (chunks_exact_rest t) (e.1.1 ∙ h))
+    some : (s : ChunksExact ℕ) (x : Bor (List ℕ)) (t : ChunksExact ℕ) → chunks_exact_size s ≡ 16 → chunks_exact_steps s (Some x) t
+        → (chunks_exact_size t ≡ 16) × (ids_of (chunks_exact_rest s) ≡ x.now ∷ ids_of (chunks_exact_rest t))
+    some s x t h e = (e.0 ∙ h, ap ids_of e.1.0 ∙ chunk-first x.now (chunks_exact_rest t) (e.1.1 ∙ h))
 
 -- the n ids of a list are the chunks of its first 16 * n octets
 ids-front : (n : ℕ) (s : List ℕ) → n * 16 ≤ length s → ids_at n (take (n * 16) s) ≡ ids_at n s

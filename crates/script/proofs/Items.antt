@@ -43,7 +43,8 @@ module _ (s : List ℕ) (from at : ℕ) (at-is : fields_from s at ≡ others (fi
   pub test_word : at ≤ length s → (f : List ℕ) → f ≡ first (fields_from s from) → (b : Bool) → b ≡ pointwise eqb f (quoted "test")
       → b ≡ test_in (fields_from s from)
   test_word h f f-is b b-is =
-      b-is ∙ compared f (quoted "test") ∙ rw f-is (test-some (fields_from s from) (first (fields_from s at)) (others (fields_from s at)) (sym at-is ∙ field_there s at h))
+      b-is ∙ compared f (quoted "test")
+      ∙ rw f-is (test-some (fields_from s from) (first (fields_from s at)) (others (fields_from s at)) (sym at-is ∙ field_there s at h))
 
 pub ruleset test_words = (test-last, test_word)
 

@@ -310,7 +310,11 @@ module _ (s : List ℕ) (at from : ℕ) (at-is : fields_from s at ≡ others (fi
     pub command-nowhere : 0 ≡ place_of w ends → bad_line ≡ command_of s room
     command-nowhere e =
         sym (command-is
-        ∙ rw (h, ← e) (rw (chosen-nowhere (fields_from s from) room, called-nowhere (verb_of (place_of x verbs) (fields_from s from)) 0 (fields_from s from) room)
+        ∙ rw (h, ← e) (rw (
+          chosen-nowhere (fields_from s from) room,
+          called-nowhere (verb_of (place_of x verbs) (fields_from s from)) 0 (fields_from s from)
+              room,
+        )
         (either-bad (eqb (verb_of (place_of x verbs) (fields_from s from)) 8))))
 
     module _ (a : Bool) (e : number_of_end (Some a) ≡ place_of w ends) (o : Bool) (o-is : o ≡ pointwise eqb x (quoted "choose")) where

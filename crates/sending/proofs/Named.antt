@@ -70,7 +70,8 @@ module _ (r : Record) (arrays : Arrays r) (d : List ℕ) (kind : ℕ) (fit : Boo
       → ◌≡◌ {A = Outcome} (record { answer = a; transcript = d }) (called r d kind (named_rows r fit) contents action)
   named-refused = write-refused r arrays d kind (named_rows r fit) contents size whole
 
-  pub named-written : 0 ≡ write_refusal r kind (named_rows r fit) size (length d) → (w : Record → WrittenAs) (s : List ℕ) → s ≡ scheme_at r (scheme_now r) → (v : Contents) → v ≡ of s
+  pub named-written : 0 ≡ write_refusal r kind (named_rows r fit) size (length d) → (w : Record → WrittenAs) (s : List ℕ) → s ≡ scheme_at r (scheme_now r)
+      → (v : Contents) → v ≡ of s
       → (d' : List ℕ) (next : Record) → Appended r d kind v d' next → (a : Answer) → a ≡ answered 0 0 (changed next (w next))
       → ◌≡◌ {A = Outcome} (record { answer = a; transcript = d' })
       (called r d kind (named_rows r fit) contents

@@ -54,7 +54,8 @@ module _ (r : Record) (arrays : Arrays r) (d : List ℕ) (g : AlertContent) (f :
   pub alert-refused : (e : Refusal) → number_of e ≡ refusal → (a : Answer) → a ≡ answered (number_of e) 0 r
       → ◌≡◌ {A = Outcome} (record { answer = a; transcript = d }) (speaking r d (alarm g))
   unfolding speaking
-  alert-refused e e-is a a-is = named-refused r arrays d 5 keeps contents (λ s l. l) (72 + k) (sized (scheme_at r (scheme_now r))) e (e-is ∙ refusal_is) a a-is _
+  alert-refused e e-is a a-is =
+      named-refused r arrays d 5 keeps contents (λ s l. l) (72 + k) (sized (scheme_at r (scheme_now r))) e (e-is ∙ refusal_is) a a-is _
 
   module _ (z : 0 ≡ refusal) where
     pub alert-keeps : keeps ≡ true

@@ -59,7 +59,8 @@ module _ (w : Record) (m : List ℕ) (type : ℕ) (type-is : type ≡ le 4 m 8) 
       → (next : Record) → next ≡ wrote w (place_after w kind) (length m) (unchanged w) → said_by next told requested attested ≡ said w m
   unfolding said head_of
   say-is told told_is requested requested-is attested attested-is next next-is =
-      let told_there = told_is ∙ ap (λ (x : List ℕ). cond (eqb kind 2 && ltb (place (own_of w) x) w.count) (with_bit w.metadata (place (own_of w) x)) w.metadata)
+      let told_there = told_is
+      ∙ ap (λ (x : List ℕ). cond (eqb kind 2 && ltb (place (own_of w) x) w.count) (with_bit w.metadata (place (own_of w) x)) w.metadata)
       (id-is ∙ scheme-there m (omega arith)) in
       let a : requested ≡ cond (eqb kind 3 && eqb (writes w) 0) 0 w.requested =
       requested-is ∙ ap (λ (k : ℕ). cond (eqb kind 3 && eqb k 0) 0 w.requested) token-is in

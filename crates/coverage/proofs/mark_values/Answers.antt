@@ -8,7 +8,9 @@ loop-k-preserved c =
     let l = c.loop-k in
     record {
       size = ap length c.mark.ensures ∙ length_marked l.map _ ∙ l.invariant.size;
-      marks = values-more c.args.array.now _ l.map (length c.args.array.now / 12) l.k _ _ c.loop-k-test.true c.octet_vector.ensures c.mark.ensures l.invariant.marks;
+      marks =
+          values-more c.args.array.now _ l.map (length c.args.array.now / 12) l.k _ _ c.loop-k-test.true c.octet_vector.ensures c.mark.ensures
+          l.invariant.marks;
     }
 
 pub returns : goal.returns

@@ -7,7 +7,9 @@ loop-at-preserved c =
     let l = c.loop-at in
     record {
       few = omega (arith, bit _ _ c.from-count.ensures);
-      counted = sweep-more c.args.map.now _ l.far l.count (length c.args.map.now) l.at _ _ c.loop-at-test.true c.max-far.ensures c.from-count.ensures l.invariant.counted;
+      counted =
+          sweep-more c.args.map.now _ l.far l.count (length c.args.map.now) l.at _ _ c.loop-at-test.true c.max-far.ensures c.from-count.ensures
+          l.invariant.counted;
     }
 
 pub returns : goal.returns

@@ -18,8 +18,10 @@ overflow_add-offset c =
     let xs = c.loop-kind.yielded in
     let s = c.into_iter-kind-iterator.result in
     let t = c.loop-kind.kind-iterator in
-    let i = reached e.types e.sizes e.count c.requires.0 types sizes xs s t c.next.new.self c.next.result first second c.loop-kind.yielded_by c.next.ensures.steps in
-    let m = turn-more e.types e.sizes e.count c.requires.0 types sizes xs s t c.next.new.self c.next.result first second c.loop-kind.yielded_by c.next.ensures.steps _ c.in-Some.is in
+    let i = reached e.types e.sizes e.count c.requires.0 types sizes xs s t c.next.new.self c.next.result first second c.loop-kind.yielded_by
+    c.next.ensures.steps in
+    let m = turn-more e.types e.sizes e.count c.requires.0 types sizes xs s t c.next.new.self c.next.result first second c.loop-kind.yielded_by
+    c.next.ensures.steps _ c.in-Some.is in
     let l = (rw i at c.loop-kind.invariant.2).sum in
     let turn = sum-turn e.count (length xs) e.sizes m.0 in
     let p = c.requires.1.1 in
@@ -35,8 +37,10 @@ loop-kind-preserved c =
     let xs = c.loop-kind.yielded in
     let s = c.into_iter-kind-iterator.result in
     let t = c.loop-kind.kind-iterator in
-    let i = reached e.types e.sizes e.count c.requires.0 types sizes xs s t c.next.new.self c.next.result first second c.loop-kind.yielded_by c.next.ensures.steps in
-    let m = turn-more e.types e.sizes e.count c.requires.0 types sizes xs s t c.next.new.self c.next.result first second c.loop-kind.yielded_by c.next.ensures.steps _ c.in-Some.is in (
+    let i = reached e.types e.sizes e.count c.requires.0 types sizes xs s t c.next.new.self c.next.result first second c.loop-kind.yielded_by
+    c.next.ensures.steps in
+    let m = turn-more e.types e.sizes e.count c.requires.0 types sizes xs s t c.next.new.self c.next.result first second c.loop-kind.yielded_by
+    c.next.ensures.steps _ c.in-Some.is in (
       (tt, tt),
       tt,
       rw (m.1, m.3)
@@ -53,6 +57,8 @@ returns c =
     let xs = c.loop-kind.yielded in
     let s = c.into_iter-kind-iterator.result in
     let t = c.loop-kind.kind-iterator in
-    let i = reached e.types e.sizes e.count c.requires.0 types sizes xs s t c.next.new.self c.next.result first second c.loop-kind.yielded_by c.next.ensures.steps in
-    let m = turn_end e.types e.sizes e.count c.requires.0 types sizes xs s t c.next.new.self c.next.result first second c.loop-kind.yielded_by c.next.ensures.steps c.in-None.is in
+    let i = reached e.types e.sizes e.count c.requires.0 types sizes xs s t c.next.new.self c.next.result first second c.loop-kind.yielded_by
+    c.next.ensures.steps in
+    let m = turn_end e.types e.sizes e.count c.requires.0 types sizes xs s t c.next.new.self c.next.result first second c.loop-kind.yielded_by
+    c.next.ensures.steps c.in-None.is in
     left_end _ _ _ _ _ _ c.requires.1.0 _ _ _ _ (rw i at c.loop-kind.invariant.2) m

@@ -9,7 +9,8 @@ use Rattle.entries.proofs.put_entries.Goals as goal
 
 pub loop-message-init : goal.loop-message-init
 loop-message-init c =
-    let w : Shown (entries_of (messages_of (token_of c.args.token.now))) c.args.d.now c.args.from (enumerate_source c.into_iter-message-iterator.result).rest.now
+    let w : Shown (entries_of (messages_of (token_of c.args.token.now))) c.args.d.now c.args.from
+    (enumerate_source c.into_iter-message-iterator.result).rest.now
     (enumerate_source c.into_iter-message-iterator.result).place.0 (enumerate_count c.into_iter-message-iterator.result) c.args.from c.args.d.now 0 =
     search (rules, shows) in
     ((tt, tt, inl (search shown-count)), tt, refl, w)

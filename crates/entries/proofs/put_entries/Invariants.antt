@@ -10,5 +10,6 @@ abbrev pub invariant-loop-message : goal.invariant-loop-message
 invariant-loop-message l =
     (goal.iterator-loop-message).can_next l.message-iterator × (goal.iterator-loop-message).is_finite l.message-iterator
     × (length l.d ≡ length l.initial.d)
-    × Shown (entries_of (messages_of (token_of l.token))) l.initial.d l.from (enumerate_source l.message-iterator).rest.now (enumerate_source l.message-iterator).place.0 (enumerate_count l.message-iterator)
+    × Shown (entries_of (messages_of (token_of l.token))) l.initial.d l.from (enumerate_source l.message-iterator).rest.now
+    (enumerate_source l.message-iterator).place.0 (enumerate_count l.message-iterator)
     l.skip l.d l.next

@@ -9,7 +9,9 @@ pub returns-then-s-gt65535 : goal.returns-then-s-gt65535
 returns-then-s-gt65535 c = search (rules, envelopes)
 
 pub returns-then-starts_at : goal.returns-then-starts_at
-returns-then-starts_at c = envelope-init _ c.if-s-gt65535.false _ c.starts_at.ensures _ c.if-starts_at.true (c.only_at.ensures wrapped_of (λ h r k q. search rules))
+returns-then-starts_at c =
+    envelope-init _ c.if-s-gt65535.false _ c.starts_at.ensures _ c.if-starts_at.true (c.only_at.ensures wrapped_of (λ h r k q. search rules))
 
 pub returns : goal.returns
-returns c = envelope-resp _ c.if-s-gt65535.false _ c.starts_at.ensures _ c.if-starts_at.false (c.only_at-2.ensures (only 0x30 any resp_of) (λ h r k q. search rules))
+returns c =
+    envelope-resp _ c.if-s-gt65535.false _ c.starts_at.ensures _ c.if-starts_at.false (c.only_at-2.ensures (only 0x30 any resp_of) (λ h r k q. search rules))

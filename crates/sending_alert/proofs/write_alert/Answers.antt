@@ -27,4 +27,5 @@ pub returns : goal.returns
 returns c =
     let f : SFits w32 c.args.code = search rules in
     let g : AlertContent = record { code = c.args.code; alerts = c.args.alerts; values = c.args.values.now } in
-    alert-written _ (sized _ _ c.well_formed.0) _ g _ c.fits-fit.ensures _ c.size_of-size.ensures c.in_default.ensures _ c.scheme_id-id.ensures _ (to_z-of_z f) _ _ c.append_alert.ensures _ c.accepted.ensures
+    alert-written _ (sized _ _ c.well_formed.0) _ g _ c.fits-fit.ensures _ c.size_of-size.ensures c.in_default.ensures _ c.scheme_id-id.ensures _
+    (to_z-of_z f) _ _ c.append_alert.ensures _ c.accepted.ensures

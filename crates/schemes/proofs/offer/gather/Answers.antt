@@ -18,7 +18,9 @@ loop-place-preserved c =
     let a = c.args in
     let sized : length a.list ≡ 256 = search rules in
     elim c.if-bit_of.branch [
-      | then-bit_of w ↦ rw w.schemes-is (gather-take _ _ l.place l.schemes l.invariant _ c.bit_of.ensures w.if-bit_of.true sized (omega arith) _ w.id_of.ensures _ w.with_id-schemes.ensures)
+      | then-bit_of w ↦ rw w.schemes-is
+          (gather-take _ _ l.place l.schemes l.invariant _ c.bit_of.ensures w.if-bit_of.true sized (omega arith) _ w.id_of.ensures _
+          w.with_id-schemes.ensures)
       | else-bit_of w ↦ rw w.schemes-is (gather-skip _ _ l.place l.schemes l.invariant _ c.bit_of.ensures w.if-bit_of.false)
     ]
 

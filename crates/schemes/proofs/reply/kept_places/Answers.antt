@@ -30,7 +30,8 @@ loop-id-preserved c =
       omega arith,
       tt,
       s,
-      keeping-turn _ _ c.loop-id.kept c.in-Some.id.now _ (rw e at c.loop-id.invariant.3) c.note-kept.result (rw length_ids (rw c.find.ensures at c.note-kept.ensures)),
+      keeping-turn _ _ c.loop-id.kept c.in-Some.id.now _ (rw e at c.loop-id.invariant.3) c.note-kept.result
+          (rw length_ids (rw c.find.ensures at c.note-kept.ensures)),
     )
 
 pub returns : goal.returns

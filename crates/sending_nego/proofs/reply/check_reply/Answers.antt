@@ -49,5 +49,6 @@ returns-then-not-has_room c =
 pub returns : goal.returns
 returns c =
     let g : NegoContent = record { random = []; test = c.args.test; extensions = c.args.extensions; values = c.args.values.now } in
-    reply-fits _ _ g _ c.in_ok-check_stage.ensures c.if-not-r.false _ c.within.ensures c.if-not-within.false c.in_ok-check_extensions.ensures _ c.choose_own-left.ensures c.if-left-eq0.false _
+    reply-fits _ _ g _ c.in_ok-check_stage.ensures c.if-not-r.false _ c.within.ensures c.if-not-within.false c.in_ok-check_extensions.ensures _
+    c.choose_own-left.ensures c.if-left-eq0.false _
     c.size_of-size.ensures _ c.has_room.ensures c.if-not-has_room.false
