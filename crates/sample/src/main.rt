@@ -8,8 +8,8 @@ ghost use Rattle.message.specs.Layout.{scheme_vector};
 
 use console::STDOUT;
 use negoex::{
-    Answer, Elements, Record, choose_alert, open, read, read_token, schemes,
-    write_offer, write_reply,
+    Answer, Elements, Record, choose_alert, open, read, read_token, schemes, write_offer,
+    write_reply,
 };
 
 // A line with a number.
