@@ -14,8 +14,7 @@ fn say(s: &[u8]) {
 
 fn main(rt: HostRuntime) {
     each_name(|name| {
-        print_name(b"file ", name);
         let mut buf = [0u8; 65536];
-        with_file(&rt, STDOUT, name, &mut buf, say);
+        with_file(&rt, STDOUT, print_name(b"file ", name), &mut buf, say);
     });
 }

@@ -5,8 +5,7 @@ use console::{STDOUT, each_name, list_file, print_name};
 
 fn main(rt: HostRuntime) {
     each_name(|name| {
-        print_name(b"file ", name);
         let mut token = [0u8; 65536];
-        list_file(&rt, STDOUT, name, &mut token);
+        list_file(&rt, STDOUT, print_name(b"file ", name), &mut token);
     });
 }

@@ -6,8 +6,7 @@ use recovering::recover_file;
 
 fn main(rt: HostRuntime) {
     each_name(|name| {
-        print_name(b"file ", name);
         let mut file = [0u8; 65536];
-        recover_file(&rt, STDOUT, name, &mut file);
+        recover_file(&rt, STDOUT, print_name(b"file ", name), &mut file);
     });
 }

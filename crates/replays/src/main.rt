@@ -6,8 +6,7 @@ use replay_files::replay_file;
 
 fn main(rt: HostRuntime) {
     each_name(|name| {
-        print_name(b"case ", name);
         let mut buf = [0u8; 65536];
-        replay_file(&rt, name, &mut buf);
+        replay_file(&rt, print_name(b"case ", name), &mut buf);
     });
 }

@@ -6,8 +6,7 @@ use playing::play::play_file;
 
 fn main(rt: HostRuntime) {
     each_name(|name| {
-        print_name(b"script ", name);
         let mut buf = [0u8; 262144];
-        play_file(&rt, name, &mut buf);
+        play_file(&rt, print_name(b"script ", name), &mut buf);
     });
 }

@@ -6,8 +6,7 @@ use wrapping::wrap::wrap_file;
 
 fn main(rt: HostRuntime) {
     each_name(|name| {
-        print_name(b"file ", name);
         let mut buf = [0u8; 262144];
-        wrap_file(&rt, name, &mut buf);
+        wrap_file(&rt, print_name(b"file ", name), &mut buf);
     });
 }
