@@ -3,7 +3,7 @@
 # (docs/DECISIONS.md, F6), and none that the door, crates/negoex, hands on; and no function has more than 40 lines.
 set -eu
 cd "$(dirname "$0")/.."
-below=' der der_put octets scan vector message put elements encode schemes calls negotiating sending admitting merging turning replaying windows lines listing coverage offers table entries replies '
+below=' der der_put octets scan vector message put elements encode schemes calls negotiating sending admitting merging turning replaying windows lines listing coverage offers table entries replies console text_lines '
 door=" $(sed -n 's/^pub use \([a-z_]*\)::\(.*::\)*\([a-z_]*\);$/\1:\3/p' crates/negoex/src/lib.rt | tr '\n' ' ')"
 found=$(
     find crates/*/src -name '*.rt' | sort | while IFS= read -r file; do
@@ -15,7 +15,7 @@ found=$(
                 public = $0 ~ /^ *pub (extern "C" )?fn /
                 name = $0
                 sub(/^ *(pub(\(crate\))? )?(extern "C" )?fn /, "", name)
-                sub(/\(.*/, "", name)
+                sub(/[<(].*/, "", name)
                 from = NR
                 ends = $0
                 sub(/[^ ].*/, "}", ends)
