@@ -1,7 +1,7 @@
 #!/bin/sh
 # Every theorem that a page names states a claim that stands in specs/: its type is one name, and that name is declared there. A reader then
 # has to believe what is in specs/, and nothing under proofs/. (READING's last section and CONTRIBUTING name laws as examples of their form,
-# PORT names all that were spelt anew.)
+# PORT and DESIGN-PASS name all that were spelt or written anew.)
 set -eu
 cd "$(dirname "$0")/.."
 work=$(mktemp -d)
@@ -10,7 +10,7 @@ trap 'rm -rf "$work"' EXIT
 find crates/*/proofs -name '*.antt' ! -name Proof.antt ! -name Invariants.antt ! -name Answers.antt | LC_ALL=C sort | xargs cat >"$work/proofs"
 cat crates/*/specs/*.antt >"$work/specs"
 for page in README.md docs/*.md; do
-    case $page in docs/CONTRIBUTING.md | docs/PORT.md) continue ;; esac
+    case $page in docs/CONTRIBUTING.md | docs/PORT.md | docs/DESIGN-PASS.md) continue ;; esac
     sed -e '/^## A law in the words of the code/,$d' -e 's/"[^"]*"//g' "$page" | grep -o '`[a-z][a-z0-9_-]*`' || true
 done | tr -d '`' | LC_ALL=C sort -u >"$work/names"
 
