@@ -12,8 +12,10 @@ use lib.Dec.{leb, ltb}
 use borrow.Author.Tests.{le-leb, lt-ltb, le-ltb}
 use Rattle.octets.specs.Octets.{le}
 use Rattle.vector.specs.declared.Vector.{Vector}
-use Rattle.message.specs.Layout.{head_of, shape_of, header_of, pads_of, content_of, content_in, vectors_of}
-use Rattle.message.proofs.Shapes.{shape-nego, shape-exchange, shape-verify, shape-alert, header-least}
+use Rattle.message.specs.declared.Shape.{Shape as D·Shape}
+use Rattle.message.specs.declared.Shape.TheVariants as form
+use Rattle.message.specs.Layout.{head_of, shape_of, shape_as, header_of, pads_of, content_of, content_in, vectors_of}
+use Rattle.message.proofs.Shapes.{header-least}
 use Rattle.std.proofs.Common.{Ok, Err}
 use Rattle.token.specs.declared.Refused.{Refused}
 use Rattle.token.specs.Token.{Reading, Outcome, token_of, outcome_of, told}
@@ -37,38 +39,39 @@ last-pad b false e = e
 second-pad : (a b c d : Bool) → a ≡ c → a ≡ false → b ≡ d → b ≡ (c || (d || false))
 second-pad a b c d e f g = rw (sym e ∙ f) (last-pad b d g)
 
-module _ (kind at : ℕ) where
+-- by the layout that the code names
+module _ (kind at : ℕ) (r : D·Shape) (r-is : shape_as r ≡ shape_of kind) where
   abbrev InPad : Bool → Type 0
   InPad b = b ≡ lies_in_pad (pads_of (shape_of kind)) at
 
+  named : {f : D·Shape} → r ≡ f → shape_of kind ≡ shape_as f
+  named e = sym r-is ∙ ap shape_as e
+
   module _ (a : Bool) (first : a ≡ (leb 86 at && ltb at 88)) where
-    pub nego-first : kind ≤ 1 → a ≡ true → InPad a
+    pub nego-first : r ≡ form.Nego → a ≡ true → InPad a
     unfolding lies_in_pad
-    nego-first h e = rw (shape-nego kind h) (e ∙ first-pad _ (leb 94 at && ltb at 96 || false) (sym first ∙ e))
+    nego-first h e = rw (named h) (e ∙ first-pad _ (leb 94 at && ltb at 96 || false) (sym first ∙ e))
 
-    pub nego-second : kind ≤ 1 → a ≡ false → (b : Bool) → b ≡ (leb 94 at && ltb at 96) → InPad b
+    pub nego-second : r ≡ form.Nego → a ≡ false → (b : Bool) → b ≡ (leb 94 at && ltb at 96) → InPad b
     unfolding lies_in_pad
-    nego-second h e b g = rw (shape-nego kind h) (second-pad a b _ _ first e g)
+    nego-second h e b g = rw (named h) (second-pad a b _ _ first e g)
 
-  module _ (not-nego : 1 < kind) where
-    pub exchange-none : kind ≤ 5 → InPad false
+  pub exchange-none : r ≡ form.Exchange → InPad false
+  unfolding lies_in_pad
+  exchange-none h = rw (named h) refl
+
+  pub verify-only : r ≡ form.Verify → (b : Bool) → b ≡ (leb 76 at && ltb at 80) → InPad b
+  unfolding lies_in_pad
+  verify-only h b g = rw (named h) (last-pad b _ g)
+
+  module _ (a : Bool) (first : a ≡ (leb 66 at && ltb at 68)) where
+    pub alert-first : r ≡ form.Alert → a ≡ true → InPad a
     unfolding lies_in_pad
-    exchange-none h = rw (shape-exchange kind not-nego h) refl
+    alert-first h e = rw (named h) (e ∙ first-pad _ (leb 68 at && ltb at 72 || false) (sym first ∙ e))
 
-    module _ (not-exchange : 5 < kind) where
-      pub verify-only : kind ≡ 6 → (b : Bool) → b ≡ (leb 76 at && ltb at 80) → InPad b
-      unfolding lies_in_pad
-      verify-only h b g = rw (shape-verify kind not-nego not-exchange h) (last-pad b _ g)
-
-      module _ (not-verify : kind ≡ 6 → ⊥) (a : Bool) (first : a ≡ (leb 66 at && ltb at 68)) where
-        pub alert-first : a ≡ true → InPad a
-        unfolding lies_in_pad
-        alert-first e =
-            rw (shape-alert kind not-nego not-exchange not-verify) (e ∙ first-pad _ (leb 68 at && ltb at 72 || false) (sym first ∙ e))
-
-        pub alert-second : a ≡ false → (b : Bool) → b ≡ (leb 68 at && ltb at 72) → InPad b
-        unfolding lies_in_pad
-        alert-second e b g = rw (shape-alert kind not-nego not-exchange not-verify) (second-pad a b _ _ first e g)
+    pub alert-second : r ≡ form.Alert → a ≡ false → (b : Bool) → b ≡ (leb 68 at && ltb at 72) → InPad b
+    unfolding lies_in_pad
+    alert-second h e b g = rw (named h) (second-pad a b _ _ first e g)
 
 pub ruleset pads = (nego-first, nego-second, exchange-none, verify-only, alert-first, alert-second)
 

@@ -16,6 +16,7 @@ fn cover_messages(map: &mut [u32], token: &[u8], mask: &mut [u8])
     ensures { mask.new ≡ kept (covered token.now) mask.old 0 }
 {
     let mut at: usize = 0;
+    // no index is counted here: where the next message begins, each header says
     while at < token.len() {
         let end = at + first(&token[at..]).len();
         let kind = mark_message(map, &token[at..end]);

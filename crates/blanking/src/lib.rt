@@ -11,7 +11,7 @@ ghost use Rattle.blanking.specs.Wiped.{headed, wiped, Marks, Room};
 
 use coverage::{clear, mark_kind};
 use message::walk::first;
-use message::{Kind, field};
+use message::{Kind, Shape, field};
 use octets::le_u32;
 use token::{Refused, read_token};
 
@@ -25,21 +25,22 @@ fn lies(at: usize, from: usize, end: usize) -> bool
 }
 
 // Whether a place of a header lies in a pad.
+#[tactic(auto, using(crate::proofs::Wipes::pads))]
 fn in_pad(kind: Kind, at: usize) -> bool
     ensures { result ≡ lies_in_pad (pads_of (shape_of kind.0)) at }
 {
-    if kind.0 <= Kind::ACCEPTOR_NEGO {
-        return lies(at, field::SCHEMES_PAD, field::EXTENSIONS)
-            || lies(at, field::EXTENSIONS_PAD, Kind::NEGO_HEADER_LEN);
+    match kind.shape() {
+        Shape::Nego => {
+            lies(at, field::SCHEMES_PAD, field::EXTENSIONS)
+                || lies(at, field::EXTENSIONS_PAD, Kind::NEGO_HEADER_LEN)
+        }
+        Shape::Exchange => false,
+        Shape::Verify => lies(at, field::VERIFY_PAD, Kind::VERIFY_HEADER_LEN),
+        Shape::Alert => {
+            lies(at, field::ALERTS_PAD, field::ALERT_PAD)
+                || lies(at, field::ALERT_PAD, Kind::ALERT_HEADER_LEN)
+        }
     }
-    if kind.0 <= Kind::AP_REQUEST {
-        return false;
-    }
-    if kind.0 == Kind::VERIFY {
-        return lies(at, field::VERIFY_PAD, Kind::VERIFY_HEADER_LEN);
-    }
-    lies(at, field::ALERTS_PAD, field::ALERT_PAD)
-        || lies(at, field::ALERT_PAD, Kind::ALERT_HEADER_LEN)
 }
 
 // Whether a place is covered: it lies in the header and in no pad, or before the farthest end of the vectors that start at it or before it.
@@ -89,6 +90,7 @@ fn blank_messages(map: &mut [u32], token: &mut [u8])
     ensures { token.new ≡ blanked token.old }
 {
     let mut at: usize = 0;
+    // no index is counted here: where the next message begins, each header says
     while at < token.len() {
         let end = at + first(&token[at..]).len();
         let kind = mark_message(map, &token[at..end]);

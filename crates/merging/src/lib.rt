@@ -42,6 +42,7 @@ fn cut_messages(file: &[u8]) -> Cut
     let mut rest = file;
     let mut place = TokenPlace(0);
     let mut messages: u32 = 0;
+    // no index is counted here: where the next message begins, each header says
     while !rest.is_empty() {
         let reading = read_header(rest);
         let Ok(h) = reading else {
@@ -82,6 +83,7 @@ fn run_at(rest: &[u8], first: u32) -> Run
     let mut left = rest;
     let mut octets: usize = 0;
     let mut messages: u32 = 0;
+    // no index is counted here: where the next message begins, each header says
     while !left.is_empty() {
         let Ok(h) = read_header(left) else {
             return Run { octets, messages };

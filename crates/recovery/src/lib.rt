@@ -81,6 +81,7 @@ fn show_pieces(p: Progress, d: &mut [u8], file: &[u8]) -> Scan
         end: TokenPlace(0),
         taken: 0,
     };
+    // no range: a step is a message, or one octet where there is none
     while scan.place.0 < file.len() {
         let at = scan.place.0;
         scan = advance(scan, d, &file[at..]);

@@ -65,6 +65,7 @@ fn show_turns(
         (summary (rest_of marks ifile.now afile.now s d.old)) }
 {
     let mut replay = s;
+    // no range: how many turns there are shows as they are played
     while replay.end.is_none() {
         let next = play_turn(replay, marks, ifile, afile, d);
         show_turn(replay, next, ifile, afile, text);

@@ -208,6 +208,7 @@ fn play_all(s: Replay, marks: Marks, ifile: &[u8], afile: &[u8], d: &mut [u8]) -
         (summary (rest_of marks ifile.now afile.now s d.old)) }
 {
     let mut replay = s;
+    // no range: how many turns there are shows as they are played
     while replay.end.is_none() {
         replay = play_turn(replay, marks, ifile, afile, d);
     }

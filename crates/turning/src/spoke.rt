@@ -106,6 +106,7 @@ pub fn speak(w: Record, marks: u16, t: &[u8]) -> Record
 {
     let mut spoken = begin(w, marks);
     let mut rest = t;
+    // no index is counted here: where the next message begins, each header says
     while !rest.is_empty() {
         let Ok(h) = read_header(rest) else {
             return spoken;
