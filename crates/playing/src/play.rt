@@ -3,7 +3,7 @@ ghost use Rattle.console.specs.Console.{Holds};
 
 use super::end::{End, Ends, moved, used};
 use commands::make;
-use console::{STDOUT, load};
+use console::{STDOUT, with_file};
 use fields::part;
 use negotiating::opening::open;
 use reports::report;
@@ -104,27 +104,19 @@ fn play(script: &[u8]) {
     play_lines(script, &mut both, &mut lent);
 }
 
-// Plays the first n octets of a buffer; a script that fills it is too long.
-fn play_front(buf: &[u8], n: usize) {
-    if n == buf.len() {
+// Plays a script that was read into so much room; one that fills it is too long.
+fn play_front(script: &[u8], room: usize) {
+    if script.len() == room {
         io::write_all(STDOUT, b"refused 1 at=0\n");
         return;
     }
-    play(part(buf, 0, n));
+    play(script);
 }
 
 // Plays the script in the file with a name, by way of a buffer that the caller lends, and writes what its calls answer to standard output.
 pub fn play_file<R: Files>(rt: &R, name: &[u8], buf: &mut [u8]) -> Option<usize>
     ensures { Holds result buf.new }
 {
-    let loaded = load(rt, name, buf);
-    match loaded {
-        Some(n) => {
-            play_front(buf, n);
-        }
-        None => {
-            io::write_all(STDOUT, b"no file\n");
-        }
-    }
-    loaded
+    let room = buf.len();
+    with_file(rt, STDOUT, name, buf, |script| play_front(script, room))
 }
