@@ -9,7 +9,7 @@ ghost use Rattle.coverage.specs.Coverage.{lies_in_pad};
 ghost use Rattle.blanking.specs.Blanked.{blanked, Blanking, blanking_of};
 ghost use Rattle.blanking.specs.Wiped.{headed, wiped, Marks, Room};
 
-use coverage::{clear, mark_kind};
+use coverage::{clear, greatest, mark_kind};
 use message::walk::first;
 use message::{Kind, Shape, field};
 use octets::le_u32;
@@ -66,7 +66,7 @@ fn wipe(m: &mut [u8], map: &[u32], kind: Kind)
     let header = kind.header();
     let mut far: u32 = 0;
     for at in 0..m.len() {
-        far = far.max(map[at]);
+        far = greatest(far, map[at]);
         m[at] = octet_kept(m[at], is_covered(kind, header, far, at));
     }
 }

@@ -13,8 +13,8 @@ use Rattle.vector.specs.declared.Vector.{Vector}
 use Rattle.vector.specs.Vector.{part}
 use Rattle.message.specs.declared.Shape.{Shape as D·Shape}
 use Rattle.message.specs.declared.Shape.TheVariants as form
-use Rattle.message.specs.Layout.{Shape, shape_as, head_of, shape_of, nego, alert, values_of, elements_at, elements_of, octet_vector, scheme_vector, extension_vector, exchange_vector, checksum_vector, alert_vector, vectors_of, content_of}
-use Rattle.message.proofs.Shapes.{shape-nego, shape-exchange, shape-verify, shape-alert}
+use Rattle.message.specs.Layout.{Shape, shape_as, head_of, shape_of, header_of, nego, alert, values_of, elements_at, elements_of, octet_vector, scheme_vector, extension_vector, exchange_vector, checksum_vector, alert_vector, vectors_of, content_of}
+use Rattle.message.proofs.Shapes.{shape-nego, shape-exchange, shape-verify, shape-alert, room-nego, room-alert}
 use Rattle.coverage.specs.Coverage.{header_in, vectors_in, no_vector, vector_in}
 
 -- ---- the values of an array
@@ -98,6 +98,13 @@ module _ (m : List ℕ) (k : ℕ) (v : Vector) where
     kind-verify h x x-is e = rw (sym r-is ∙ ap shape_as h) (e ∙ ap (λ (y : Vector). get_or (y ∷ []) k no_vector) x-is)
 
 -- ---- how many
+module _ (kind : ℕ) (m : List ℕ) (h : header_of (shape_of kind) ≤ length m) where
+  pub room-extensions : kind ≤ 1 → 96 ≤ length m
+  room-extensions g = room-nego kind (length m) h g
+
+  pub room-alerts : 1 < kind → 6 < kind → 72 ≤ length m
+  room-alerts g f = room-alert kind (length m) h g (omega arith) (λ q. omega arith)
+
 module _ (m : List ℕ) (kind : ℕ) where
   abbrev Has : ℕ → Type 0
   Has n = n ≡ length (vectors_of (content_of (shape_of kind) m))

@@ -51,7 +51,7 @@ fn mark(map: &mut [u32], v: Vector)
         return;
     }
     let end = (from as u64 + v.extent()).min(map.len() as u64) as u32;
-    map[from] = map[from].max(end);
+    map[from] = greatest(map[from], end);
 }
 
 // Marks the values of the elements of an array.
@@ -124,7 +124,7 @@ fn swept(map: &[u32], start: u32) -> u32
     let mut far = start;
     let mut count = 0;
     for at in 0..map.len() {
-        far = far.max(map[at]);
+        far = greatest(far, map[at]);
         count += u32::from(at < far as usize);
     }
     count

@@ -5,7 +5,7 @@ use Rattle.blanking.proofs.wipe.Goals as goal
 pub loop-at-preserved : goal.loop-at-preserved
 loop-at-preserved c =
     let inside : c.loop-at.at < length c.loop-at.m = search rules in
-    (search rules, wipe-more _ _ _ _ _ _ c.loop-at.invariant.1 inside _ c.max-far.ensures _ c.is_covered.ensures _ c.octet_kept.ensures)
+    (search rules, wipe-more _ _ _ _ _ _ c.loop-at.invariant.1 inside _ c.greatest-far.ensures _ c.is_covered.ensures _ c.octet_kept.ensures)
 
 pub returns : goal.returns
 returns c =

@@ -8,7 +8,7 @@ loop-at-preserved c =
     record {
       few = omega (arith, bit _ _ c.from-count.ensures);
       counted =
-          sweep-more c.args.map.now _ l.far l.count (length c.args.map.now) l.at _ _ c.loop-at-test.true c.max-far.ensures c.from-count.ensures
+          sweep-more c.args.map.now _ l.far l.count (length c.args.map.now) l.at _ _ c.loop-at-test.true c.greatest-far.ensures c.from-count.ensures
           l.invariant.counted;
     }
 
