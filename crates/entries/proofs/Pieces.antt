@@ -14,7 +14,8 @@ use Rattle.table.specs.Table.{vector_place, Held}
 use Rattle.table.proofs.Numbers.{vector-short, vector-early}
 use Rattle.entries.specs.declared.Entry.{Entry}
 use Rattle.entries.specs.Entries.{fields_of, number_at, field_entry, message_entry, header_entry, vector_what, vector_number, vector_entry, ids_vector, array_vector, type_what, value_what, id_entry, type_entry, value_entry, listed, elements_in, lists_in, body_in, shaped_in, entries_in}
-use Rattle.entries.specs.Lookup.{table_entry, Holds, no_entry, count_in}
+use Rattle.entries.specs.declared.lookup.Counts.{Counts}
+use Rattle.entries.specs.Lookup.{table_entry, Holds, Counted, no_entry, count_in}
 use Rattle.entries.proofs.Bounds.{few-vectors}
 use Rattle.entries.proofs.Listed.{listed-length, listed_at, in-front, behind}
 
@@ -147,6 +148,17 @@ module _ (p : ℕ) (m : List ℕ) (kind : ℕ) (kind-is : kind ≡ le 4 m 8) whe
           (listed (header_entry p i m (shape_of kind)) (length (fields_of (shape_of kind))) 0 ++ body_in p i m (shape_of kind)) k some)
           ∙ ap (λ (shape : Shape). get_or (shaped_in p i m shape) k no_entry) own
 
+-- ---- what is counted once for all entries of a message
+module _ (m : List ℕ) where
+  pub counted : (kind fields vectors : ℕ) → kind ≡ le 4 m 8 → fields ≡ length (fields_of (shape_of kind)) → vectors ≡ length (vectors_in m)
+      → Counted (record { kind = record { 0 = kind }; fields = fields; vectors = vectors }) m
+  unfolding head_of
+  counted kind fields vectors k f v = record { kind = k; fields = f; vectors = v }
+
+  pub counted-kind : (c : Counts) → Counted c m → c.kind.0 ≡ le 4 m 8
+  unfolding head_of
+  counted-kind c h = h.kind
+
 -- ---- the words of `field_entry` and `vector_entry`
 pub field_is : (p i : ℕ) (m : List ℕ) (w k at n x q : ℕ) → x ≡ number_at n m at → q ≡ p + at
     → ◌≡◌ {A = Entry} (record { what = w; message = i; number = k; value = x; place = q; length = n }) (field_entry p i m w k at n)
@@ -224,4 +236,4 @@ pub ruleset lists = (list-id, list-few, list-rest)
 
 pub ruleset bodies = (body-vector, body-few, body-rest)
 
-pub ruleset wholes = (entry-holds, entry-message, header-few, entry-header, entry-few, entry-body)
+pub ruleset wholes = (counted-kind, entry-holds, entry-message, header-few, entry-header, entry-few, entry-body)

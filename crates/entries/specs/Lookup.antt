@@ -5,6 +5,7 @@
 --   table_entry     the entry of the field in row k of such a table
 --   Row t m k       row k is one of the table t, and its field lies in m and has two octets at the least
 --   Holds p m kind  m is a message of a kind at the place p that ends within 65,535 octets, and its vectors lie inside it
+--   Counted c m     c has the kind of the message m, and how many fields and vectors it has
 --   no_entry        what stands beyond the last entry
 --   count_in m      how many entries m has
 --   Filled d at es d' next   as many of the entries es as fit were put into d from `at` on: d' is the list afterwards, `next` the place behind them
@@ -14,6 +15,7 @@ use Rattle.coverage.specs.Coverage.{vectors_in}
 use Rattle.table.specs.Table.{Held}
 use Rattle.put.specs.Put.{Written}
 use Rattle.entries.specs.declared.Entry.{Entry}
+use Rattle.entries.specs.declared.lookup.Counts.{Counts}
 use Rattle.entries.specs.Entries.{Field, fields_of, field_entry, ids_vector, array_vector, entry_octets}
 
 abbrev pub flat : List Field → List ℕ
@@ -31,6 +33,11 @@ pub record Row (t m : List ℕ) (k : ℕ) : Type 0 where
 pub record Holds (p : ℕ) (m : List ℕ) (kind : ℕ) : Type 0 where
   pub held : Held p m
   pub is : kind ≡ (head_of m).kind
+
+pub record Counted (c : Counts) (m : List ℕ) : Type 0 where
+  pub kind : c.kind.0 ≡ (head_of m).kind
+  pub fields : c.fields ≡ length (fields_of (shape_of c.kind.0))
+  pub vectors : c.vectors ≡ length (vectors_in m)
 
 abbrev pub no_entry : Entry
 no_entry = record { what = 0; message = 0; number = 0; value = 0; place = 0; length = 0 }

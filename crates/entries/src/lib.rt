@@ -1,15 +1,15 @@
 // All that a viewer shows of a token, as entries of one size.
 #![tactic(auto)]
 
-ghost use Rattle.std.specs.Prelude.{◌≡◌, ◌+◌, ◌≤◌, ◌∷◌, [], length, drop};
+ghost use Rattle.std.specs.Prelude.{◌≡◌, ◌+◌, ◌-◌, ◌≤◌, ◌∷◌, [], length, drop};
 ghost use Rattle.token.specs.Token.{token_of};
 ghost use Rattle.token.specs.Walk.{messages_of, Accepts};
 ghost use Rattle.put.specs.Put.{Written};
 ghost use Rattle.table.specs.Table.{Held};
 ghost use Rattle.entries.specs.Entries.{entries_in, entries_of, entry_octets};
-ghost use Rattle.entries.specs.Lookup.{Filled};
+ghost use Rattle.entries.specs.Lookup.{count_in, Filled};
 
-use lookup::{entry_count, entry_of};
+use lookup::{counts_of, entry_count, entry_of, sum_of};
 use messages::Messages;
 use put::put_u32;
 use vector::TokenPlace;
@@ -56,12 +56,13 @@ fn put_message(
     requires { Held place.0 m.now × (at ≤ length d.old) }
     ensures { Filled d.old at (drop from (entries_in place.0 message m.now)) d.new result }
 {
-    let all = entry_count(m);
+    let counts = counts_of(m);
+    let all = sum_of(counts, m);
     let begin = from.min(all);
     let count = (all - begin).min((d.len() - at) / SIZE);
     let mut next = at;
     for k in 0..count {
-        next = put_entry(d, next, entry_of(place, message, m, begin + k));
+        next = put_entry(d, next, entry_of(counts, place, message, m, begin + k));
     }
     next
 }
@@ -78,6 +79,17 @@ pub fn count_entries(token: &[u8]) -> usize
     count
 }
 
+// A number of entries, less those of a message: where there is nothing to pass over, they are not counted.
+fn less_those_of(skip: usize, m: &[u8]) -> usize
+    requires { Held 0 m.now }
+    ensures { result ≡ skip - count_in m.now }
+{
+    if skip == 0 {
+        return 0;
+    }
+    skip.saturating_sub(entry_count(m))
+}
+
 // The entries of an accepted token from number `from` on, as many as there is room for, at the buffer's front.
 pub fn put_entries(d: &mut [u8], token: &[u8], from: usize) -> usize
     requires { Accepts token.now }
@@ -87,7 +99,7 @@ pub fn put_entries(d: &mut [u8], token: &[u8], from: usize) -> usize
     let mut next: usize = 0;
     for (message, (place, m)) in Messages::of(token).enumerate() {
         next = put_message(d, next, place, message as u32, m, skip);
-        skip = skip.saturating_sub(entry_count(m));
+        skip = less_those_of(skip, m);
     }
     next
 }

@@ -4,7 +4,7 @@ ghost use Rattle.message.specs.Layout.{head_of, shape_of, header_of};
 ghost use Rattle.coverage.specs.Coverage.{vectors_in, no_vector};
 ghost use Rattle.table.specs.Table.{Held};
 ghost use Rattle.entries.specs.Entries.{fields_of, number_at, field_entry, message_entry, header_entry, vector_what, vector_number, vector_entry, ids_vector, array_vector, type_what, value_what, elements_in, lists_in, body_in, entries_in};
-ghost use Rattle.entries.specs.Lookup.{table_entry, Row, Holds, no_entry, count_in};
+ghost use Rattle.entries.specs.Lookup.{table_entry, Row, Holds, Counted, no_entry, count_in};
 
 use super::{Entry, name};
 use coverage::vectors::{vector_count, vector_of};
@@ -222,24 +222,52 @@ fn list_entry(kind: Kind, place: TokenPlace, message: u32, m: &[u8], k: usize) -
     element_entry(kind, place, message, m, k - count)
 }
 
-// Entry k of those of a message's vectors, and of what follows them.
-fn body_entry(kind: Kind, place: TokenPlace, message: u32, m: &[u8], k: usize) -> Entry
-    requires { Holds place.0 m.now kind.0 × (k < length (body_in place.0 message m.now (shape_of kind.0))) }
+// Entry k of those of a message's vectors, which are `count`, and of what follows them.
+fn body_entry(
+    kind: Kind,
+    count: usize,
+    place: TokenPlace,
+    message: u32,
+    m: &[u8],
+    k: usize,
+) -> Entry
+    requires { Holds place.0 m.now kind.0 × (count ≡ length (vectors_in m.now))
+        × (k < length (body_in place.0 message m.now (shape_of kind.0))) }
     ensures { result ≡ get_or (body_in place.0 message m.now (shape_of kind.0)) k no_entry }
 {
-    let count = vector_count(m);
     if k < count {
         return vector_entry(kind, place, message, m, k);
     }
     list_entry(kind, place, message, m, k - count)
 }
 
-// Entry k of a message.
-pub(crate) fn entry_of(place: TokenPlace, message: u32, m: &[u8], k: usize) -> Entry
-    requires { Held place.0 m.now × (k < length (entries_in place.0 message m.now)) }
-    ensures { result ≡ get_or (entries_in place.0 message m.now) k no_entry }
+// What each entry of a message is found by: its kind, and how many fields and vectors it has.
+#[derive(Clone, Copy)]
+pub struct Counts {
+    pub kind: Kind,
+    pub fields: usize,
+    pub vectors: usize,
+}
+
+// Those of a message: they are counted once, and not for each of its entries.
+pub(crate) fn counts_of(m: &[u8]) -> Counts
+    requires { Held 0 m.now }
+    ensures { Counted result m.now }
 {
     let kind = Kind(le_u32(m, field::TYPE));
+    Counts {
+        kind,
+        fields: field_count(kind),
+        vectors: vector_count(m),
+    }
+}
+
+// Entry k of a message.
+pub(crate) fn entry_of(counts: Counts, place: TokenPlace, message: u32, m: &[u8], k: usize) -> Entry
+    requires { Held place.0 m.now × (k < length (entries_in place.0 message m.now)) × Counted counts m.now }
+    ensures { result ≡ get_or (entries_in place.0 message m.now) k no_entry }
+{
+    let kind = counts.kind;
     if k == 0 {
         return Entry {
             what: name::MESSAGE,
@@ -250,11 +278,21 @@ pub(crate) fn entry_of(place: TokenPlace, message: u32, m: &[u8], k: usize) -> E
             length: m.len() as u32,
         };
     }
-    let count = field_count(kind);
+    let count = counts.fields;
     if k - 1 < count {
         return header_entry(kind, place, message, m, k - 1);
     }
-    body_entry(kind, place, message, m, k - 1 - count)
+    body_entry(kind, counts.vectors, place, message, m, k - 1 - count)
+}
+
+// How many entries a message has, once its fields and vectors are counted.
+pub(crate) fn sum_of(counts: Counts, m: &[u8]) -> usize
+    requires { Held 0 m.now × Counted counts m.now }
+    ensures { result ≡ count_in m.now }
+{
+    let ids = ids_vector(counts.kind, m);
+    let array = array_vector(counts.kind, m);
+    1 + counts.fields + counts.vectors + ids.count as usize + 2 * array.count as usize
 }
 
 // How many entries a message has.
@@ -262,8 +300,5 @@ pub(crate) fn entry_count(m: &[u8]) -> usize
     requires { Held 0 m.now }
     ensures { result ≡ count_in m.now }
 {
-    let kind = Kind(le_u32(m, field::TYPE));
-    let ids = ids_vector(kind, m);
-    let array = array_vector(kind, m);
-    1 + field_count(kind) + vector_count(m) + ids.count as usize + 2 * array.count as usize
+    sum_of(counts_of(m), m)
 }

@@ -19,14 +19,14 @@ pub put_message-next-requires : goal.put_message-next-requires
 put_message-next-requires c =
     let p = c.in-Some.ensures.steps.0 in (rw p.stands (search (shows, some_left, p)), search (shows, some_left, p))
 
-pub entry_count-requires : goal.entry_count-requires
-entry_count-requires c = let p = c.in-Some.ensures.steps.0 in search (shows, some_left, p)
+pub less_those_of-skip-requires : goal.less_those_of-skip-requires
+less_those_of-skip-requires c = let p = c.in-Some.ensures.steps.0 in search (shows, some_left, p)
 
 pub loop-message-preserved : goal.loop-message-preserved
 loop-message-preserved c =
     let p = c.in-Some.ensures.steps.0 in
     let w : Shown (entries_of (messages_of (token_of c.args.token.now))) c.args.d.now c.args.from (enumerate_source c.next.new.self).rest.now
-    (enumerate_source c.next.new.self).place.0 (enumerate_count c.next.new.self) c.saturating_sub-skip.result c.put_message-next.new.d
+    (enumerate_source c.next.new.self).place.0 (enumerate_count c.next.new.self) c.less_those_of-skip.result c.put_message-next.new.d
     c.put_message-next.result =
     search (rules, shows, some_left, p) in
     ((tt, tt, inl (search shown-count)), tt, search rules, w)

@@ -4,8 +4,11 @@ use mathlib.Core.Path.{refl}
 use Rattle.entries.proofs.Walked.{parts, part-next}
 use Rattle.entries.proofs.put_message.Goals as goal
 
-pub entry_count-all-requires : goal.entry_count-all-requires
-entry_count-all-requires c = search held-zero
+pub counts_of-counts-requires : goal.counts_of-counts-requires
+counts_of-counts-requires c = search held-zero
+
+pub sum_of-all-requires : goal.sum_of-all-requires
+sum_of-all-requires c = (search held-zero, search rules)
 
 pub loop-k-init : goal.loop-k-init
 loop-k-init c = (search rules, search rules, search rules, search rules, refl, search parts)
@@ -14,7 +17,7 @@ pub overflow_add-begin : goal.overflow_add-begin
 overflow_add-begin c = search (rules, parts)
 
 pub entry_of-requires : goal.entry_of-requires
-entry_of-requires c = (search rules, search parts)
+entry_of-requires c = (search rules, search parts, search rules)
 
 pub put_entry-next-requires : goal.put_entry-next-requires
 put_entry-next-requires c = search parts
