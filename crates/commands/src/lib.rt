@@ -38,7 +38,7 @@ fn random_and_values(octets: &[u8]) -> ([u8; 32], &[u8])
     }
 }
 
-// Makes the call of a command with its octets, at an end with the record r. `read` with nothing behind it is no call, and not of this stage: 18.
+// Makes the call of a command with its octets, at an end with the record r. `read` with nothing behind it is no call, nor is another number: 18.
 #[tactic(auto, unfolding(crate::specs::Commands::call_of, crate::specs::Commands::chooser_of, crate::specs::Commands::writer_of, crate::specs::Commands::nego_of))]
 pub fn make(c: Command, r: Record, transcript: &mut [u8], octets: &[u8]) -> Answer
     ensures { leaving result transcript.new ≡ call_of c r transcript.old octets.now }
@@ -66,6 +66,6 @@ pub fn make(c: Command, r: Record, transcript: &mut [u8], octets: &[u8]) -> Answ
         Verb::ChooseExchange => choose_exchange(r, transcript, marks, octets),
         Verb::ChooseVerify => choose_verify(r, transcript, marks, number, octets),
         Verb::ChooseAlert => choose_alert(r, transcript, marks, number, c.elements, octets),
-        Verb::Turn => answer(18, TokenPlace(0), r),
+        Verb::Turn | Verb::Other => answer(18, TokenPlace(0), r),
     }
 }

@@ -43,6 +43,7 @@ opens call.Open = refl
 opens call.ChooseExchange = refl
 opens call.ChooseVerify = refl
 opens call.ChooseAlert = refl
+opens call.Other = refl
 
 pub reads : (v : Verb) → sameb the_type v call.Read ≡ eqb (number_of_verb v) 7
 reads call.Offer = refl
@@ -57,6 +58,7 @@ reads call.Open = refl
 reads call.ChooseExchange = refl
 reads call.ChooseVerify = refl
 reads call.ChooseAlert = refl
+reads call.Other = refl
 
 module _ (c : Command) (a : Answer) (message : List ℕ) (t u : Text) where
   pub report-refused : (a.refusal ≡ 0 → ⊥) → u ≡ written (numbers_line (quoted "refused ") a.refusal (quoted " at=") a.place.0) t

@@ -205,6 +205,7 @@ verb-some call.Open = refl
 verb-some call.ChooseExchange = refl
 verb-some call.ChooseVerify = refl
 verb-some call.ChooseAlert = refl
+verb-some call.Other = refl
 
 called-some : (v : Verb) (a : Bool) (marks : ℕ) (fs : List (List ℕ)) (room : ℕ)
     → called (number_of_verb v) (number_of_end (Some a)) marks fs room ≡ from_number (number_of_verb v) a marks fs room
@@ -259,6 +260,7 @@ not-eight call.Open = refl
 not-eight call.ChooseExchange = refl
 not-eight call.ChooseVerify = refl
 not-eight call.ChooseAlert = refl
+not-eight call.Other = refl
 
 -- the line of two fields and those behind them, of which the second may be missing
 abbrev by_verb : ℕ → ℕ → List (List ℕ) → ℕ → Line

@@ -6,7 +6,7 @@
 --   first, others      the first of some fields, and those behind it; only: the one where there is one alone. No call has an empty field, so that one
 --                      stands for none.
 --   BAD                the verb of a bad line; OFFER, REPLY, METADATA, EXCHANGE, VERIFY, ALERT, READ and OPEN: those of the calls; TURN: `read` with
---                      nothing behind it; CHOOSE: the word `choose`; CHOOSE-EXCHANGE, CHOOSE-VERIFY and CHOOSE-ALERT: the calls that it begins
+--                      nothing behind it; CHOOSE: the word `choose`; CHOOSE-EXCHANGE, CHOOSE-VERIFY and CHOOSE-ALERT: the calls that it begins; OTHER: none
 --   NONE               no field behind a verb; ROOM, MARKS, CODE, ID, CONVERSATION, OCTETS and IDS: the fields that there are; TYPE is read as CODE;
 --                      EXTENSIONS: RANDOM and the EXT behind it; ALERTS: the ALERT ..
 --   number_of_verb     the verb of a call of src/; verb_named: of one that a word may name, BAD where it is none; number_of_end: the place of an end among
@@ -114,6 +114,9 @@ CHOOSE-VERIFY = 12
 abbrev pub CHOOSE-ALERT : ℕ
 CHOOSE-ALERT = 13
 
+abbrev pub OTHER : ℕ
+OTHER = 14
+
 abbrev pub number_of_verb : Verb → ℕ
 number_of_verb call.Offer = OFFER
 number_of_verb call.Reply = REPLY
@@ -127,6 +130,7 @@ number_of_verb call.Open = OPEN
 number_of_verb call.ChooseExchange = CHOOSE-EXCHANGE
 number_of_verb call.ChooseVerify = CHOOSE-VERIFY
 number_of_verb call.ChooseAlert = CHOOSE-ALERT
+number_of_verb call.Other = OTHER
 
 abbrev pub verb_named : Option Verb → ℕ
 verb_named (Some v) = number_of_verb v

@@ -31,6 +31,8 @@ pub enum Verb {
     ChooseExchange,
     ChooseVerify,
     ChooseAlert,
+    // none of the calls, as each number but theirs was: no line of a script gives it
+    Other,
 }
 
 // The fields behind a verb.
@@ -96,7 +98,7 @@ impl Verb {
                 (Some(Kind::Code), None, Rest::Plain(Some(Kind::Octets)))
             }
             Verb::Alert | Verb::ChooseAlert => (Some(Kind::Code), None, Rest::Alerts),
-            Verb::Turn => (None, None, Rest::Plain(None)),
+            Verb::Turn | Verb::Other => (None, None, Rest::Plain(None)),
             Verb::Open => (
                 Some(Kind::Room),
                 Some(Kind::Conversation),

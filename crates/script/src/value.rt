@@ -15,12 +15,11 @@ use put::put_octets;
 pub fn number_in(line: &[u8], from: usize, kind: Option<Kind>) -> Option<u32>
     ensures { number_of result ≡ number_in (kind_of kind) (fields_from line.now from) }
 {
-    let text = field(line, from);
     match kind {
         None => Some(0),
-        Some(Kind::Room) => room(text),
-        Some(Kind::Marks) => hexadecimal(text, 4, 65535),
-        _ => hexadecimal(text, 8, 4294967295),
+        Some(Kind::Room) => room(field(line, from)),
+        Some(Kind::Marks) => hexadecimal(field(line, from), 4, 65535),
+        _ => hexadecimal(field(line, from), 8, 4294967295),
     }
 }
 
