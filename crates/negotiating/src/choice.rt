@@ -25,7 +25,7 @@ fn counts_for(early: bool, place: usize, requested: usize) -> bool
 }
 
 // 18, 19, 25, 17 and 18 for a choice with a message of a class, whose content keeps its limits or doesn't.
-fn check_choice(r: Record, class: u8, marks: u16, fit: bool) -> Result<(), Refusal>
+pub fn check_choice(r: Record, class: u8, marks: u16, fit: bool) -> Result<(), Refusal>
     ensures { refusal_number result ≡ call_refusal r (choice_rows r marks fit class) }
 {
     check_limits(r)?;
@@ -51,7 +51,7 @@ fn check_choice(r: Record, class: u8, marks: u16, fit: bool) -> Result<(), Refus
 }
 
 // The record after the choice: the first kept place that is not marked. The message is written in it.
-fn chosen_record(r: Record, marks: u16) -> Record
+pub fn chosen_record(r: Record, marks: u16) -> Record
     requires { ChoiceReady r marks }
     ensures { result ≡ chose r marks }
 {
@@ -69,7 +69,7 @@ fn chosen_record(r: Record, marks: u16) -> Record
 }
 
 // The answer after the message: it names the choice and how many were left. Where the message was refused, nothing is chosen.
-fn name_choice(r: Record, marks: u16, a: Answer) -> Answer
+pub fn name_choice(r: Record, marks: u16, a: Answer) -> Answer
     requires { ChoiceReady r marks }
     ensures { result ≡ named_choice r marks a }
 {
