@@ -1,6 +1,8 @@
-use Rattle.std.proofs.Common.{◌∙◌}
-use Rattle.octets.proofs.Le.{from_le}
+use Rattle.std.proofs.Common.{◌∙◌, arith}
+use native.Mathlib.Nat.{add-zero}
+use Rattle.octets.specs.Octets.{le}
 use Rattle.octets.proofs.le_u64.Goals as goal
 
 pub returns : goal.returns
-returns c = rw c.octets_at.ensures at c.from_le_bytes.ensures ∙ from_le 7 c.args.s.now c.args.at
+unfolding le
+returns c = c.from_le_bytes.ensures ∙ simp add-zero (omega arith)
