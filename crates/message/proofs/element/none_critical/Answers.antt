@@ -1,9 +1,9 @@
 use Rattle.message.proofs.Elements.{elements}
+use Rattle.message.proofs.element.none_critical.Goals.{else-loop-i-test, then-loop-i-test+then-is_negative}
 use Rattle.message.proofs.element.none_critical.Goals as goal
-use Rattle.message.proofs.element.none_critical.Goals.{then-is_negative, else-is_negative}
 
 pub loop-i-preserved : goal.loop-i-preserved
-loop-i-preserved c = elim c.if-is_negative.branch [ then-is_negative w ↦ search elements | else-is_negative w ↦ search elements ]
+loop-i-preserved c = search elements
 
 pub returns : goal.returns
-returns c = search elements
+returns c = elim c.loop-i-test.branch [ else-loop-i-test w ↦ search elements | then-loop-i-test+then-is_negative w ↦ search elements ]
