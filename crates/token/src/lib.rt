@@ -98,11 +98,13 @@ pub fn read_token(token: &[u8]) -> Result<u32, Refused>
         });
     }
     let first = le_u32(token, field::SEQUENCE) as u64;
-    read_messages(
+    // each answer is made where it is returned: passed on whole, the padding behind its refusal would go through memory
+    let count = read_messages(
         token,
         first,
         &token[field::CONVERSATION..field::COMMON_HEADER],
-    )
+    )?;
+    Ok(count)
 }
 
 // Whether the token is accepted and has a message with the index k.
